@@ -1,0 +1,68 @@
+-- MCTP's packet (DSP0236, section 8.1): four bytes of head, and a body of 1 to 64 bytes.
+use Rattle.std.specs.Prelude.{◌≡◌, ◌≢◌, ℕ, ◌+◌, ◌*◌, ◌/◌, ◌%◌, ◌<◌, ◌≤◌, ◌==◌, Bool, true, false, not, nat_lt, if◌then◌else◌, List, ◌∷◌, length, slice_index, Result, Ok, Err}
+use Rattle.mctp_wire.specs.declared.layout.Head.{Head}
+use Rattle.mctp_wire.specs.declared.fault.WireFault.{WireFault}
+use Rattle.mctp_wire.specs.declared.fault.WireFault.TheVariants.{Short, Version, Empty, TooLong}
+
+-- a truth value as a bit
+abbrev pub bit : Bool → ℕ
+bit true = 1
+bit false = 0
+
+-- the fourth byte of a head, from its high bits down: SOM, EOM, the sequence number, TO and the tag
+abbrev pub flags_of : Head → ℕ
+flags_of h = 128 * bit h.som + 64 * bit h.eom + 16 * h.seq + 8 * bit h.to + h.tag
+
+-- what a head's small fields may hold: two bits of sequence number and three of tag
+abbrev pub IsHead : Head → Type 0
+IsHead h = (h.seq < 4) × (h.tag < 8)
+
+-- The bytes are a packet with this head and this body. The low bits of the first byte are the header
+-- version, 1; its high bits are reserved and may hold anything.
+abbrev pub IsPacket : List ℕ → Head → List ℕ → Type 0
+IsPacket (version ∷ dest ∷ source ∷ flags ∷ rest) h body =
+    (version % 16 ≡ 1) × (dest ≡ h.dest) × (source ≡ h.source) × (flags ≡ flags_of h) × IsHead h
+    × (rest ≡ body) × (1 ≤ length body) × (length body ≤ 64)
+IsPacket _ h body = ⊥
+
+-- the head that the second to fourth byte spell
+abbrev pub head_of : ℕ → ℕ → ℕ → Head
+head_of dest source flags =
+    record {
+      dest = dest;
+      source = source;
+      som = flags / 128 % 2 == 1;
+      eom = flags / 64 % 2 == 1;
+      seq = flags / 16 % 4;
+      to = flags / 8 % 2 == 1;
+      tag = flags % 8;
+    }
+
+-- what reading gives: the head and the body of a packet, or the first fault
+abbrev pub packet_of : List ℕ → Result (Head × List ℕ) WireFault
+packet_of (version ∷ dest ∷ source ∷ flags ∷ body) =
+    if not (version % 16 == 1) then Err Version
+    else if length body == 0 then Err Empty
+    else if nat_lt 64 (length body) then Err TooLong
+    else Ok (head_of dest source flags, body)
+packet_of _ = Err Short
+
+-- the first fault of bytes that are no packet: none before it holds, and it does
+abbrev pub IsFirstFault : List ℕ → WireFault → Type 0
+IsFirstFault bytes Short = length bytes < 4
+IsFirstFault bytes Version = (4 ≤ length bytes) × (slice_index bytes 0 % 16 ≢ 1)
+IsFirstFault bytes Empty = (length bytes ≡ 4) × (slice_index bytes 0 % 16 ≡ 1)
+IsFirstFault bytes TooLong = (68 < length bytes) × (slice_index bytes 0 % 16 ≡ 1)
+
+-- the written spelling of a packet: reserved bits are 0
+abbrev pub packet_bytes : Head → List ℕ → List ℕ
+packet_bytes h body = 1 ∷ h.dest ∷ h.source ∷ flags_of h ∷ body
+
+-- what is written is a packet with that head and that body
+abbrev pub WritesPackets : Type 0
+WritesPackets = (h : Head) (body : List ℕ) → IsHead h → 1 ≤ length body → length body ≤ 64
+    → IsPacket (packet_bytes h body) h body
+
+-- bytes are a packet with one head and one body at most, and those are what is read
+abbrev pub ReadsPackets : Type 0
+ReadsPackets = (bytes : List ℕ) (h : Head) (body : List ℕ) → IsPacket bytes h body → packet_of bytes ≡ Ok (h, body)

@@ -1,0 +1,197 @@
+//! One packet, read and written.
+
+ghost use Rattle.std.specs.Prelude.{◌≡◌, ◌<◌, ◌≤◌, length, IfOk, IfErr, ℕ, List, IsOk};
+ghost use Rattle.std.specs.Result.{result_map_both};
+ghost use Rattle.mctp_wire.specs.declared.layout.Head.{Head};
+ghost use Rattle.mctp_wire.specs.Packet.{IsPacket, IsHead, IsFirstFault, flags_of, packet_of, packet_bytes};
+
+use crate::fault::WireFault;
+use crate::layout::{BASELINE_UNIT, Head, Packet, RawPacket};
+
+/// The version of MCTP's header that this is.
+const HEADER_VERSION: u8 = 1;
+
+/// The low bits of the first byte, which hold the version. The others are reserved.
+const VERSION_MASK: u8 = 0x0F;
+
+/// The place of the start of message bit in the fourth byte.
+const SOM_BIT: u32 = 7;
+
+/// The place of the end of message bit in the fourth byte.
+const EOM_BIT: u32 = 6;
+
+/// The place of the two bits of sequence number in the fourth byte.
+const SEQ_SHIFT: u32 = 4;
+
+/// The two bits of a sequence number.
+const SEQ_MASK: u8 = 3;
+
+/// The place of the tag owner bit in the fourth byte.
+const TO_BIT: u32 = 3;
+
+/// The three bits of a tag, the fourth byte's lowest.
+const TAG_MASK: u8 = 7;
+
+/// Reads a packet (DSP0236, section 8.1). Reserved bits may hold anything.
+///
+/// # Errors
+/// Bytes that are no packet are refused by the first fault that holds.
+pub fn decode(bytes: &[u8]) -> Result<Packet<'_>, WireFault>
+    ensures found { IfOk result (λ p. IsPacket bytes.now p.head p.body.now) }
+    ensures only { (h : Head) (body : List ℕ) → IsPacket bytes.now h body → IsOk result }
+    ensures value { result_map_both (λ p. (p.head, p.body.now)) (λ e. e) result ≡ packet_of bytes.now }
+    ensures fault { IfErr result (λ e. IsFirstFault bytes.now e) }
+{
+    let [version, dest, source, flags, body @ ..] = bytes else {
+        return Err(WireFault::Short);
+    };
+    if version & VERSION_MASK != HEADER_VERSION {
+        return Err(WireFault::Version);
+    }
+    if body.is_empty() {
+        return Err(WireFault::Empty);
+    }
+    if body.len() > BASELINE_UNIT {
+        return Err(WireFault::TooLong);
+    }
+    let head = Head {
+        dest: *dest,
+        source: *source,
+        som: flags >> SOM_BIT & 1 == 1,
+        eom: flags >> EOM_BIT & 1 == 1,
+        seq: flags >> SEQ_SHIFT & SEQ_MASK,
+        to: flags >> TO_BIT & 1 == 1,
+        tag: flags & TAG_MASK,
+    };
+    Ok(Packet { head, body })
+}
+
+/// The fourth byte of a head.
+fn flags_byte(head: &Head) -> u8
+    requires { IsHead head.now }
+    ensures { result ≡ flags_of head.now }
+{
+    (u8::from(head.som) << SOM_BIT)
+        + (u8::from(head.eom) << EOM_BIT)
+        + (head.seq << SEQ_SHIFT)
+        + (u8::from(head.to) << TO_BIT)
+        + head.tag
+}
+
+/// Writes a packet in place of what `out` holds, with its reserved bits 0 (DSP0236, section 8.1).
+pub fn encode(head: &Head, body: &[u8], out: &mut RawPacket)
+    requires body { (1 ≤ length body.now) × (length body.now ≤ 64) }
+    requires head { IsHead head.now }
+    ensures { out.new.items ≡ packet_bytes head.now body.now }
+{
+    out.clear();
+    out.push(HEADER_VERSION);
+    out.push(head.dest);
+    out.push(head.source);
+    out.push(flags_byte(head));
+    let _ = out.try_extend_from_slice(body);
+}
+
+#[cfg(test)]
+mod tests {
+    use super::*;
+    use std::test::Fail;
+
+    /// A request from endpoint 8 to endpoint 9: the control message Get Endpoint ID under tag 0.
+    const REQUEST: [u8; 7] = [0x01, 0x09, 0x08, 0xC8, 0x00, 0x80, 0x02];
+
+    /// The head of that request.
+    const REQUEST_HEAD: Head = Head {
+        dest: 9,
+        source: 8,
+        som: true,
+        eom: true,
+        seq: 0,
+        to: true,
+        tag: 0,
+    };
+
+    /// A head in the middle of an answer: sequence number 2, tag 5.
+    const MIDDLE_HEAD: Head = Head {
+        dest: 8,
+        source: 9,
+        som: false,
+        eom: false,
+        seq: 2,
+        to: false,
+        tag: 5,
+    };
+
+    #[test]
+    fn reads_heads_and_bodies(rt: HostRuntime) -> Result<(), Fail> {
+        let reserved_set = [0xF1, 0x09, 0x08, 0xC8, 0x00, 0x80, 0x02];
+        let middle = [0x01, 0x08, 0x09, 0x25, 0xAA];
+        let longest = [0x01u8; 68];
+        let table: [(&str, &[u8], Head, usize); 4] = [
+            ("a request", &REQUEST, REQUEST_HEAD, 3),
+            ("reserved bits set", &reserved_set, REQUEST_HEAD, 3),
+            ("the middle of an answer", &middle, MIDDLE_HEAD, 1),
+            (
+                "the longest body",
+                &longest,
+                Head {
+                    dest: 1,
+                    source: 1,
+                    tag: 1,
+                    som: false,
+                    eom: false,
+                    seq: 0,
+                    to: false,
+                },
+                64,
+            ),
+        ];
+        for (situation, bytes, head, size) in table {
+            let packet = decode(bytes)?;
+            assert_eq!(rt; packet.head, head, "{situation}");
+            assert_eq!(rt; packet.body.len(), size, "{situation}");
+            assert!(rt; bytes.ends_with(packet.body), "{situation}");
+        }
+        Ok(())
+    }
+
+    #[test]
+    fn names_the_first_fault(rt: HostRuntime) {
+        let too_long = [0x01u8; 69];
+        let other_version = [0x02u8; 69];
+        let table: [(&str, &[u8], WireFault); 7] = [
+            ("no bytes", &[], WireFault::Short),
+            (
+                "three bytes of another version",
+                &[0x02, 9, 8],
+                WireFault::Short,
+            ),
+            ("version 2", &[0x02, 9, 8, 0xC8, 0], WireFault::Version),
+            (
+                "version 2 and no body",
+                &[0x02, 9, 8, 0xC8],
+                WireFault::Version,
+            ),
+            ("version 2 and too long", &other_version, WireFault::Version),
+            ("a head alone", &[0xF1, 9, 8, 0xC8], WireFault::Empty),
+            ("65 bytes of body", &too_long, WireFault::TooLong),
+        ];
+        for (situation, bytes, fault) in table {
+            match decode(bytes) {
+                Ok(_) => assert!(rt; false, "{situation}"),
+                Err(e) => assert_eq!(rt; e, fault, "{situation}"),
+            }
+        }
+    }
+
+    #[test]
+    fn writes_in_place_of_what_was_there(rt: HostRuntime) {
+        let mut out = RawPacket::new();
+        encode(&MIDDLE_HEAD, &[0xAA], &mut out);
+        assert_eq!(rt; out.as_slice(), [0x01, 0x08, 0x09, 0x25, 0xAA].as_slice());
+        encode(&REQUEST_HEAD, &[0x00, 0x80, 0x02], &mut out);
+        assert_eq!(rt; out.as_slice(), REQUEST.as_slice());
+        encode(&REQUEST_HEAD, &[0x01; 64], &mut out);
+        assert_eq!(rt; out.len(), 68);
+    }
+}

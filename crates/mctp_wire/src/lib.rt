@@ -1,0 +1,12 @@
+//! Packets of MCTP (DSP0236): a head of four bytes and a body of 1 to 64 bytes, read and written exactly.
+#![tactic(auto)]
+
+mod codec;
+mod fault;
+mod laws;
+mod layout;
+
+pub use codec::{decode, encode};
+pub use fault::WireFault;
+pub use laws::reads_back;
+pub use layout::{BASELINE_UNIT, Head, Packet, RawPacket};
