@@ -1,0 +1,291 @@
+//! What an endpoint answers to a control message.
+
+ghost use Rattle.std.specs.Prelude.{◌≡◌, ◌≤◌, ◌++◌, length};
+ghost use Rattle.std.specs.Option.{option_map};
+ghost use Rattle.mctp_ctl.specs.Control.{answer_of, completion_of, set_endpoint_id, get_endpoint_id, get_endpoint_uuid, get_mctp_version_support, get_message_type_support};
+
+use crate::codes::{
+    CONTROL, ControlCommand, ERROR_INVALID_DATA, ERROR_INVALID_LENGTH, ERROR_UNSUPPORTED_CMD,
+    MESSAGE_TYPE_NOT_SUPPORTED, SUCCESS,
+};
+use arrayvec::ArrayVec;
+use uuid::Uuid;
+
+/// Who answers.
+#[derive(Clone, Copy, Debug, PartialEq, Eq)]
+pub struct Endpoint {
+    /// Its endpoint identifier, 8 to 254.
+    pub eid: u8,
+    /// Its UUID, which Get Endpoint UUID tells.
+    pub uuid: Uuid,
+}
+
+/// The bytes of a control message that answers another, from its type byte on.
+pub type ControlAnswer = ArrayVec<u8, 32>;
+
+/// The Rq and D bits of a message's second byte where it is a request and no datagram.
+const REQUEST: u8 = 0b10;
+
+/// The place of the Rq and D bits in a message's second byte.
+const REQUEST_SHIFT: u32 = 6;
+
+/// The instance identifier in a message's second byte.
+const INSTANCE_MASK: u8 = 0x1F;
+
+/// The operation of Set Endpoint ID, in the low two bits of its first byte.
+const OPERATION_MASK: u8 = 0b11;
+
+/// Set Endpoint ID's operations up to this one set the identifier: 0 sets it and 1 forces it.
+const FORCE_EID: u8 = 1;
+
+/// The endpoint identifier that is none.
+const NULL_EID: u8 = 0x00;
+
+/// The endpoint identifier of every endpoint.
+const BROADCAST_EID: u8 = 0xFF;
+
+/// Set Endpoint ID's status where the endpoint took the identifier; it has no pool of identifiers.
+const EID_ACCEPTED: u8 = 0x00;
+
+/// Set Endpoint ID's status where the endpoint kept the identifier that it has.
+const EID_REJECTED: u8 = 0x10;
+
+/// The size of the pool of identifiers that an endpoint without a bridge has.
+const NO_POOL: u8 = 0;
+
+/// Get Endpoint ID's type: a simple endpoint whose identifier is fixed.
+const STATIC_EID: u8 = 0x01;
+
+/// Get Endpoint ID's byte of its medium: it tells nothing.
+const NO_MEDIUM: u8 = 0x00;
+
+/// The message type that asks for the version of MCTP itself.
+const MCTP_BASE: u8 = 0xFF;
+
+/// The message type of PLDM, the one that an endpoint supports beside control messages.
+const PLDM: u8 = 0x01;
+
+/// The answer to a control message (DSP0236, section 12): the message's instance identifier and command,
+/// a completion code, and where that is 0 the command's fields. There is none to a message of less than
+/// three bytes or of another type, to one with Rq clear, and to a datagram (D set).
+pub fn answer(endpoint: &Endpoint, message: &[u8]) -> Option<ControlAnswer>
+    ensures { option_map (λ v. v.items) result ≡ answer_of endpoint.now message.now }
+{
+    let [kind, flags, command, fields @ ..] = message else {
+        return None;
+    };
+    if *kind != CONTROL || flags >> REQUEST_SHIFT != REQUEST {
+        return None;
+    }
+    let mut out = ControlAnswer::new();
+    out.push(CONTROL);
+    out.push(flags & INSTANCE_MASK);
+    out.push(*command);
+    push_completion(endpoint, *command, fields, &mut out);
+    Some(out)
+}
+
+/// Appends the completion code and what follows it.
+fn push_completion(endpoint: &Endpoint, command: u8, fields: &[u8], out: &mut ControlAnswer)
+    requires { length out.old.items ≤ 3 }
+    ensures { out.new.items ≡ out.old.items ++ completion_of endpoint.now command fields.now }
+{
+    match ControlCommand::from_code(command) {
+        Some(ControlCommand::SetEndpointId) => push_set_endpoint_id(endpoint, fields, out),
+        Some(ControlCommand::GetEndpointId) => push_endpoint_id(endpoint, fields, out),
+        Some(ControlCommand::GetEndpointUuid) => push_endpoint_uuid(endpoint, fields, out),
+        Some(ControlCommand::GetMctpVersionSupport) => push_mctp_version(fields, out),
+        Some(ControlCommand::GetMessageTypeSupport) => push_message_types(fields, out),
+        None => out.push(ERROR_UNSUPPORTED_CMD),
+    }
+}
+
+/// Set Endpoint ID: an endpoint keeps the identifier that it is configured with.
+fn push_set_endpoint_id(endpoint: &Endpoint, fields: &[u8], out: &mut ControlAnswer)
+    requires { length out.old.items ≤ 3 }
+    ensures { out.new.items ≡ out.old.items ++ set_endpoint_id endpoint.now.eid fields.now }
+{
+    let [operation, eid] = fields else {
+        out.push(ERROR_INVALID_LENGTH);
+        return;
+    };
+    if operation & OPERATION_MASK > FORCE_EID || *eid == NULL_EID || *eid == BROADCAST_EID {
+        out.push(ERROR_INVALID_DATA);
+        return;
+    }
+    out.push(SUCCESS);
+    out.push(if *eid == endpoint.eid {
+        EID_ACCEPTED
+    } else {
+        EID_REJECTED
+    });
+    out.push(endpoint.eid);
+    out.push(NO_POOL);
+}
+
+/// Get Endpoint ID: the identifier, its type and its medium.
+fn push_endpoint_id(endpoint: &Endpoint, fields: &[u8], out: &mut ControlAnswer)
+    requires { length out.old.items ≤ 3 }
+    ensures { out.new.items ≡ out.old.items ++ get_endpoint_id endpoint.now.eid fields.now }
+{
+    if !fields.is_empty() {
+        out.push(ERROR_INVALID_LENGTH);
+        return;
+    }
+    out.push(SUCCESS);
+    out.push(endpoint.eid);
+    out.push(STATIC_EID);
+    out.push(NO_MEDIUM);
+}
+
+/// Get Endpoint UUID: the 16 bytes.
+fn push_endpoint_uuid(endpoint: &Endpoint, fields: &[u8], out: &mut ControlAnswer)
+    requires { length out.old.items ≤ 3 }
+    ensures { out.new.items ≡ out.old.items ++ get_endpoint_uuid endpoint.now.uuid fields.now }
+{
+    if !fields.is_empty() {
+        out.push(ERROR_INVALID_LENGTH);
+        return;
+    }
+    out.push(SUCCESS);
+    let _ = out.try_extend_from_slice(endpoint.uuid.as_bytes());
+}
+
+/// Get MCTP Version Support: one version of the base protocol, 1.3.1, and no other type's.
+fn push_mctp_version(fields: &[u8], out: &mut ControlAnswer)
+    requires { length out.old.items ≤ 3 }
+    ensures { out.new.items ≡ out.old.items ++ get_mctp_version_support fields.now }
+{
+    let [kind] = fields else {
+        out.push(ERROR_INVALID_LENGTH);
+        return;
+    };
+    if *kind != MCTP_BASE {
+        out.push(MESSAGE_TYPE_NOT_SUPPORTED);
+        return;
+    }
+    out.push(SUCCESS);
+    out.push(1);
+    let _ = out.try_extend_from_slice(&[0xF1, 0xF3, 0xF1, 0x00]);
+}
+
+/// Get Message Type Support: PLDM, beside control messages, which are never listed.
+fn push_message_types(fields: &[u8], out: &mut ControlAnswer)
+    requires { length out.old.items ≤ 3 }
+    ensures { out.new.items ≡ out.old.items ++ get_message_type_support fields.now }
+{
+    if !fields.is_empty() {
+        out.push(ERROR_INVALID_LENGTH);
+        return;
+    }
+    out.push(SUCCESS);
+    out.push(1);
+    out.push(PLDM);
+}
+
+#[cfg(test)]
+mod tests {
+    use super::*;
+
+    /// Endpoint 9, whose UUID has the bytes 1 to 16.
+    const ENDPOINT: Endpoint = Endpoint {
+        eid: 9,
+        uuid: Uuid::from_bytes([1, 2, 3, 4, 5, 6, 7, 8, 9, 10, 11, 12, 13, 14, 15, 16]),
+    };
+
+    #[test]
+    fn answers_each_command(rt: HostRuntime) {
+        let table: [(&str, &[u8], &[u8]); 20] = [
+            (
+                "set to its own",
+                &[0, 0x81, 1, 0, 9],
+                &[0, 1, 1, 0, 0x00, 9, 0],
+            ),
+            (
+                "set to another",
+                &[0, 0x81, 1, 0, 10],
+                &[0, 1, 1, 0, 0x10, 9, 0],
+            ),
+            (
+                "force another",
+                &[0, 0x80, 1, 1, 10],
+                &[0, 0, 1, 0, 0x10, 9, 0],
+            ),
+            (
+                "high bits of the operation",
+                &[0, 0x80, 1, 0xFD, 9],
+                &[0, 0, 1, 0, 0x00, 9, 0],
+            ),
+            ("operation 2", &[0, 0x80, 1, 2, 9], &[0, 0, 1, 2]),
+            ("operation 3", &[0, 0x80, 1, 3, 9], &[0, 0, 1, 2]),
+            ("set to 0", &[0, 0x80, 1, 0, 0], &[0, 0, 1, 2]),
+            ("set to 255", &[0, 0x80, 1, 0, 255], &[0, 0, 1, 2]),
+            ("set, too short", &[0, 0x80, 1, 0], &[0, 0, 1, 3]),
+            ("set, too long", &[0, 0x80, 1, 0, 9, 0], &[0, 0, 1, 3]),
+            (
+                "get the identifier",
+                &[0, 0x9F, 2],
+                &[0, 0x1F, 2, 0, 9, 1, 0],
+            ),
+            (
+                "get the identifier, too long",
+                &[0, 0x80, 2, 0],
+                &[0, 0, 2, 3],
+            ),
+            (
+                "get the UUID",
+                &[0, 0x80, 3],
+                &[
+                    0, 0, 3, 0, 1, 2, 3, 4, 5, 6, 7, 8, 9, 10, 11, 12, 13, 14, 15, 16,
+                ],
+            ),
+            ("get the UUID, too long", &[0, 0x80, 3, 0], &[0, 0, 3, 3]),
+            (
+                "version of the base",
+                &[0, 0xA0, 4, 0xFF],
+                &[0, 0, 4, 0, 1, 0xF1, 0xF3, 0xF1, 0],
+            ),
+            ("version of PLDM", &[0, 0x80, 4, 1], &[0, 0, 4, 0x80]),
+            ("version, too short", &[0, 0x80, 4], &[0, 0, 4, 3]),
+            ("version, too long", &[0, 0x80, 4, 0xFF, 0], &[0, 0, 4, 3]),
+            ("message types", &[0, 0x80, 5], &[0, 0, 5, 0, 1, 1]),
+            ("message types, too long", &[0, 0x80, 5, 0], &[0, 0, 5, 3]),
+        ];
+        for (situation, message, want) in table {
+            match answer(&ENDPOINT, message) {
+                Some(reply) => assert_eq!(rt; reply.as_slice(), want, "{situation}"),
+                None => assert!(rt; false, "{situation}"),
+            }
+        }
+    }
+
+    #[test]
+    fn refuses_unknown_commands_whatever_their_length(rt: HostRuntime) {
+        for command in [0x00, 0x06, 0x0F, 0xFF] {
+            for message in [
+                [0, 0x80, command].as_slice(),
+                [0, 0x80, command, 1, 2].as_slice(),
+            ] {
+                match answer(&ENDPOINT, message) {
+                    Some(reply) => assert_eq!(rt; reply.as_slice(), [0, 0, command, 5].as_slice()),
+                    None => assert!(rt; false, "{command}"),
+                }
+            }
+        }
+    }
+
+    #[test]
+    fn keeps_silent_where_no_answer_is_due(rt: HostRuntime) {
+        let table: [(&str, &[u8]); 6] = [
+            ("nothing", &[]),
+            ("two bytes", &[0, 0x80]),
+            ("an answer", &[0, 0x00, 2, 0, 9, 1, 0]),
+            ("a datagram", &[0, 0xC0, 2]),
+            ("Rq clear and D set", &[0, 0x40, 2]),
+            ("a PLDM message", &[1, 0x80, 2]),
+        ];
+        for (situation, message) in table {
+            assert!(rt; answer(&ENDPOINT, message).is_none(), "{situation}");
+        }
+    }
+}
