@@ -188,10 +188,12 @@ mod tests {
     use super::*;
 
     /// Endpoint 9, whose UUID has the bytes 1 to 16.
-    const ENDPOINT: Endpoint = Endpoint {
-        eid: 9,
-        uuid: Uuid::from_bytes([1, 2, 3, 4, 5, 6, 7, 8, 9, 10, 11, 12, 13, 14, 15, 16]),
-    };
+    fn endpoint() -> Endpoint {
+        Endpoint {
+            eid: 9,
+            uuid: Uuid::from_bytes([1, 2, 3, 4, 5, 6, 7, 8, 9, 10, 11, 12, 13, 14, 15, 16]),
+        }
+    }
 
     #[test]
     fn answers_each_command(rt: HostRuntime) {
@@ -252,7 +254,7 @@ mod tests {
             ("message types, too long", &[0, 0x80, 5, 0], &[0, 0, 5, 3]),
         ];
         for (situation, message, want) in table {
-            match answer(&ENDPOINT, message) {
+            match answer(&endpoint(), message) {
                 Some(reply) => assert_eq!(rt; reply.as_slice(), want, "{situation}"),
                 None => assert!(rt; false, "{situation}"),
             }
@@ -266,7 +268,7 @@ mod tests {
                 [0, 0x80, command].as_slice(),
                 [0, 0x80, command, 1, 2].as_slice(),
             ] {
-                match answer(&ENDPOINT, message) {
+                match answer(&endpoint(), message) {
                     Some(reply) => assert_eq!(rt; reply.as_slice(), [0, 0, command, 5].as_slice()),
                     None => assert!(rt; false, "{command}"),
                 }
@@ -285,7 +287,7 @@ mod tests {
             ("a PLDM message", &[1, 0x80, 2]),
         ];
         for (situation, message) in table {
-            assert!(rt; answer(&ENDPOINT, message).is_none(), "{situation}");
+            assert!(rt; answer(&endpoint(), message).is_none(), "{situation}");
         }
     }
 }
