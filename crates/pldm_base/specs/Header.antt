@@ -25,7 +25,7 @@ IsPldm (kind ∷ flags ∷ version_and_type ∷ command ∷ rest) h body =
     × (command ≡ h.command) × (rest ≡ body)
 IsPldm _ h body = ⊥
 
--- The same as a function: the head and the body of a PLDM message, or the first fault.
+-- what reading gives: the head and the body of a PLDM message, or the first fault.
 abbrev pub pldm_of : List ℕ → Result (PldmHead × List ℕ) PldmFault
 pldm_of (kind ∷ flags ∷ version_and_type ∷ command ∷ body) =
     if not (kind == 1) then Err NotPldm
@@ -42,7 +42,7 @@ pldm_of (kind ∷ flags ∷ version_and_type ∷ command ∷ body) =
     )
 pldm_of _ = Err Short
 
--- the first fault of bytes that are no PLDM message
+-- the first fault of bytes that are no PLDM message: none before it holds, and it does
 abbrev pub IsFirstFault : List ℕ → PldmFault → Type 0
 IsFirstFault bytes Short = length bytes < 4
 IsFirstFault bytes NotPldm = (4 ≤ length bytes) × (slice_index bytes 0 ≢ 1)
@@ -56,10 +56,10 @@ IsFirstFault bytes HeaderVersion =
 abbrev pub pldm_bytes : PldmHead → List ℕ → List ℕ
 pldm_bytes h body = 1 ∷ (128 * bit h.rq + h.instance) ∷ h.pldm_type ∷ h.command ∷ body
 
--- what is written is a PLDM message, and it is read as the same head and body
-pub record ReadsBack (h : PldmHead) (body : List ℕ) : Type 0 where
-  pub member : IsPldm (pldm_bytes h body) h body
-  pub value : pldm_of (pldm_bytes h body) ≡ Ok (h, body)
+-- what is written is a PLDM message with that head and that body
+abbrev pub WritesMessages : Type 0
+WritesMessages = (h : PldmHead) (body : List ℕ) → IsHead h → IsPldm (pldm_bytes h body) h body
 
-abbrev pub WrittenReadsBack : Type 0
-WrittenReadsBack = (h : PldmHead) (body : List ℕ) → IsHead h → ReadsBack h body
+-- bytes are a PLDM message with one head and one body at most, and those are what is read
+abbrev pub ReadsMessages : Type 0
+ReadsMessages = (bytes : List ℕ) (h : PldmHead) (body : List ℕ) → IsPldm bytes h body → pldm_of bytes ≡ Ok (h, body)

@@ -2,7 +2,7 @@
 
 ghost use Rattle.std.specs.Prelude.{◌≡◌, ◌≤◌, IfErr, IfOk, IsOk, List, length, ℕ};
 ghost use Rattle.std.specs.Result.{result_map_both};
-ghost use Rattle.pldm_base.specs.Header.{IsFirstFault, IsPldm, WrittenReadsBack, pldm_bytes, pldm_of};
+ghost use Rattle.pldm_base.specs.Header.{IsFirstFault, IsHead, IsPldm, pldm_bytes, pldm_of};
 ghost use Rattle.pldm_base.specs.declared.header.PldmHead.{PldmHead};
 
 use arrayvec::ArrayVec;
@@ -19,6 +19,24 @@ pub const TYPE_FIRMWARE_UPDATE: u8 = 5;
 
 /// The MCTP message type of PLDM, with the integrity check bit clear.
 const MESSAGE_TYPE: u8 = 0x01;
+
+/// The place of the request bit in the second byte.
+const RQ_BIT: u32 = 7;
+
+/// The place of the datagram bit in the second byte.
+const D_BIT: u32 = 6;
+
+/// The five bits of an instance identifier, the second byte's lowest. The bit above them is reserved.
+const INSTANCE_MASK: u8 = 0x1F;
+
+/// The place of the two bits of header version in the third byte.
+const VERSION_SHIFT: u32 = 6;
+
+/// The header version that this is.
+const HEADER_VERSION: u8 = 0;
+
+/// The six bits of a PLDM type, the third byte's lowest.
+const TYPE_MASK: u8 = 0x3F;
 
 /// The head of a PLDM message (DSP0240, "PLDM message fields").
 #[derive(Clone, Copy, Debug, PartialEq, Eq)]
@@ -61,22 +79,22 @@ pub fn decode(bytes: &[u8]) -> Result<(PldmHead, &[u8]), PldmFault>
     ensures value { result_map_both (λ m. (m.0, m.1.now)) (λ e. e) result ≡ pldm_of bytes.now }
     ensures fault { IfErr result (λ e. IsFirstFault bytes.now e) }
 {
-    let [message_type, flags, pldm_type, command, body @ ..] = bytes else {
+    let [message_type, flags, version_and_type, command, body @ ..] = bytes else {
         return Err(PldmFault::Short);
     };
     if *message_type != MESSAGE_TYPE {
         return Err(PldmFault::NotPldm);
     }
-    if flags / 64 % 2 == 1 {
+    if flags >> D_BIT & 1 == 1 {
         return Err(PldmFault::Datagram);
     }
-    if pldm_type / 64 != 0 {
+    if version_and_type >> VERSION_SHIFT != HEADER_VERSION {
         return Err(PldmFault::HeaderVersion);
     }
     let head = PldmHead {
-        rq: flags / 128 == 1,
-        instance: flags % 32,
-        pldm_type: pldm_type % 64,
+        rq: flags >> RQ_BIT == 1,
+        instance: flags & INSTANCE_MASK,
+        pldm_type: version_and_type & TYPE_MASK,
         command: *command,
     };
     Ok((head, body))
@@ -84,25 +102,18 @@ pub fn decode(bytes: &[u8]) -> Result<(PldmHead, &[u8]), PldmFault>
 
 /// Writes a PLDM message, its reserved bit 0.
 pub fn encode(head: &PldmHead, body: &[u8]) -> RawMessage
-    requires fits { length body.now ≤ 252 }
-    requires instance { head.now.instance ≤ 31 }
-    requires pldm_type { head.now.pldm_type ≤ 63 }
+    requires body { length body.now ≤ 252 }
+    requires head { IsHead head.now }
     ensures { result.items ≡ pldm_bytes head.now body.now }
 {
-    let request_bit = if head.rq { 0x80 } else { 0 };
     let mut out = RawMessage::new();
     out.push(MESSAGE_TYPE);
-    out.push(request_bit + head.instance);
-    out.push(head.pldm_type);
+    out.push((u8::from(head.rq) << RQ_BIT) + head.instance);
+    out.push((HEADER_VERSION << VERSION_SHIFT) + head.pldm_type);
     out.push(head.command);
     let _ = out.try_extend_from_slice(body);
     out
 }
-
-/// The law of both directions: what is written reads back as the same head and body.
-pub fn written_reads_back()
-    ensures { WrittenReadsBack }
-{}
 
 #[cfg(test)]
 mod tests {

@@ -4,6 +4,7 @@
 mod base;
 pub mod completion;
 mod header;
+mod laws;
 mod terminus;
 
 pub use base::{
@@ -11,6 +12,6 @@ pub use base::{
 };
 pub use header::{
     MAX_MESSAGE, PldmFault, PldmHead, RawMessage, TYPE_BASE, TYPE_FIRMWARE_UPDATE, decode, encode,
-    written_reads_back,
 };
+pub use laws::reads_back;
 pub use terminus::{Role, Tid};
