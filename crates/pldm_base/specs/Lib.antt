@@ -1,0 +1,3 @@
+pub mod Base
+pub mod Codes
+pub mod Header

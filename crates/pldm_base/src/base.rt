@@ -1,0 +1,242 @@
+//! The base commands: SetTID, GetTID, GetPLDMTypes and GetPLDMCommands.
+
+ghost use Rattle.std.specs.Prelude.{[], ◌++◌, ◌≡◌, ◌∷◌, ◌≤◌, length, replicate, ℕ};
+ghost use Rattle.pldm_base.specs.Base.{base_reply, tid_after};
+
+use crate::completion;
+use crate::header::{TYPE_BASE, TYPE_FIRMWARE_UPDATE};
+use crate::terminus::{Role, Tid};
+use arrayvec::ArrayVec;
+
+/// The bytes of the longest answer, code included: what the longest message holds after its header of four bytes.
+pub const MAX_REPLY: usize = 252;
+
+/// SetTID: gives the terminus its identifier.
+pub const SET_TID: u8 = 0x01;
+
+/// GetTID: asks for the terminus' identifier.
+pub const GET_TID: u8 = 0x02;
+
+/// GetPLDMTypes: asks which PLDM types the terminus has.
+pub const GET_PLDM_TYPES: u8 = 0x04;
+
+/// GetPLDMCommands: asks which commands of a PLDM type the terminus has.
+pub const GET_PLDM_COMMANDS: u8 = 0x05;
+
+/// Types 0 and 5, as bits.
+const TYPES: [u8; 8] = [0x21, 0, 0, 0, 0, 0, 0, 0];
+
+/// The base commands 1, 2, 4 and 5, as the first four of their bytes of bits.
+const BASE_COMMANDS: [u8; 4] = [0x36, 0, 0, 0];
+
+/// The firmware update commands that a device takes: 0x01, 0x02, 0x10, 0x13, 0x14 and 0x1A to 0x1D.
+const DEVICE_COMMANDS: [u8; 4] = [0x06, 0x00, 0x19, 0x3C];
+
+/// The firmware update commands that the update agent takes: 0x15 to 0x18.
+const AGENT_COMMANDS: [u8; 4] = [0x00, 0x00, 0xE0, 0x01];
+
+/// The completion code of an answer and what follows it.
+pub type Reply = ArrayVec<u8, MAX_REPLY>;
+
+/// The answer to a base command with these request data. Only a SetTID that is answered `SUCCESS` changes the
+/// identifier.
+pub fn answer_base(tid: &mut Tid, role: Role, command: u8, fields: &[u8]) -> Reply
+    ensures reply { result.items ≡ base_reply role tid.old command fields.now }
+    ensures tid { tid.new ≡ tid_after tid.old command fields.now }
+{
+    match command {
+        SET_TID => set_tid(tid, fields),
+        GET_TID => get_tid(tid, fields),
+        GET_PLDM_TYPES => get_types(fields),
+        GET_PLDM_COMMANDS => get_commands(role, fields),
+        _ => code_alone(completion::ERROR_UNSUPPORTED_PLDM_CMD),
+    }
+}
+
+/// An answer that ends at its code.
+fn code_alone(code: u8) -> Reply
+    ensures { result.items ≡ code ∷ [] }
+{
+    let mut reply = Reply::new();
+    reply.push(code);
+    reply
+}
+
+/// The answer of a command that was carried out: the code and these fields.
+fn success(fields: &[u8]) -> Reply
+    requires { length fields.now ≤ 251 }
+    ensures { result.items ≡ 0 ∷ fields.now }
+{
+    let mut reply = code_alone(completion::SUCCESS);
+    let _ = reply.try_extend_from_slice(fields);
+    reply
+}
+
+fn set_tid(tid: &mut Tid, fields: &[u8]) -> Reply
+    ensures reply { result.items ≡ Rattle.pldm_base.specs.Base.set_tid_reply fields.now }
+    ensures tid { tid.new ≡ Rattle.pldm_base.specs.Base.tid_set tid.old fields.now }
+{
+    let [value] = fields else {
+        return code_alone(completion::ERROR_INVALID_LENGTH);
+    };
+    if !Tid::is_assignable(*value) {
+        return code_alone(completion::ERROR_INVALID_DATA);
+    }
+    tid.assign(*value);
+    code_alone(completion::SUCCESS)
+}
+
+fn get_tid(tid: &Tid, fields: &[u8]) -> Reply
+    ensures { result.items ≡ Rattle.pldm_base.specs.Base.get_tid_reply tid.now fields.now }
+{
+    if !fields.is_empty() {
+        return code_alone(completion::ERROR_INVALID_LENGTH);
+    }
+    success(&[tid.value()])
+}
+
+fn get_types(fields: &[u8]) -> Reply
+    ensures { result.items ≡ Rattle.pldm_base.specs.Base.get_types_reply fields.now }
+{
+    if !fields.is_empty() {
+        return code_alone(completion::ERROR_INVALID_LENGTH);
+    }
+    success(&TYPES)
+}
+
+fn get_commands(role: Role, fields: &[u8]) -> Reply
+    ensures { result.items ≡ Rattle.pldm_base.specs.Base.get_commands_reply role fields.now }
+{
+    let [pldm_type, _, _, _, _] = fields else {
+        return code_alone(completion::ERROR_INVALID_LENGTH);
+    };
+    match (*pldm_type, role) {
+        (TYPE_BASE, _) => command_bits(&BASE_COMMANDS),
+        (TYPE_FIRMWARE_UPDATE, Role::Device) => command_bits(&DEVICE_COMMANDS),
+        (TYPE_FIRMWARE_UPDATE, Role::Agent) => command_bits(&AGENT_COMMANDS),
+        _ => code_alone(completion::INVALID_PLDM_TYPE_IN_REQUEST_DATA),
+    }
+}
+
+/// The answer with 32 bytes of bits, of which all but the first four are 0.
+fn command_bits(first: &[u8; 4]) -> Reply
+    ensures { result.items ≡ 0 ∷ (first.now ++ replicate 28 0) }
+{
+    let mut bits = [0; 32];
+    bits[..4].copy_from_slice(first);
+    success(&bits)
+}
+
+#[cfg(test)]
+mod tests {
+    use super::*;
+
+    /// A command with its request data, what is answered, and the identifier afterwards. Each begins with 7.
+    type Row<'a> = (&'a str, u8, &'a [u8], &'a [u8], u8);
+
+    fn terminus_seven() -> Tid
+        ensures { result ≡ 7 }
+    {
+        let mut tid = Tid::unassigned();
+        tid.assign(7);
+        tid
+    }
+
+    #[test]
+    fn answers_every_command(rt: HostRuntime) {
+        let table: [Row; 17] = [
+            ("set to 5", SET_TID, &[5], &[0x00], 5),
+            ("set to the last", SET_TID, &[254], &[0x00], 254),
+            ("set to none", SET_TID, &[0], &[0x02], 7),
+            ("set to the reserved one", SET_TID, &[255], &[0x02], 7),
+            ("set, a byte less", SET_TID, &[], &[0x03], 7),
+            ("set, a byte more", SET_TID, &[5, 0], &[0x03], 7),
+            ("get", GET_TID, &[], &[0x00, 7], 7),
+            ("get, a byte more", GET_TID, &[0], &[0x03], 7),
+            (
+                "types",
+                GET_PLDM_TYPES,
+                &[],
+                &[0x00, 0x21, 0, 0, 0, 0, 0, 0, 0],
+                7,
+            ),
+            ("types, a byte more", GET_PLDM_TYPES, &[0], &[0x03], 7),
+            (
+                "commands, a byte less",
+                GET_PLDM_COMMANDS,
+                &[0, 0xF1, 0xF0, 0xF0],
+                &[0x03],
+                7,
+            ),
+            (
+                "commands, a byte more",
+                GET_PLDM_COMMANDS,
+                &[0; 6],
+                &[0x03],
+                7,
+            ),
+            (
+                "commands of type 1",
+                GET_PLDM_COMMANDS,
+                &[1, 0, 0, 0, 0],
+                &[0x83],
+                7,
+            ),
+            (
+                "commands of type 63",
+                GET_PLDM_COMMANDS,
+                &[63, 0, 0, 0, 0],
+                &[0x83],
+                7,
+            ),
+            ("GetPLDMVersion", 0x03, &[], &[0x05], 7),
+            ("unknown, whatever its length", 0x03, &[0; 9], &[0x05], 7),
+            ("no command", 0x00, &[], &[0x05], 7),
+        ];
+        for (situation, command, fields, answer, after) in table {
+            let mut tid = terminus_seven();
+            let reply = answer_base(&mut tid, Role::Device, command, fields);
+            assert_eq!(rt; reply.as_slice(), answer, "{situation}");
+            assert_eq!(rt; tid.value(), after, "{situation}");
+        }
+    }
+
+    #[test]
+    fn tells_commands_by_role(rt: HostRuntime) {
+        let table: [(&str, Role, u8, [u8; 4]); 4] = [
+            ("a device's base commands", Role::Device, 0, [0x36, 0, 0, 0]),
+            ("the agent's base commands", Role::Agent, 0, [0x36, 0, 0, 0]),
+            (
+                "a device's update commands",
+                Role::Device,
+                5,
+                [0x06, 0x00, 0x19, 0x3C],
+            ),
+            (
+                "the agent's update commands",
+                Role::Agent,
+                5,
+                [0x00, 0x00, 0xE0, 0x01],
+            ),
+        ];
+        for (situation, role, pldm_type, first) in table {
+            let mut tid = Tid::unassigned();
+            let version = [pldm_type, 0x00, 0xF0, 0xF1, 0xF2];
+            let reply = answer_base(&mut tid, role, GET_PLDM_COMMANDS, &version);
+            assert_eq!(rt; reply.len(), 33, "{situation}");
+            assert_eq!(rt; reply[0], 0, "{situation}");
+            assert_eq!(rt; &reply[1..5], first.as_slice(), "{situation}");
+            assert_eq!(rt; &reply[5..], [0; 28].as_slice(), "{situation}");
+        }
+    }
+
+    #[test]
+    fn carries_the_identifier_on(rt: HostRuntime) {
+        let mut tid = Tid::unassigned();
+        let before = answer_base(&mut tid, Role::Device, GET_TID, &[]);
+        assert_eq!(rt; before.as_slice(), [0x00, 0].as_slice());
+        let _ = answer_base(&mut tid, Role::Device, SET_TID, &[5]);
+        let after = answer_base(&mut tid, Role::Device, GET_TID, &[]);
+        assert_eq!(rt; after.as_slice(), [0x00, 5].as_slice());
+    }
+}

@@ -1,0 +1,26 @@
+//! The completion codes that every PLDM type shares (DSP0240, "PLDM completion codes"). An answer's first byte is
+//! one of these or one of its type's own, and an answer with another code than `SUCCESS` ends there.
+
+/// The command was carried out.
+pub const SUCCESS: u8 = 0x00;
+
+/// The command failed, and no other code says why.
+pub const ERROR: u8 = 0x01;
+
+/// A field has a value that the command doesn't take.
+pub const ERROR_INVALID_DATA: u8 = 0x02;
+
+/// The request data are too short or too long for the command.
+pub const ERROR_INVALID_LENGTH: u8 = 0x03;
+
+/// The command can't be taken now, and may be asked again.
+pub const ERROR_NOT_READY: u8 = 0x04;
+
+/// The PLDM type has no such command here.
+pub const ERROR_UNSUPPORTED_PLDM_CMD: u8 = 0x05;
+
+/// There is no such PLDM type here.
+pub const ERROR_INVALID_PLDM_TYPE: u8 = 0x20;
+
+/// GetPLDMCommands asks for a PLDM type that isn't here.
+pub const INVALID_PLDM_TYPE_IN_REQUEST_DATA: u8 = 0x83;

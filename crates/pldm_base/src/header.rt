@@ -1,0 +1,218 @@
+//! The header of a PLDM message, read and written.
+
+ghost use Rattle.std.specs.Prelude.{◌≡◌, ◌≤◌, IfErr, IfOk, IsOk, List, length, ℕ};
+ghost use Rattle.std.specs.Result.{result_map_both};
+ghost use Rattle.pldm_base.specs.Header.{IsFirstFault, IsHead, IsPldm, pldm_bytes, pldm_of};
+ghost use Rattle.pldm_base.specs.declared.header.PldmHead.{PldmHead};
+
+use arrayvec::ArrayVec;
+use thiserror::Error;
+
+/// The bytes of the longest PLDM message with its type byte: four packets of 64 bytes.
+pub const MAX_MESSAGE: usize = 256;
+
+/// PLDM type 0, messaging control and discovery: the base commands.
+pub const TYPE_BASE: u8 = 0;
+
+/// PLDM type 5, firmware update.
+pub const TYPE_FIRMWARE_UPDATE: u8 = 5;
+
+/// The MCTP message type of PLDM, with the integrity check bit clear.
+const MESSAGE_TYPE: u8 = 0x01;
+
+/// The place of the request bit in the second byte.
+const RQ_BIT: u32 = 7;
+
+/// The place of the datagram bit in the second byte.
+const D_BIT: u32 = 6;
+
+/// The five bits of an instance identifier, the second byte's lowest. The bit above them is reserved.
+const INSTANCE_MASK: u8 = 0x1F;
+
+/// The place of the two bits of header version in the third byte.
+const VERSION_SHIFT: u32 = 6;
+
+/// The header version that this is.
+const HEADER_VERSION: u8 = 0;
+
+/// The six bits of a PLDM type, the third byte's lowest.
+const TYPE_MASK: u8 = 0x3F;
+
+/// The head of a PLDM message (DSP0240, "PLDM message fields").
+#[derive(Clone, Copy, Debug, PartialEq, Eq)]
+pub struct PldmHead {
+    /// Set in a request, clear in its answer.
+    pub rq: bool,
+    /// The instance identifier, 0 to 31, which pairs an answer with its request.
+    pub instance: u8,
+    /// The PLDM type, 0 to 63.
+    pub pldm_type: u8,
+    /// The command of that type.
+    pub command: u8,
+}
+
+/// The bytes of one PLDM message.
+pub type RawMessage = ArrayVec<u8, MAX_MESSAGE>;
+
+/// Why bytes are no PLDM message: the first of these that holds.
+#[derive(Clone, Copy, Debug, PartialEq, Eq, Error)]
+pub enum PldmFault {
+    /// There are less than four bytes.
+    #[error("Short")]
+    Short,
+    /// The message type isn't that of PLDM.
+    #[error("NotPldm")]
+    NotPldm,
+    /// The D bit is set: nobody waits for an answer.
+    #[error("Datagram")]
+    Datagram,
+    /// The header version isn't 0.
+    #[error("HeaderVersion")]
+    HeaderVersion,
+}
+
+/// Reads a PLDM message into its head and its body. The reserved bit of the second byte isn't looked at. Bytes that
+/// are no PLDM message are refused by the first fault that holds.
+pub fn decode(bytes: &[u8]) -> Result<(PldmHead, &[u8]), PldmFault>
+    ensures found { IfOk result (λ m. IsPldm bytes.now m.0 m.1.now) }
+    ensures only { (head : PldmHead) (body : List ℕ) → IsPldm bytes.now head body → IsOk result }
+    ensures value { result_map_both (λ m. (m.0, m.1.now)) (λ e. e) result ≡ pldm_of bytes.now }
+    ensures fault { IfErr result (λ e. IsFirstFault bytes.now e) }
+{
+    let [message_type, flags, version_and_type, command, body @ ..] = bytes else {
+        return Err(PldmFault::Short);
+    };
+    if *message_type != MESSAGE_TYPE {
+        return Err(PldmFault::NotPldm);
+    }
+    if flags >> D_BIT & 1 == 1 {
+        return Err(PldmFault::Datagram);
+    }
+    if version_and_type >> VERSION_SHIFT != HEADER_VERSION {
+        return Err(PldmFault::HeaderVersion);
+    }
+    let head = PldmHead {
+        rq: flags >> RQ_BIT == 1,
+        instance: flags & INSTANCE_MASK,
+        pldm_type: version_and_type & TYPE_MASK,
+        command: *command,
+    };
+    Ok((head, body))
+}
+
+/// Writes a PLDM message, its reserved bit 0.
+pub fn encode(head: &PldmHead, body: &[u8]) -> RawMessage
+    requires body { length body.now ≤ 252 }
+    requires head { IsHead head.now }
+    ensures { result.items ≡ pldm_bytes head.now body.now }
+{
+    let mut out = RawMessage::new();
+    out.push(MESSAGE_TYPE);
+    out.push((u8::from(head.rq) << RQ_BIT) + head.instance);
+    out.push((HEADER_VERSION << VERSION_SHIFT) + head.pldm_type);
+    out.push(head.command);
+    let _ = out.try_extend_from_slice(body);
+    out
+}
+
+#[cfg(test)]
+mod tests {
+    use super::*;
+    use std::test::Fail;
+
+    const GET_TID: PldmHead = PldmHead {
+        rq: true,
+        instance: 9,
+        pldm_type: TYPE_BASE,
+        command: 2,
+    };
+
+    #[test]
+    fn reads_what_it_writes(rt: HostRuntime) -> Result<(), Fail> {
+        let last = PldmHead {
+            rq: false,
+            instance: 31,
+            pldm_type: 63,
+            command: 255,
+        };
+        let long = [0xA5; 252];
+        let mut longest = [0xA5; 256];
+        longest[..4].copy_from_slice(&[0x01, 0x1F, 0x3F, 0xFF]);
+        let table: [(&str, PldmHead, &[u8], &[u8]); 3] = [
+            (
+                "a request without a body",
+                GET_TID,
+                &[],
+                &[0x01, 0x89, 0x00, 0x02],
+            ),
+            (
+                "each field at its greatest",
+                last,
+                &[0x05],
+                &[0x01, 0x1F, 0x3F, 0xFF, 0x05],
+            ),
+            ("the longest message", last, &long, &longest),
+        ];
+        for (situation, head, body, bytes) in table {
+            assert!(rt; body.len() <= 252 && head.instance <= 31 && head.pldm_type <= 63);
+            let message = encode(&head, body);
+            assert_eq!(rt; message.as_slice(), bytes, "{situation}");
+            let (read, rest) = decode(bytes)?;
+            assert_eq!(rt; read, head, "{situation}");
+            assert_eq!(rt; rest, body, "{situation}");
+        }
+        Ok(())
+    }
+
+    #[test]
+    fn looks_past_the_reserved_bit(rt: HostRuntime) -> Result<(), Fail> {
+        let (head, body) = decode(&[0x01, 0xA9, 0x00, 0x02])?;
+        assert_eq!(rt; head, GET_TID);
+        assert!(rt; body.is_empty());
+        Ok(())
+    }
+
+    #[test]
+    fn names_the_first_fault(rt: HostRuntime) {
+        let table: [(&str, &[u8], PldmFault); 8] = [
+            ("no bytes", &[], PldmFault::Short),
+            (
+                "three bytes, all wrong",
+                &[0x00, 0xC0, 0x40],
+                PldmFault::Short,
+            ),
+            (
+                "another message type",
+                &[0x00, 0x80, 0x00, 0x02],
+                PldmFault::NotPldm,
+            ),
+            (
+                "the integrity check bit",
+                &[0x81, 0x80, 0x00, 0x02],
+                PldmFault::NotPldm,
+            ),
+            (
+                "all wrong but the length",
+                &[0x02, 0xC0, 0x40, 0x02],
+                PldmFault::NotPldm,
+            ),
+            ("a datagram", &[0x01, 0xC0, 0x00, 0x02], PldmFault::Datagram),
+            (
+                "a datagram of version 1",
+                &[0x01, 0x40, 0x40, 0x02],
+                PldmFault::Datagram,
+            ),
+            (
+                "version 1",
+                &[0x01, 0x80, 0x45, 0x02],
+                PldmFault::HeaderVersion,
+            ),
+        ];
+        for (situation, bytes, fault) in table {
+            match decode(bytes) {
+                Ok(_) => assert!(rt; false, "{situation}"),
+                Err(e) => assert_eq!(rt; e, fault, "{situation}"),
+            }
+        }
+    }
+}

@@ -1,0 +1,17 @@
+//! PLDM (DSP0240): the header of a message, completion codes, and the base commands as a terminus answers them.
+#![tactic(auto)]
+
+mod base;
+pub mod completion;
+mod header;
+mod laws;
+mod terminus;
+
+pub use base::{
+    GET_PLDM_COMMANDS, GET_PLDM_TYPES, GET_TID, MAX_REPLY, Reply, SET_TID, answer_base,
+};
+pub use header::{
+    MAX_MESSAGE, PldmFault, PldmHead, RawMessage, TYPE_BASE, TYPE_FIRMWARE_UPDATE, decode, encode,
+};
+pub use laws::reads_back;
+pub use terminus::{Role, Tid};

@@ -1,0 +1,69 @@
+//! What a terminus is to others: its role in a firmware update, and its identifier.
+
+ghost use Rattle.std.specs.Prelude.{◌↔◌, ◌≡◌, ◌≢◌, ◌≤◌, IsTrue, ℕ};
+
+use std::marker::Model;
+
+/// The terminus identifier that stands for none.
+const UNASSIGNED: u8 = 0x00;
+
+/// The terminus identifier that DSP0240 reserves.
+const RESERVED: u8 = 0xFF;
+
+/// Which end of a firmware update a terminus is.
+#[derive(Clone, Copy, Debug, PartialEq, Eq)]
+pub enum Role {
+    /// The firmware device, which is updated.
+    Device,
+    /// The update agent, which updates devices.
+    Agent,
+}
+
+/// A terminus identifier: 0 until it is set, then 1 to 254.
+#[derive(Clone, Copy, Debug, PartialEq, Eq)]
+pub struct Tid {
+    value: u8,
+}
+
+impl Model for Tid {
+    ghost Value = { ℕ };
+
+    ghost view = { λ t. t.value };
+
+    ghost invariant = { λ t. t.value ≤ 254 };
+
+    ghost inverse = { λ n. record { value = n } };
+}
+
+impl Tid {
+    /// The identifier of a terminus that wasn't given one yet, as after a restart.
+    pub fn unassigned() -> Self
+        ensures { result ≡ 0 }
+    {
+        Tid { value: UNASSIGNED }
+    }
+
+    /// The identifier as GetTID tells it.
+    pub fn value(self) -> u8
+        ensures value { result ≡ self }
+        ensures range { result ≤ 254 }
+    {
+        self.value
+    }
+
+    /// Whether a terminus may be given this identifier.
+    pub fn is_assignable(value: u8) -> bool
+        ensures { IsTrue result ↔ ((value ≢ 0) × (value ≢ 255)) }
+    {
+        value != UNASSIGNED && value != RESERVED
+    }
+
+    /// Gives the terminus an identifier.
+    pub fn assign(&mut self, value: u8)
+        requires not_none { value ≢ 0 }
+        requires not_reserved { value ≢ 255 }
+        ensures { self.new ≡ value }
+    {
+        *self = Tid { value };
+    }
+}
