@@ -1,5 +1,5 @@
 -- Lemmas on lines, and on what is answered of a text so far.
-use Rattle.std.proofs.Common.{◌≡◌, ◌≢◌, ◌<◌, ◌∙◌, ℕ, List, [], ◌∷◌, ◌++◌, length, refl, sym, ap, subst, append_assoc, append-nil, arith, IfSome, IfErr, OnOk, Result, Ok, Err, Option, Some, None}
+use Rattle.std.proofs.Common.{◌≡◌, ◌≢◌, ◌<◌, ◌≤◌, ◌+◌, ◌∙◌, ℕ, List, [], ◌∷◌, ◌++◌, length, refl, sym, ap, subst, append_assoc, append-nil, length-append, arith, IfSome, IfErr, OnOk, Result, Ok, Err, Option, Some, None}
 use Rattle.std.proofs.lemmas.Bool.{ne_eqb}
 use Rattle.std.specs.Io.KnownBytes.{Appends, Consumes, IsAtEnd}
 use Rattle.std.proofs.KnownBytes.{Consumes-nil, Consumes-trans, Appends-nil, Appends-trans}
@@ -59,9 +59,10 @@ answers_of-part e ls (b ∷ part) h one more =
     ∙ lines_text-push e 0 ls (b ∷ part)
 
 -- nothing is read yet
-pub stands_start : (e : Endpoint) (a w : Option (List ℕ)) → Stands e 0 a a w w []
+pub stands_start : (e : Endpoint) (a w : Option (List ℕ)) → Stands e 0 0 a a w w []
 stands_start e a w = record {
   answered = record { lines = []; each = tt; read = Consumes-nil a; written = Appends-nil w };
+  size = refl;
   terminus = refl;
 }
 
@@ -74,27 +75,31 @@ answered_more e a b c w v part more h read = record {
   written = h.written;
 }
 
-pub stands_more : (e : Endpoint) (tid : ℕ) (a b c w v : Option (List ℕ)) (part more : List ℕ) → Stands e tid a b w v part → Consumes b c more → Stands e tid a c w v (part ++ more)
+pub stands_more : (e : Endpoint) (tid n : ℕ) (a b c w v : Option (List ℕ)) (part more : List ℕ) → Stands e tid n a b w v part → Consumes b c more
+    → Stands e tid (n + length more) a c w v (part ++ more)
 unfolding answered_more
-stands_more e tid a b c w v part more h read = record {
+stands_more e tid n a b c w v part more h read = record {
   answered = answered_more e a b c w v part more h.answered read;
+  size = rw (← append_assoc (ended h.answered.lines) part more, length-append (ended h.answered.lines ++ part) more, h.size) refl;
   terminus = h.terminus;
 }
 
 -- a line ends, and is answered
-pub stands_line : (e : Endpoint) (tid : ℕ) (a b c w v u : Option (List ℕ)) (part : List ℕ) → Stands e tid a b w v part → IsOneLine part → Consumes b c (10 ∷ []) → Appends v u (printed e tid part)
-    → Stands e (tid_left_by e tid part) a c w u []
-stands_line e tid a b c w v u part h one read wrote =
+pub stands_line : (e : Endpoint) (tid n : ℕ) (a b c w v u : Option (List ℕ)) (part : List ℕ) → Stands e tid n a b w v part → IsOneLine part → Consumes b c (10 ∷ []) → Appends v u (printed e tid part)
+    → Stands e (tid_left_by e tid part) (n + 1) a c w u []
+stands_line e tid n a b c w v u part h one read wrote =
     let k = h.answered in
+    let joined : (ended k.lines ++ part) ++ 10 ∷ [] ≡ ended (k.lines ++ part ∷ []) ++ [] =
+    append_assoc (ended k.lines) part (10 ∷ []) ∙ sym (ended-push k.lines part) ∙ sym (append-nil (ended (k.lines ++ part ∷ []))) in
     record {
       answered = record {
         lines = k.lines ++ part ∷ [];
         each = AreLines-push k.lines part k.each one;
-        read = subst (Consumes a c) (append_assoc (ended k.lines) part (10 ∷ []) ∙ sym (ended-push k.lines part) ∙ sym (append-nil (ended (k.lines ++ part ∷ []))))
-            (Consumes-trans a b c (ended k.lines ++ part) (10 ∷ []) k.read read);
+        read = subst (Consumes a c) joined (Consumes-trans a b c (ended k.lines ++ part) (10 ∷ []) k.read read);
         written = subst (Appends w u) (sym (lines_text-push e 0 k.lines part))
             (Appends-trans w v u (lines_text e 0 k.lines) (printed e (tid_along e 0 k.lines) part) k.written (subst (λ t. Appends v u (printed e t part)) h.terminus wrote));
       };
+      size = ap length (sym joined) ∙ length-append (ended k.lines ++ part) (10 ∷ []) ∙ ap (λ m. m + 1) h.size;
       terminus = ap (λ t. tid_left_by e t part) h.terminus ∙ sym (tid_along-push e 0 k.lines part);
     }
 
@@ -114,18 +119,35 @@ whole (Some x) None text P read end h = absurd read
 whole (Some x) (Some y) text P read end h = subst P (sym (read ∙ ap (λ t. text ++ t) end ∙ append-nil text)) h
 
 -- what is read so far, with nothing more
-stands_same : (e : Endpoint) (tid : ℕ) (a b c w v : Option (List ℕ)) (part : List ℕ) → Stands e tid a b w v part → Consumes b c [] → Stands e tid a c w v part
-stands_same e tid a b c w v part h read = subst (Stands e tid a c w v) (append-nil part) (stands_more e tid a b c w v part [] h read)
+stands_same : (e : Endpoint) (tid n : ℕ) (a b c w v : Option (List ℕ)) (part : List ℕ) → Stands e tid n a b w v part → Consumes b c [] → Stands e tid n a c w v part
+stands_same e tid n a b c w v part h read = record {
+  answered = record {
+    lines = h.answered.lines;
+    each = h.answered.each;
+    read = subst (Consumes a c) (append-nil (ended h.answered.lines ++ part)) (Consumes-trans a b c (ended h.answered.lines ++ part) [] h.answered.read read);
+    written = h.answered.written;
+  };
+  size = h.size;
+  terminus = h.terminus;
+}
+
+-- the whole text was read, so it has as many bytes as were read
+pub read_whole : {T : Type 0} (e : Endpoint) (tid n : ℕ) (a b c w v : Option (List ℕ)) (part : List ℕ) (r : Result T AnswerFault) → Stands e tid n a b w v part → Consumes b c [] → IsAtEnd c
+    → n ≤ 16777216 → OnOk r (IfSome a (λ text. length text ≤ 16777216))
+read_whole e tid n a b c w v part (Err f) h read end within = tt
+read_whole e tid n a b c w v part (Ok x) h read end within =
+    let s = stands_same e tid n a b c w v part h read in
+    whole a c (ended s.answered.lines ++ part) (λ text. length text ≤ 16777216) s.answered.read end (rw s.size within)
 
 -- the last line is answered, if there is one
-pub finished_ok : {T : Type 0} (e : Endpoint) (tid : ℕ) (a b c w v u : Option (List ℕ)) (part : List ℕ) (r : Result T AnswerFault) → Stands e tid a b w v part → IsOneLine part → Consumes b c [] → IsAtEnd c
+pub finished_ok : {T : Type 0} (e : Endpoint) (tid n : ℕ) (a b c w v u : Option (List ℕ)) (part : List ℕ) (r : Result T AnswerFault) → Stands e tid n a b w v part → IsOneLine part → Consumes b c [] → IsAtEnd c
     → (length part ≢ 0 → OnOk r (Appends v u (printed e tid part))) → (length part ≡ 0 → OnOk r (Appends v u [])) → OnOk r (IfSome a (λ text. Appends w u (answers_of e text)))
-finished_ok e tid a b c w v u part (Err f) h one read end some none = tt
-finished_ok e tid a b c w v u [] (Ok x) h one read end some none =
-    let k = answered_kept e a c w v u [] (stands_same e tid a b c w v [] h read).answered (none refl) in
+finished_ok e tid n a b c w v u part (Err f) h one read end some none = tt
+finished_ok e tid n a b c w v u [] (Ok x) h one read end some none =
+    let k = answered_kept e a c w v u [] (stands_same e tid n a b c w v [] h read).answered (none refl) in
     whole a c (ended k.lines ++ []) (λ text. Appends w u (answers_of e text)) k.read end (subst (Appends w u) (sym (answers_of-ended e k.lines k.each)) k.written)
-finished_ok e tid a b c w v u (x ∷ part) (Ok t) h one read end some none =
-    let s = stands_same e tid a b c w v (x ∷ part) h read in
+finished_ok e tid n a b c w v u (x ∷ part) (Ok t) h one read end some none =
+    let s = stands_same e tid n a b c w v (x ∷ part) h read in
     let k = s.answered in
     let wrote : Appends v u (printed e tid (x ∷ part)) = some (λ z. let bad : length (x ∷ part) ≡ 0 = z in absurd (omega arith)) in
     whole a c (ended k.lines ++ (x ∷ part)) (λ text. Appends w u (answers_of e text)) k.read end
@@ -133,7 +155,7 @@ finished_ok e tid a b c w v u (x ∷ part) (Ok t) h one read end some none =
     (Appends-trans w v u (lines_text e 0 k.lines) (printed e (tid_along e 0 k.lines) (x ∷ part)) k.written (subst (λ t. Appends v u (printed e t (x ∷ part))) s.terminus wrote)))
 
 -- a write fell short
-pub stopped_by : {T : Type 0} (e : Endpoint) (tid : ℕ) (a b c w v u : Option (List ℕ)) (part more : List ℕ) (r : Result T AnswerFault) → Stands e tid a b w v part → Consumes b c more
+pub stopped_by : {T : Type 0} (e : Endpoint) (tid n : ℕ) (a b c w v u : Option (List ℕ)) (part more : List ℕ) (r : Result T AnswerFault) → Stands e tid n a b w v part → Consumes b c more
     → IfErr r (λ f. f ≢ Write → (f ≡ Memory) × Appends v u []) → IfErr r (λ f. f ≢ Write → (rest : List ℕ) × Answered e a c w u rest)
-stopped_by e tid a b c w v u part more (Ok x) h read k = tt
-stopped_by e tid a b c w v u part more (Err f) h read k = λ n. (part ++ more, answered_kept e a c w v u (part ++ more) (answered_more e a b c w v part more h.answered read) (k n).1)
+stopped_by e tid n a b c w v u part more (Ok x) h read k = tt
+stopped_by e tid n a b c w v u part more (Err f) h read k = λ n. (part ++ more, answered_kept e a c w v u (part ++ more) (answered_more e a b c w v part more h.answered read) (k n).1)

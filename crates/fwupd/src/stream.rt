@@ -102,6 +102,7 @@ pub fn answer_stream<R: Read, W: Write>(
 ) -> Result<(), AnswerFault>
     ensures ok { OnOk result (IfSome (R.remaining reader.old) (λ text.
         Appends (W.contents writer.old) (W.contents writer.new) (answers_of (endpoint_of eid uuid) text))) }
+    ensures within { OnOk result (IfSome (R.remaining reader.old) (λ text. length text ≤ 16777216)) }
     ensures stopped { IfErr result (λ e. e ≢ AnswerFault.Write → (part : List ℕ) ×
         Answered (endpoint_of eid uuid) (R.remaining reader.old) (R.remaining reader.new)
         (W.contents writer.old) (W.contents writer.new) part) }

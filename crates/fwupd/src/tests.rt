@@ -1,5 +1,6 @@
 //! Runs of the programs over byte readers and writers.
 
+use crate::command_line::{Job, parse};
 use crate::stream::{AnswerFault, answer_stream};
 use std::io::{self, Read, Write};
 use std::test::Fail;
@@ -207,6 +208,7 @@ fn refused_memory_leaves_whole_answers(rt: HostRuntime) {
     let mut input = b"02\n010908C8008002\n010908C800800F\n".as_slice();
     let outcome = answer_stream(rt.alloc(), &mut input, &mut writer, 9, Uuid::nil());
     let left = writer.len();
+    assert!(rt; left <= 64);
     let written = &room[..64 - left];
     let answers: [&[u8]; 4] = [
         b"",
@@ -221,4 +223,76 @@ fn refused_memory_leaves_whole_answers(rt: HostRuntime) {
             assert!(rt; answers[..3].contains(&written));
         }
     }
+}
+
+/// The words of a command line, owned.
+fn words_of(rt: &HostRuntime, line: &str) -> Result<Vec<String>, Fail> {
+    let mut words = Vec::new(rt.alloc());
+    for word in line.split(' ') {
+        words.push(String::from_str(rt.alloc(), word)?)?;
+    }
+    Ok(words)
+}
+
+#[test]
+fn wrong_usage_is_status_two_on_standard_error(rt: HostRuntime) -> Result<(), Fail> {
+    for line in [
+        "fwupd",
+        "fwupd answer",
+        "fwupd answer 7",
+        "fwupd answer 255",
+        "fwupd answer x",
+        "fwupd answer 9 8",
+        "fwupd answer 9 --uuid zz",
+        "fwupd unknown",
+    ] {
+        match parse(rt.alloc(), words_of(&rt, line)?.as_slice()) {
+            Ok(_) => assert!(rt; false, "{line}"),
+            Err(error) => {
+                assert_eq!(rt; error.exit_code(), 2, "{line}");
+                assert!(rt; error.use_stderr(), "{line}");
+            }
+        }
+    }
+    Ok(())
+}
+
+#[test]
+fn help_and_version_go_to_standard_output(rt: HostRuntime) -> Result<(), Fail> {
+    for line in [
+        "fwupd --help",
+        "fwupd help",
+        "fwupd answer --help",
+        "fwupd --version",
+    ] {
+        match parse(rt.alloc(), words_of(&rt, line)?.as_slice()) {
+            Ok(_) => assert!(rt; false, "{line}"),
+            Err(error) => {
+                assert_eq!(rt; error.exit_code(), 0, "{line}");
+                assert!(rt; !error.use_stderr(), "{line}");
+            }
+        }
+    }
+    Ok(())
+}
+
+#[test]
+fn the_endpoint_is_the_one_of_the_words(rt: HostRuntime) -> Result<(), Fail> {
+    let uuid = "00112233-4455-6677-8899-aabbccddeeff";
+    let line = format!(in rt.alloc(); "fwupd answer 254 --uuid {uuid}")?;
+    match parse(rt.alloc(), words_of(&rt, &line)?.as_slice()) {
+        Ok(Job::Answer { eid, uuid: given }) => {
+            assert_eq!(rt; eid, 254);
+            assert_eq!(rt; given, Uuid::parse_str(uuid)?);
+        }
+        Err(_) => assert!(rt; false),
+    }
+    match parse(rt.alloc(), words_of(&rt, "fwupd answer 8")?.as_slice()) {
+        Ok(Job::Answer { eid, uuid: given }) => {
+            assert_eq!(rt; eid, 8);
+            assert_eq!(rt; given, Uuid::nil());
+        }
+        Err(_) => assert!(rt; false),
+    }
+    Ok(())
 }

@@ -18,14 +18,13 @@ pub type LineText = ArrayVec<u8, 137>;
 /// What a line that gets no answer begins with.
 const DROP: &[u8] = b"drop ";
 
-/// Decodes digits, two a byte, in place of what `bytes` holds.
+/// Decodes digits, two a byte, into `bytes`, which has their size afterwards.
 ///
 /// # Errors
 /// Only want of memory for the bytes; whether the digits are well formed is the inner result.
 fn decode_digits(digits: &[u8], bytes: &mut Vec<u8>) -> Result<Result<(), FromHexError>, AllocError>
     ensures { IfOk result (λ r. result_map_both (λ _. bytes.new.items) (λ e. e) r ≡ decode_of digits.now) }
 {
-    bytes.clear();
     bytes.resize(digits.len() / 2, 0)?;
     Ok(hex::decode_to_slice(digits, bytes.as_mut_slice()))
 }

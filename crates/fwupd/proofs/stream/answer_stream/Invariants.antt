@@ -9,5 +9,5 @@ abbrev pub invariant-loop-count : goal.invariant-loop-count
 invariant-loop-count g l = record {
   one : IsOneLine l.digits.items;
   endpoint : l.responder.endpoint ≡ endpoint_of l.fn.eid l.fn.uuid;
-  stands : Stands (endpoint_of l.fn.eid l.fn.uuid) l.responder.tid (g.R.Read.remaining l.fn.reader) (g.R.Read.remaining l.reader) (g.W.Write.contents l.fn.writer) (g.W.Write.contents l.writer) l.digits.items;
+  stands : Stands (endpoint_of l.fn.eid l.fn.uuid) l.responder.tid l.count (g.R.Read.remaining l.fn.reader) (g.R.Read.remaining l.reader) (g.W.Write.contents l.fn.writer) (g.W.Write.contents l.writer) l.digits.items;
 }
