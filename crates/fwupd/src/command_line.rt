@@ -2,19 +2,15 @@
 
 use clap::error::ErrorKind;
 use clap::{Arg, ArgAction, ArgMatches, Command, value_parser};
+use mctp_ctl::Endpoint;
 use std::alloc::Global;
 use uuid::Uuid;
 
 /// What the words ask for.
 #[derive(Clone, Copy, Debug)]
 pub enum Job {
-    /// Answer packets as this endpoint.
-    Answer {
-        /// The endpoint identifier, 8 to 254.
-        eid: u8,
-        /// The endpoint's UUID.
-        uuid: Uuid,
-    },
+    /// Answer packets as this endpoint, whose identifier is one of a node's, 8 to 254.
+    Answer(Endpoint),
 }
 
 /// The subcommand `answer`.
@@ -56,7 +52,7 @@ fn command<'a>(alloc: Global) -> Result<Command<'a>, clap::Error> {
 fn answer_job(alloc: Global, matches: &ArgMatches<'_>) -> Result<Job, clap::Error> {
     let text = matches.get_str("uuid").unwrap_or("");
     match (matches.get_one::<u8>("EID"), Uuid::parse_str(text)) {
-        (Some(eid), Ok(uuid)) => Ok(Job::Answer { eid, uuid }),
+        (Some(eid), Ok(uuid)) => Ok(Job::Answer(Endpoint { eid, uuid })),
         _ => {
             let message = format!(in alloc; "invalid value '{text}' for '--uuid <UUID>'")?;
             Err(command(alloc)?.error(ErrorKind::ValueValidation, &message)?)

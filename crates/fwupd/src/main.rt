@@ -10,13 +10,13 @@ mod tests;
 mod text;
 
 use command_line::Job;
+use mctp_ctl::Endpoint;
 use std::io::{self, BufReader, BufWriter, Write};
 use std::process::ExitCode;
 use stream::AnswerFault;
-use uuid::Uuid;
 
 /// Answers the packets of standard input on standard output, through buffers.
-fn answer(rt: &HostRuntime, eid: u8, uuid: Uuid) -> Result<(), AnswerFault> {
+fn answer(rt: &HostRuntime, endpoint: Endpoint) -> Result<(), AnswerFault> {
     let alloc = rt.alloc();
     let Ok(mut reader) = BufReader::new(alloc, rt.reader()) else {
         return Err(AnswerFault::Memory);
@@ -24,7 +24,13 @@ fn answer(rt: &HostRuntime, eid: u8, uuid: Uuid) -> Result<(), AnswerFault> {
     let Ok(mut writer) = BufWriter::new(alloc, io::writer(rt)) else {
         return Err(AnswerFault::Memory);
     };
-    let answered = stream::answer_stream(alloc, &mut reader, &mut writer, eid, uuid);
+    let answered = stream::answer_stream(
+        alloc,
+        &mut reader,
+        &mut writer,
+        endpoint.eid,
+        endpoint.uuid,
+    );
     if writer.flush().is_err() {
         return Err(AnswerFault::Write);
     }
@@ -34,7 +40,7 @@ fn answer(rt: &HostRuntime, eid: u8, uuid: Uuid) -> Result<(), AnswerFault> {
 /// Does what the words ask for.
 fn run(rt: &HostRuntime, job: Job) -> io::Result<ExitCode> {
     let outcome = match job {
-        Job::Answer { eid, uuid } => answer(rt, eid, uuid),
+        Job::Answer(endpoint) => answer(rt, endpoint),
     };
     match outcome {
         Ok(()) => Ok(ExitCode::SUCCESS),

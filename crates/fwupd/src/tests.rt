@@ -2,6 +2,7 @@
 
 use crate::command_line::{Job, parse};
 use crate::stream::{AnswerFault, answer_stream};
+use mctp_ctl::Endpoint;
 use std::io::{self, Read, Write};
 use std::test::Fail;
 use uuid::Uuid;
@@ -276,23 +277,37 @@ fn help_and_version_go_to_standard_output(rt: HostRuntime) -> Result<(), Fail> {
     Ok(())
 }
 
+/// The endpoint that a command line names, if it is one of `answer`.
+fn endpoint_named(rt: &HostRuntime, line: &str) -> Result<Option<Endpoint>, Fail> {
+    let words = words_of(rt, line)?;
+    let Ok(Job::Answer(endpoint)) = parse(rt.alloc(), words.as_slice()) else {
+        return Ok(None);
+    };
+    Ok(Some(endpoint))
+}
+
 #[test]
 fn the_endpoint_is_the_one_of_the_words(rt: HostRuntime) -> Result<(), Fail> {
-    let uuid = "00112233-4455-6677-8899-aabbccddeeff";
-    let line = format!(in rt.alloc(); "fwupd answer 254 --uuid {uuid}")?;
-    match parse(rt.alloc(), words_of(&rt, &line)?.as_slice()) {
-        Ok(Job::Answer { eid, uuid: given }) => {
-            assert_eq!(rt; eid, 254);
-            assert_eq!(rt; given, Uuid::parse_str(uuid)?);
-        }
-        Err(_) => assert!(rt; false),
-    }
-    match parse(rt.alloc(), words_of(&rt, "fwupd answer 8")?.as_slice()) {
-        Ok(Job::Answer { eid, uuid: given }) => {
-            assert_eq!(rt; eid, 8);
-            assert_eq!(rt; given, Uuid::nil());
-        }
-        Err(_) => assert!(rt; false),
+    let table: [(&str, u8, u8); 3] = [
+        ("fwupd answer 8", 8, 0x00),
+        (
+            "fwupd answer 254 --uuid 00112233-4455-6677-8899-aabbccddeeff",
+            254,
+            0xFF,
+        ),
+        (
+            "fwupd answer --uuid 5f112233445566778899aabbccddeeA0 9",
+            9,
+            0xA0,
+        ),
+    ];
+    for (line, eid, last) in table {
+        let Some(endpoint) = endpoint_named(&rt, line)? else {
+            assert!(rt; false, "{line}");
+            continue;
+        };
+        assert_eq!(rt; endpoint.eid, eid, "{line}");
+        assert_eq!(rt; endpoint.uuid.as_bytes()[15], last, "{line}");
     }
     Ok(())
 }
