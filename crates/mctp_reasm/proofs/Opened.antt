@@ -1,0 +1,104 @@
+-- Lemmas on what is held.
+use Rattle.std.proofs.Common.{◌≡◌, ◌+◌, ◌*◌, ◌==◌, ◌≤◌, ◌∙◌, ℕ, zero, suc, Bool, false, List, [], ◌∷◌, ◌++◌, Some, length, drop, refl, sym, ap, arith, append_assoc, append-nil}
+use Rattle.std.proofs.lemmas.List.{length-drop, length-take-le, take-append-drop, take-append-le, drop-append-le, take_all}
+use Rattle.std.proofs.lemmas.Bool.{ne_eqb}
+use Rattle.mctp_wire.specs.declared.layout.Head.{Head}
+use Rattle.mctp_reasm.specs.Pieces.{PacketOf, Route, bodies, piece, route_of}
+use Rattle.mctp_reasm.specs.Held.{AreFirst, AreOpen, IsHeld, IsOfSame, held_of, opened, packets_of}
+
+-- so many are held
+pub opened_count : (count : ℕ) (r : Route) (n : ℕ) (bytes : List ℕ) → length (opened count r n bytes) ≡ count
+unfolding opened
+opened_count zero r n bytes = refl
+opened_count (suc count) r n bytes = ap suc (opened_count count r (n + 1) (drop 64 bytes))
+
+empty_of : (xs : List ℕ) → length xs ≡ 0 → xs ≡ []
+empty_of [] e = refl
+empty_of (x ∷ xs) e = absurd (omega (arith, e))
+
+-- one more piece is held
+pub opened_push : (count : ℕ) (r : Route) (n : ℕ) (xs body : List ℕ) → length xs ≡ 64 * count → length body ≡ 64 → opened (suc count) r n (xs ++ body) ≡ opened count r n xs ++ piece r (n + count) false body ∷ []
+unfolding opened
+opened_push zero r n xs body e f = let same : n + 0 ≡ n = omega arith in rw (empty_of xs e, take_all 64 body (omega arith), same) refl
+opened_push (suc count) r n xs body e f =
+    let again : opened (suc count) r (n + 1) (drop 64 xs ++ body) ≡ opened count r (n + 1) (drop 64 xs) ++ piece r (n + 1 + count) false body ∷ []
+    = opened_push count r (n + 1) (drop 64 xs) body (length-drop 64 xs ∙ omega arith) f in
+    let sum : n + suc count ≡ n + 1 + count = omega arith in
+    rw (take-append-le 64 xs body (omega arith), drop-append-le 64 xs body (omega arith), again, sum) refl
+
+piece_from : (d o t n : ℕ) (to som eom last : Bool) (seq : ℕ) (body : List ℕ) → som ≡ (n == 0) → seq ≡ n → eom ≡ last
+    → record { head = record { dest = d; source = o; som = som; eom = eom; seq = seq; to = to; tag = t }; body = body } ≡ piece (record { dest = d; source = o; to = to; tag = t }) n last body
+piece_from d o t n to som eom last seq body s q e = rw (s, q, e) refl
+
+pub piece_is : (p : PacketOf) (r : Route) (n : ℕ) (last : Bool) → r ≡ route_of p.head → p.head.som ≡ (n == 0) → p.head.seq ≡ n → p.head.eom ≡ last → p ≡ piece r n last p.body
+piece_is p r n last is s q e = rw is (piece_from p.head.dest p.head.source p.head.tag n p.head.to p.head.som p.head.eom last p.head.seq p.body s q e)
+
+-- what a buffer holds, as a list
+packets_held : (r : Route) (xs : List ℕ) (count age : ℕ) → packets_of (held_of r xs count age) ≡ opened count r 0 xs
+unfolding opened
+packets_held r xs zero age = refl
+packets_held r xs (suc count) age = rw (ne_eqb (suc count) 0 (λ e. absurd (omega (arith, e)))) refl
+
+-- one more packet of the same message is held
+more : (r : Route) (xs : List ℕ) (count : ℕ) (p : PacketOf) → length xs ≡ 64 * count → length p.body ≡ 64 → p.head.som ≡ (count == 0) → p.head.seq ≡ count → p.head.eom ≡ false
+    → IsOfSame (opened count r 0 xs) p.head → opened (suc count) (route_of p.head) 0 (xs ++ p.body) ≡ opened count r 0 xs ++ p ∷ []
+unfolding opened
+more r xs zero p e f som seq eom same =
+    opened_push zero (route_of p.head) 0 xs p.body e f ∙ ap (λ q. q ∷ []) (sym (piece_is p (route_of p.head) 0 false refl som seq eom))
+more r xs (suc count) p e f som seq eom same =
+    let is : r ≡ route_of p.head = same in
+    let sum : 0 + suc count ≡ suc count = omega arith in
+    let pushed : opened (suc (suc count)) r 0 (xs ++ p.body) ≡ opened (suc count) r 0 xs ++ piece r (suc count) false p.body ∷ []
+    = rw sum at (opened_push (suc count) r 0 xs p.body e f) in
+    ap (λ s. opened (suc (suc count)) s 0 (xs ++ p.body)) (sym is) ∙ (pushed ∙ ap (λ q. opened (suc count) r 0 xs ++ q ∷ []) (sym (piece_is p r (suc count) false is som seq eom)))
+
+pub held_more : (r : Route) (xs : List ℕ) (count age : ℕ) (p : PacketOf) → length xs ≡ 64 * count → length p.body ≡ 64 → p.head.som ≡ (count == 0) → p.head.seq ≡ count → p.head.eom ≡ false
+    → IsOfSame (packets_of (held_of r xs count age)) p.head
+    → held_of (route_of p.head) (xs ++ p.body) (count + 1) 0 ≡ Some (record { packets = packets_of (held_of r xs count age) ++ p ∷ []; age = 0 })
+held_more r xs count age p e f som seq eom same =
+    let next : count + 1 ≡ suc count = omega arith in
+    rw (ne_eqb (count + 1) 0 (λ e. absurd (omega (arith, e))), next, packets_held r xs count age)
+    (ap (λ ps. Some (record { packets = ps; age = 0 })) (more r xs count p e f som seq eom (rw (packets_held r xs count age) at same)))
+
+pub held_count : (r : Route) (xs : List ℕ) (count age : ℕ) → length (packets_of (held_of r xs count age)) ≡ count
+held_count r xs count age = rw (packets_held r xs count age) (opened_count count r 0 xs)
+
+bodies_append : (ps qs : List PacketOf) → bodies (ps ++ qs) ≡ bodies ps ++ bodies qs
+bodies_append [] qs = refl
+bodies_append (p ∷ ps) qs = rw (bodies_append ps qs, append_assoc p.body (bodies ps) (bodies qs)) refl
+
+opened_bodies : (count : ℕ) (r : Route) (n : ℕ) (xs : List ℕ) → length xs ≡ 64 * count → bodies (opened count r n xs) ≡ xs
+unfolding opened
+opened_bodies zero r n xs e = sym (empty_of xs e)
+opened_bodies (suc count) r n xs e =
+    rw (opened_bodies count r (n + 1) (drop 64 xs) (length-drop 64 xs ∙ omega arith)) (take-append-drop 64 xs)
+
+pub held_bodies : (r : Route) (xs : List ℕ) (count age : ℕ) (p : PacketOf) → length xs ≡ 64 * count → bodies (packets_of (held_of r xs count age) ++ p ∷ []) ≡ xs ++ p.body
+held_bodies r xs count age p e =
+    rw (packets_held r xs count age, bodies_append (opened count r 0 xs) (p ∷ []), opened_bodies count r 0 xs e, append-nil p.body) refl
+
+opened_open : (count : ℕ) (r : Route) (n : ℕ) (xs : List ℕ) → length xs ≡ 64 * count → AreOpen r n (opened count r n xs)
+unfolding opened
+opened_open zero r n xs e = tt
+opened_open (suc count) r n xs e =
+    (refl, length-take-le 64 xs (omega arith), opened_open count r (n + 1) (drop 64 xs) (length-drop 64 xs ∙ omega arith))
+
+opened_first : (count : ℕ) (r : Route) (xs : List ℕ) → length xs ≡ 64 * suc count → AreFirst (opened (suc count) r 0 xs)
+unfolding opened
+opened_first count r xs e = opened_open (suc count) r 0 xs e
+
+-- what the fields hold is a beginning of a message
+pub held_lawful : (r : Route) (xs : List ℕ) (count age : ℕ) → length xs ≡ 64 * count → count ≤ 4 → age ≤ 8 → IsHeld (held_of r xs count age)
+held_lawful r xs zero age e le young = tt
+held_lawful r xs (suc count) age e le young =
+    rw (ne_eqb (suc count) 0 (λ e. absurd (omega (arith, e)))) (opened_first count r xs e, rw (opened_count (suc count) r 0 xs) le, young)
+
+opened_same : (count : ℕ) (r : Route) (xs : List ℕ) (h : Head) → r ≡ route_of h → IsOfSame (opened count r 0 xs) h
+unfolding opened
+opened_same zero r xs h e = tt
+opened_same (suc count) r xs h e = e
+
+pub held_same : (r : Route) (xs : List ℕ) (count age : ℕ) (h : Head) → r ≡ route_of h → IsOfSame (packets_of (held_of r xs count age)) h
+held_same r xs count age h e = rw (packets_held r xs count age) (opened_same count r xs h e)
+
+pub ruleset held = (opened_count, held_count, held_more, held_bodies, held_lawful, held_same)

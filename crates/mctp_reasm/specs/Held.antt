@@ -1,0 +1,115 @@
+-- What an assembly holds, and what one more packet makes of it (DSP0236, section 8).
+use Rattle.std.specs.Prelude.{◌≡◌, ◌<◌, ◌≤◌, ℕ, zero, suc, ◌+◌, ◌%◌, ◌==◌, ◌&&◌, Bool, true, false, not, if◌then◌else◌, List, [], ◌∷◌, ◌++◌, length, take, drop, Option, Some, None}
+use Rattle.mctp_wire.specs.declared.layout.Head.{Head}
+use Rattle.mctp_reasm.specs.Pieces.{MessageOf, PacketOf, Route, bodies, piece, route_of}
+use Rattle.mctp_reasm.specs.declared.outcomes.DropCause.{DropCause}
+use Rattle.mctp_reasm.specs.declared.outcomes.DropCause.TheVariants as causes
+use Rattle.mctp_reasm.specs.declared.outcomes.Fed.{Fed}
+use Rattle.mctp_reasm.specs.declared.outcomes.Fed.TheVariants as outcomes
+
+-- the packets that are held, and the ticks since the last of them came
+pub record Held : Type 0 where
+  pub packets : List PacketOf
+  pub age : ℕ
+
+-- so many pieces of 64 bytes, from number n on, none of them the last
+unfoldable pub opened : ℕ → Route → ℕ → List ℕ → List PacketOf
+opened zero r n bytes = []
+opened (suc count) r n bytes = piece r n false (take 64 bytes) ∷ opened count r (n + 1) (drop 64 bytes)
+
+-- what a buffer of so many pieces holds
+abbrev pub held_of : Route → List ℕ → ℕ → ℕ → Option Held
+held_of r bytes count age = if count == 0 then None else Some (record { packets = opened count r 0 bytes; age = age })
+
+-- the packets that are held
+abbrev pub packets_of : Option Held → List PacketOf
+packets_of None = []
+packets_of (Some h) = h.packets
+
+-- the packets that a packet is put behind: none, where it starts a message
+abbrev pub base_of : Option Held → Head → List PacketOf
+base_of held h = if h.som then [] else packets_of held
+
+-- those, and the packet behind them
+abbrev pub joined : Option Held → PacketOf → List PacketOf
+joined held p = base_of held p.head ++ p ∷ []
+
+-- the message whose bytes are those of these packets
+abbrev pub message_of : Head → List PacketOf → MessageOf
+message_of h ps = record { dest = h.dest; source = h.source; to = h.to; tag = h.tag; bytes = bodies ps }
+
+-- a packet that isn't the last of its message has 64 bytes
+abbrev pub is_cut : PacketOf → Bool
+is_cut p = not p.head.eom && not (length p.body == 64)
+
+-- why a packet that starts a message is dropped: the first cause that holds
+abbrev pub start_cause : PacketOf → Option DropCause
+start_cause p =
+    if not (p.head.seq == 0) then Some causes.StartNumber
+    else if is_cut p then Some causes.«Unit»
+    else None
+
+-- why a packet that comes after so many of its message is dropped: the first cause that holds
+abbrev pub next_cause : ℕ → PacketOf → Option DropCause
+next_cause count p =
+    if not (p.head.seq == count % 4) then Some causes.Sequence
+    else if count == 4 then Some causes.FifthPacket
+    else if is_cut p then Some causes.«Unit»
+    else None
+
+-- why a packet that goes on with a message is dropped
+abbrev pub cause_in : Option Held → PacketOf → Option DropCause
+cause_in None p = Some causes.NoStart
+cause_in (Some h) p = next_cause (length h.packets) p
+
+-- why a packet is dropped, if it is
+abbrev pub cause_of : Option Held → PacketOf → Option DropCause
+cause_of held p = if p.head.som then start_cause p else cause_in held p
+
+-- a packet that isn't dropped makes its message whole where it is the last of it
+abbrev pub fed_as : Option DropCause → Bool → MessageOf → Fed
+fed_as (Some cause) last m = outcomes.Dropped cause
+fed_as None true m = outcomes.Whole m
+fed_as None false m = outcomes.Open
+
+-- it is held where its message goes on; in each other case nothing is
+abbrev pub held_as : Option DropCause → Bool → List PacketOf → Option Held
+held_as None false ps = Some (record { packets = ps; age = 0 })
+held_as _ last ps = None
+
+-- what comes of a packet
+abbrev pub fed : Option Held → PacketOf → Fed
+fed held p = fed_as (cause_of held p) p.head.eom (message_of p.head (joined held p))
+
+-- what is held after it
+abbrev pub held_after : Option Held → PacketOf → Option Held
+held_after held p = held_as (cause_of held p) p.head.eom (joined held p)
+
+-- a tick ages what is held; in the ninth after the last packet nothing is held any more
+abbrev pub held_tick : Option Held → Option Held
+held_tick None = None
+held_tick (Some h) = if h.age == 8 then None else Some (record h { age = h.age + 1 })
+
+-- the packet is of the message that is held
+abbrev pub IsOfSame : List PacketOf → Head → Type 0
+IsOfSame [] h = Unit {0}
+IsOfSame (q ∷ qs) h = route_of q.head ≡ route_of h
+
+-- the packet stands after these, by its number and its start flag
+abbrev pub Joins : List PacketOf → Head → Type 0
+Joins ps h = (length ps < 4) × (h.seq ≡ length ps) × (h.som ≡ (length ps == 0))
+
+-- pieces of one message from number n on, none of them the last
+abbrev pub AreOpen : Route → ℕ → List PacketOf → Type 0
+AreOpen r n [] = Unit {0}
+AreOpen r n (q ∷ qs) = (q ≡ piece r n false q.body) × (length q.body ≡ 64) × AreOpen r (n + 1) qs
+
+-- the first pieces of a message that goes on
+abbrev pub AreFirst : List PacketOf → Type 0
+AreFirst [] = ⊥
+AreFirst (q ∷ qs) = AreOpen (route_of q.head) 0 (q ∷ qs)
+
+-- what is true of each assembly
+abbrev pub IsHeld : Option Held → Type 0
+IsHeld None = Unit {0}
+IsHeld (Some h) = AreFirst h.packets × (length h.packets ≤ 4) × (h.age ≤ 8)

@@ -1,0 +1,62 @@
+-- Messages, and the packets that they are cut into (DSP0236, section 8).
+use Rattle.std.specs.Prelude.{◌≤◌, ℕ, zero, suc, ◌+◌, ◌==◌, nat_le, Bool, true, false, if◌then◌else◌, List, [], ◌∷◌, ◌++◌, length, take, drop}
+use Rattle.mctp_wire.specs.declared.layout.Head.{Head}
+use Rattle.mctp_wire.specs.Packet.{packet_bytes}
+
+-- a message between two endpoints
+pub record MessageOf : Type 0 where
+  pub dest : ℕ
+  pub source : ℕ
+  pub to : Bool
+  pub tag : ℕ
+  pub bytes : List ℕ
+
+-- a message has 1 to 256 bytes
+abbrev pub IsMessage : MessageOf → Type 0
+IsMessage m = (1 ≤ length m.bytes) × (length m.bytes ≤ 256)
+
+-- a packet: its head and its body
+pub record PacketOf : Type 0 where
+  pub head : Head
+  pub body : List ℕ
+
+abbrev pub packet_of : Head → List ℕ → PacketOf
+packet_of h body = record { head = h; body = body }
+
+-- what all packets of a message have in common
+pub record Route : Type 0 where
+  pub dest : ℕ
+  pub source : ℕ
+  pub to : Bool
+  pub tag : ℕ
+
+abbrev pub route_of : Head → Route
+route_of h = record { dest = h.dest; source = h.source; to = h.to; tag = h.tag }
+
+abbrev pub message_route : MessageOf → Route
+message_route m = record { dest = m.dest; source = m.source; to = m.to; tag = m.tag }
+
+-- Piece n of a message: SOM is set on the first, EOM on the last, and its number is n.
+abbrev pub piece : Route → ℕ → Bool → List ℕ → PacketOf
+piece r n last body =
+    record { head = record { dest = r.dest; source = r.source; som = n == 0; eom = last; seq = n; to = r.to; tag = r.tag }; body = body }
+
+-- at most so many pieces, from number n on: the bytes cut every 64
+unfoldable pub pieces_from : ℕ → Route → ℕ → List ℕ → List PacketOf
+pieces_from zero r n bytes = []
+pieces_from (suc most) r n bytes =
+    if nat_le (length bytes) 64 then piece r n true bytes ∷ []
+    else piece r n false (take 64 bytes) ∷ pieces_from most r (n + 1) (drop 64 bytes)
+
+-- the pieces of a message, one to four
+abbrev pub pieces : MessageOf → List PacketOf
+pieces m = pieces_from 4 (message_route m) 0 m.bytes
+
+-- a packet in its written spelling
+abbrev pub spelled : PacketOf → List ℕ
+spelled p = packet_bytes p.head p.body
+
+-- the bytes that packets carry, one after the other
+abbrev pub bodies : List PacketOf → List ℕ
+bodies [] = []
+bodies (p ∷ ps) = p.body ++ bodies ps

@@ -1,0 +1,14 @@
+//! Messages of MCTP (DSP0236, section 8): cut into packets, and put together again from the packets that come.
+#![tactic(auto)]
+
+mod assembly;
+mod cutting;
+mod laws;
+mod messages;
+mod outcomes;
+
+pub use assembly::Assembly;
+pub use cutting::split;
+pub use laws::{feeds_next, feeds_other, pieces_of_a_message};
+pub use messages::{MAX_MESSAGE, Message, MessageFault};
+pub use outcomes::{DropCause, Fed};

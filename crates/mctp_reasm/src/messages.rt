@@ -1,0 +1,165 @@
+//! Messages of 1 to 256 bytes.
+
+use arrayvec::ArrayVec;
+use std::marker::Model;
+use thiserror::Error;
+
+/// The most bytes of a message, its type byte included: four packets of 64 bytes.
+pub const MAX_MESSAGE: usize = 256;
+
+/// A message between two endpoints.
+#[derive(Debug, Drop)]
+pub struct Message {
+    pub(crate) dest: u8,
+    pub(crate) source: u8,
+    pub(crate) to: bool,
+    pub(crate) tag: u8,
+    pub(crate) bytes: ArrayVec<u8, MAX_MESSAGE>,
+}
+
+impl Model for Message {
+    ghost use Rattle.std.specs.Prelude.{◌≤◌, length};
+    ghost use Rattle.mctp_reasm.specs.Pieces.{MessageOf};
+
+    ghost Value = { MessageOf };
+
+    ghost view = { λ m. record { dest = m.dest; source = m.source; to = m.to; tag = m.tag; bytes = m.bytes.items } };
+
+    ghost invariant = { λ m. (m.tag ≤ 7) × (1 ≤ length m.bytes.items) × (length m.bytes.items ≤ 256) };
+}
+
+/// Why bytes are no message.
+#[derive(Clone, Copy, Debug, PartialEq, Eq, Error)]
+pub enum MessageFault {
+    /// There is no byte.
+    #[error("Empty")]
+    Empty,
+    /// There are more than 256 bytes.
+    #[error("TooLong")]
+    TooLong,
+}
+
+impl Message {
+    ghost use Rattle.std.specs.Prelude.{◌≡◌, ◌<◌, ◌≤◌, ◌↔◌, length, IfOk, IsErrOf};
+    ghost use Rattle.mctp_reasm.specs.Pieces.{IsMessage};
+
+    /// A message of these bytes, its type byte first, under a tag of 0 to 7. `to` is set where its sender owns the
+    /// tag, as that of a request does.
+    ///
+    /// # Errors
+    /// `Empty` for no byte and `TooLong` for more than 256.
+    pub fn new(
+        dest: u8,
+        source: u8,
+        to: bool,
+        tag: u8,
+        bytes: &[u8],
+    ) -> Result<Message, MessageFault>
+        requires { tag ≤ 7 }
+        ensures ok { IfOk result (λ m. m ≡ record { dest = dest; source = source; to = to; tag = tag; bytes = bytes.now }) }
+        ensures empty { IsErrOf result MessageFault.Empty ↔ (length bytes.now ≡ 0) }
+        ensures too_long { IsErrOf result MessageFault.TooLong ↔ (256 < length bytes.now) }
+    {
+        if bytes.is_empty() {
+            return Err(MessageFault::Empty);
+        }
+        let mut held = ArrayVec::new();
+        let Ok(()) = held.try_extend_from_slice(bytes) else {
+            return Err(MessageFault::TooLong);
+        };
+        Ok(Message {
+            dest,
+            source,
+            to,
+            tag,
+            bytes: held,
+        })
+    }
+
+    /// The endpoint that the message goes to.
+    pub fn dest(&self) -> u8
+        ensures { result ≡ self.now.dest }
+    {
+        self.dest
+    }
+
+    /// The endpoint that sent it.
+    pub fn source(&self) -> u8
+        ensures { result ≡ self.now.source }
+    {
+        self.source
+    }
+
+    /// Whether its sender owns the tag: set in a request, clear in an answer.
+    pub fn to(&self) -> bool
+        ensures { result ≡ self.now.to }
+    {
+        self.to
+    }
+
+    /// The tag, 0 to 7.
+    pub fn tag(&self) -> u8
+        ensures value { result ≡ self.now.tag }
+        ensures range { result ≤ 7 }
+    {
+        self.tag
+    }
+
+    /// The bytes, 1 to 256, the type byte first.
+    pub fn bytes(&self) -> &[u8]
+        ensures value { result.now ≡ self.now.bytes }
+        ensures lawful { IsMessage self.now }
+    {
+        self.bytes.as_slice()
+    }
+
+    /// The same message once more.
+    pub fn again(&self) -> Message
+        ensures { result ≡ self.now }
+    {
+        let mut bytes = ArrayVec::new();
+        let _ = bytes.try_extend_from_slice(self.bytes.as_slice());
+        Message {
+            dest: self.dest,
+            source: self.source,
+            to: self.to,
+            tag: self.tag,
+            bytes,
+        }
+    }
+}
+
+#[cfg(test)]
+mod tests {
+    use super::*;
+    use std::test::Fail;
+
+    #[test]
+    fn a_message_has_1_to_256_bytes(rt: HostRuntime) -> Result<(), Fail> {
+        let bytes = [0x5Au8; 257];
+        let Err(fault) = Message::new(9, 8, true, 3, &[]) else {
+            assert!(rt; false);
+            return Ok(());
+        };
+        assert_eq!(rt; fault, MessageFault::Empty);
+        let Err(fault) = Message::new(9, 8, true, 3, &bytes) else {
+            assert!(rt; false);
+            return Ok(());
+        };
+        assert_eq!(rt; fault, MessageFault::TooLong);
+        for size in [1, 256] {
+            let message = Message::new(9, 8, true, 3, &bytes[..size])?.again();
+            assert_eq!(rt; message.bytes().len(), size);
+            assert_eq!(rt;
+                (
+                    message.dest(),
+                    message.source(),
+                    message.to(),
+                    message.tag()
+                ),
+                (9, 8, true, 3)
+            );
+        }
+        Ok(())
+    }
+}
