@@ -1,1 +1,2 @@
 mod ByteSteps
+mod Walks

@@ -2,6 +2,9 @@
 #![tactic(auto)]
 
 mod crc;
+mod fault;
+mod layout;
 mod crc_table;
 
 pub use crc::crc32;
+pub use fault::{PackageFault, PlanFault};
