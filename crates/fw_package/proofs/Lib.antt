@@ -1,2 +1,3 @@
 mod ByteSteps
+mod Lists
 mod Walks

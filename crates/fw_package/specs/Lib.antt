@@ -1,2 +1,4 @@
 pub mod Crc
 pub mod Layout
+pub mod Package
+pub mod Records

@@ -1,5 +1,8 @@
 //! Why bytes are no package, and why a record can't be planned.
 
+ghost use Rattle.std.specs.Prelude.{◌≡◌};
+
+use std::alloc::AllocError;
 use thiserror::Error;
 
 /// Why bytes are no package: the first of these, in this order, that holds.
@@ -32,6 +35,16 @@ pub enum PackageFault {
     /// Memory was refused.
     #[error("Memory")]
     Memory,
+}
+
+impl From<AllocError> for PackageFault {
+    ghost use Rattle.fw_package.specs.declared.fault.PackageFault.TheVariants.{Memory};
+
+    ghost from_gives = { λ _ fault. fault ≡ Memory };
+
+    fn from(_: AllocError) -> PackageFault {
+        PackageFault::Memory
+    }
 }
 
 /// Why a record can't be planned: the first of these, in this order, that holds.

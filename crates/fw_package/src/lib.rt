@@ -4,7 +4,10 @@
 mod crc;
 mod fault;
 mod layout;
+mod records;
+mod texts;
 mod crc_table;
 
 pub use crc::crc32;
 pub use fault::{PackageFault, PlanFault};
+pub use texts::{Descriptor, Text};
