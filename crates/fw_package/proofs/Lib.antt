@@ -1,3 +1,4 @@
 mod ByteSteps
+mod Images
 mod Lists
 mod Walks

@@ -3,8 +3,10 @@ use Rattle.std.proofs.Common.{◌≡◌, ℕ, zero, suc, ◌+◌, ◌-◌, ◌<�
 use Rattle.std.specs.Prelude.{filter}
 use Rattle.std.specs.List.{range_with_len}
 use Rattle.std.proofs.lemmas.List.Elements.{filter-append}
-use Rattle.fw_package.specs.Package.{DescriptorOf}
-use Rattle.fw_package.specs.Records.{◌>>=◌, descriptor_split, descriptors_split, is_named, named}
+use Rattle.fw_package.specs.Package.{DescriptorOf, RecordOf}
+use Rattle.fw_package.specs.Records.{◌>>=◌, descriptor_split, descriptors_split, is_named, named, record_of, records_of}
+use Rattle.fw_package.proofs.Walks.{record_there}
+use Rattle.byteorder.specs.Endian.{little_number}
 use Rattle.fw_package.specs.declared.fault.PackageFault.{PackageFault}
 
 -- a list that was read, after these that were read before it
@@ -64,5 +66,40 @@ named_more bitmap k e = ap (named bitmap) (add-one k) ∙ named_next true bitmap
 pub named_same : (bitmap : List ℕ) (k : ℕ) → is_named bitmap k ≡ false → named bitmap (k + 1) ≡ named bitmap k
 named_same bitmap k e = ap (named bitmap) (add-one k) ∙ named_next false bitmap k e ∙ append-nil (named bitmap k)
 
+-- a list that was read alone, after these that were read before it
+abbrev pub alone_after : {A : Type 0} → List A → Result (List A) PackageFault → Result (List A) PackageFault
+alone_after xs (Ok ys) = Ok (xs ++ ys)
+alone_after xs (Err e) = Err e
+
+pub one_alone : {A : Type 0} (xs : List A) (x : A) (r : Result (List A) PackageFault) → alone_after xs (r >>= (λ ys. Ok (x ∷ ys))) ≡ alone_after (xs ++ x ∷ []) r
+one_alone xs x (Ok ys) = ap (λ zs. Ok zs) (sym (append_assoc xs (x ∷ []) ys))
+one_alone xs x (Err e) = refl
+
+pub begin_alone : {A : Type 0} (r : Result (List A) PackageFault) → alone_after [] r ≡ r
+begin_alone (Ok p) = refl
+begin_alone (Err e) = refl
+
+pub records_begin : (size components count : ℕ) (bytes : List ℕ) → alone_after [] (records_of size components count bytes) ≡ records_of size components count bytes
+records_begin size components count bytes = begin_alone (records_of size components count bytes)
+
+pub records_next : (size components count i : ℕ) (bytes : List ℕ) (xs : List RecordOf) (r : RecordOf) → record_of size components (take (little_number 2 bytes) bytes) ≡ Ok r → i < count
+    → alone_after xs (records_of size components (count - i) bytes) ≡ alone_after (xs ++ r ∷ []) (records_of size components (count - (i + 1)) (drop (little_number 2 bytes) bytes))
+unfolding records_of
+records_next size components count i bytes xs r e lt =
+    let left : count - i ≡ suc (count - (i + 1)) = omega arith in
+    rw (left, e) (one_alone xs r (records_of size components (count - (i + 1)) (drop (little_number 2 bytes) bytes)))
+
+pub records_stop : (size components count i : ℕ) (bytes : List ℕ) (xs : List RecordOf) (e : PackageFault) → record_of size components (take (little_number 2 bytes) bytes) ≡ Err e → i < count
+    → alone_after xs (records_of size components (count - i) bytes) ≡ Err e
+unfolding records_of
+records_stop size components count i bytes xs e h lt =
+    let left : count - i ≡ suc (count - (i + 1)) = omega arith in
+    rw (left, h) refl
+
+pub records_done : (size components count i : ℕ) (bytes : List ℕ) (xs : List RecordOf) → count ≤ i → alone_after xs (records_of size components (count - i) bytes) ≡ Ok xs
+unfolding records_of
+records_done size components count i bytes xs le = let none : count - i ≡ 0 = omega arith in rw (none, append-nil xs) refl
+
+pub ruleset recording = (records_begin, records_next, records_stop, records_done, record_there)
 pub ruleset naming = (named_none, named_more, named_same)
 pub ruleset describing = (descriptors_begin, descriptors_step, descriptors_stop, descriptors_end)

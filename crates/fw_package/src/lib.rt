@@ -1,6 +1,7 @@
 //! Firmware update packages (DSP0267 1.0): reading one, and what it names for a device.
 #![tactic(auto)]
 
+mod components;
 mod crc;
 mod fault;
 mod layout;

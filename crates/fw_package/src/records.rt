@@ -1,9 +1,10 @@
 //! A device identification record: which devices a package is for, and which components they take.
 
-ghost use Rattle.std.specs.Prelude.{◌≡◌, ◌≢◌, ◌/◌, ◌<◌, ◌≤◌, length, IfOk, IfErr, Ok, Err};
+ghost use Rattle.std.specs.Prelude.{◌≡◌, ◌≢◌, ◌/◌, ◌<◌, ◌≤◌, length, IfOk, IfErr, IsSome, Ok, Err};
 ghost use Rattle.std.specs.Result.{result_map_both};
 ghost use Rattle.fw_package.specs.Package.{descriptor_of};
-ghost use Rattle.fw_package.specs.Records.{descriptor_split, descriptors_split, is_named, named, record_of, split_after};
+ghost use Rattle.fw_package.specs.Records.{descriptor_split, descriptors_split, is_named, named, record_of, records_of, split_after};
+ghost use Rattle.fw_package.specs.Layout.{after_records};
 
 use crate::fault::PackageFault;
 use crate::texts::{Descriptor, OwnDescriptor, OwnText, Text};
@@ -88,6 +89,36 @@ impl Record {
             uses: named(alloc, bitmap, component_count)?,
         })
     }
+}
+
+/// Reads so many records, one after the other.
+///
+/// # Errors
+/// `RecordLength` where the parts of one don't make up its length, and `Memory`.
+#[tactic(auto, using(crate::proofs::Lists::recording))]
+pub fn read_records(
+    alloc: Global,
+    bytes: &[u8],
+    count: usize,
+    bitmap_size: usize,
+    component_count: u16,
+) -> Result<Vec<Record>, PackageFault>
+    requires { IsSome (after_records count bytes.now) }
+    ensures ok { IfOk result (λ v. records_of bitmap_size component_count count bytes.now ≡ Ok v.items) }
+    ensures err { IfErr result (λ e. e ≢ PackageFault.Memory → records_of bitmap_size component_count count bytes.now ≡ Err e) }
+{
+    let mut read = Vec::new(alloc);
+    let mut rest = bytes;
+    for _record in 0..count {
+        let size = usize::from(LittleEndian::read_u16(rest));
+        let (piece, after) = rest.split_at(size);
+        let record = Record::read(alloc, piece, bitmap_size, component_count)?;
+        let Ok(()) = read.push(record) else {
+            return Err(PackageFault::Memory);
+        };
+        rest = after;
+    }
+    Ok(read)
 }
 
 /// The first `size` bytes, and what stands after them.
