@@ -1,6 +1,6 @@
 //! Where the parts of a header stand (DSP0267 1.0, package header information).
 
-ghost use Rattle.std.specs.Prelude.{◌≡◌, ◌+◌, ◌≤◌, ◌<◌, length};
+ghost use Rattle.std.specs.Prelude.{◌≡◌, ◌+◌, ◌≤◌, ◌<◌, length, IfSome, IsSome};
 ghost use Rattle.std.specs.Option.{option_map};
 ghost use Rattle.fw_package.specs.Layout.{after, after_component, after_components, after_record, after_records, layout_of, layout_seen, text_size_of};
 
@@ -45,7 +45,7 @@ pub struct Layout<'a> {
     /// The header from its first record on.
     pub records: &'a [u8],
     /// The number of components.
-    pub component_count: usize,
+    pub component_count: u16,
     /// The header from its first component on.
     pub components: &'a [u8],
 }
@@ -55,7 +55,10 @@ pub struct Layout<'a> {
 /// checksum's four bytes is left.
 #[tactic(auto, unfolding(crate::specs::Layout::layout_of))]
 pub fn walk(header: &[u8]) -> Option<Layout<'_>>
-    ensures { option_map layout_seen result ≡ layout_of header.now }
+    ensures parts { option_map layout_seen result ≡ layout_of header.now }
+    ensures records { IfSome result (λ l. IsSome (after_records l.record_count l.records.now)) }
+    ensures components { IfSome result (λ l. IsSome (after_components l.component_count l.components.now)) }
+    ensures long { IfSome result (λ l. FIXED_SIZE ≤ length header.now) }
 {
     let rest = skip(header, FIXED_SIZE + text_size(header, VERSION_LENGTH))?;
     let [record_count, records @ ..] = rest else {
@@ -64,8 +67,8 @@ pub fn walk(header: &[u8]) -> Option<Layout<'_>>
     let record_count = usize::from(*record_count);
     let rest = skip_records(records, record_count)?;
     let components = skip(rest, COUNT_SIZE)?;
-    let component_count = usize::from(LittleEndian::read_u16(rest));
-    let rest = skip_components(components, component_count)?;
+    let component_count = LittleEndian::read_u16(rest);
+    let rest = skip_components(components, usize::from(component_count))?;
     if rest.len() != CHECKSUM_SIZE {
         return None;
     }

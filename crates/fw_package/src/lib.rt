@@ -5,10 +5,12 @@ mod components;
 mod crc;
 mod fault;
 mod layout;
+mod packages;
 mod records;
 mod texts;
 mod crc_table;
 
 pub use crc::crc32;
 pub use fault::{PackageFault, PlanFault};
+pub use packages::Package;
 pub use texts::{Descriptor, Text};
