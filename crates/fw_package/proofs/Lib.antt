@@ -1,4 +1,5 @@
 mod ByteSteps
 mod Images
 mod Lists
+mod Uses
 mod Walks

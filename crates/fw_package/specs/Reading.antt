@@ -51,9 +51,11 @@ package_of bytes = do
   Ok (record { header_size = length header; records = records; components = components })
 
 -- the components that a record uses are rising, and there
-abbrev pub IsUsing : ℕ → RecordOf → Type 0
-IsUsing count r = IsStrictlyIncreasing r.uses × All (λ k. k < count) r.uses
+pub record IsUsing (count : ℕ) (r : RecordOf) : Type 0 where
+  pub rising : IsStrictlyIncreasing r.uses
+  pub there : All (λ k. k < count) r.uses
 
 -- images are parts of the file, and records use components that are there
-abbrev pub IsStored : List ℕ → List RecordOf → List PlaceOf → Type 0
-IsStored file records places = All (IsWithin file) places × All (IsUsing (length places)) records
+pub record IsStored (file : List ℕ) (records : List RecordOf) (places : List PlaceOf) : Type 0 where
+  pub within : All (IsWithin file) places
+  pub using : All (IsUsing (length places)) records
