@@ -1,3 +1,4 @@
+pub mod Choice
 pub mod Components
 pub mod Crc
 pub mod Layout

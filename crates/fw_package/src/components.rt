@@ -3,6 +3,7 @@
 ghost use Rattle.std.specs.Prelude.{◌≡◌, ◌≢◌, ◌+◌, ◌<◌, ◌≤◌, All, map, length, IfOk, IfErr, IsSome, Ok, Err};
 ghost use Rattle.fw_package.specs.Components.{IsWithin, component_of, components_of, placed};
 ghost use Rattle.fw_package.specs.Layout.{after_component, after_components, text_size_of};
+ghost use Rattle.fw_package.specs.Package.{text_of};
 
 use crate::fault::PackageFault;
 use crate::layout::{COMPONENT_SIZE, COMPONENT_TEXT_LENGTH};
@@ -79,6 +80,55 @@ impl Component {
             size,
             text: OwnText::copy(alloc, text)?,
         })
+    }
+
+    /// The classification, the first part of the key.
+    pub fn classification(&self) -> u16
+        ensures { result ≡ self.now.classification }
+    {
+        self.classification
+    }
+
+    /// The identifier, the second part of the key.
+    pub fn identifier(&self) -> u16
+        ensures { result ≡ self.now.identifier }
+    {
+        self.identifier
+    }
+
+    /// The comparison stamp.
+    pub fn stamp(&self) -> u32
+        ensures { result ≡ self.now.stamp }
+    {
+        self.stamp
+    }
+
+    /// The options: bit 0 forces the update, bit 1 uses the stamp.
+    pub fn options(&self) -> u16
+        ensures { result ≡ self.now.options }
+    {
+        self.options
+    }
+
+    /// Where the image stands, in bytes from the file's start.
+    pub fn offset(&self) -> usize
+        ensures { result ≡ self.now.offset }
+    {
+        self.offset
+    }
+
+    /// The bytes of the image.
+    pub fn size(&self) -> usize
+        ensures { result ≡ self.now.size }
+    {
+        self.size
+    }
+
+    /// The version text.
+    pub fn text(&self) -> Text<'_>
+        ensures { text_of result ≡ self.now.text }
+    {
+        self.text.lend()
     }
 }
 

@@ -6,6 +6,7 @@ mod crc;
 mod fault;
 mod layout;
 mod packages;
+mod reading;
 mod records;
 mod texts;
 mod crc_table;

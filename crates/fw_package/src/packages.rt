@@ -1,29 +1,19 @@
 //! A package, and reading one.
 
-ghost use Rattle.std.specs.Prelude.{◌≡◌, ◌≢◌, ◌<◌, ◌≤◌, length, IfOk, IfErr, Err};
-ghost use Rattle.std.specs.Result.{result_map_both};
-ghost use Rattle.byteorder.specs.Endian.{little_number};
-ghost use Rattle.fw_package.specs.Reading.{bitmap_size_of, checked, header_of, package_of};
+ghost use Rattle.std.specs.Prelude.{◌≡◌, ◌≢◌, ◌<◌, ◌≤◌, length, map, slice_index_or, IfOk, IfErr, IfSome, Err};
+ghost use Rattle.fw_package.specs.Choice.{component_at, no_descriptor, record_at, record_number};
+ghost use Rattle.fw_package.specs.Package.{descriptor_of, text_of};
+ghost use Rattle.fw_package.specs.Reading.{package_of};
 
 use crate::components::{Component, read_components};
-use crate::crc::crc32;
 use crate::fault::PackageFault;
-use crate::layout::{BITMAP_BITS, CHECKSUM_SIZE, FIXED_SIZE, HEADER_SIZE, REVISION, walk};
+use crate::layout::{BITMAP_BITS, walk};
+use crate::reading::{bitmap_size, check, header};
 use crate::records::{Record, read_records};
+use crate::texts::{Descriptor, Text};
 use byteorder::{ByteOrder, LittleEndian};
 use std::alloc::Global;
 use std::marker::Model;
-
-/// The package header identifier of revision 1, F018878C-CB7D-4943-9800-A02F059ACA02.
-const PACKAGE_IDENTIFIER: [u8; 16] = [
-    0xF0, 0x18, 0x87, 0x8C, 0xCB, 0x7D, 0x49, 0x43, 0x98, 0x00, 0xA0, 0x2F, 0x05, 0x9A, 0xCA, 0x02,
-];
-
-/// The header revision that this is.
-const HEADER_REVISION: u8 = 1;
-
-/// The bits of a byte of a bitmap.
-const BYTE_BITS: usize = 8;
 
 /// A firmware update package.
 #[derive(Debug, Drop)]
@@ -89,49 +79,152 @@ impl Package {
             file,
         })
     }
-}
 
-/// The header of a package.
-#[tactic(auto, unfolding(crate::specs::Reading::header_of))]
-fn header(bytes: &[u8]) -> Result<&[u8], PackageFault>
-    ensures { result_map_both (λ h. h.now) (λ e. e) result ≡ header_of bytes.now }
-{
-    if bytes.len() < FIXED_SIZE {
-        return Err(PackageFault::Short);
+    /// The bytes of the header.
+    pub fn header_size(&self) -> usize
+        ensures { result ≡ self.now.header_size }
+    {
+        self.header_size
     }
-    if !bytes.starts_with(&PACKAGE_IDENTIFIER) {
-        return Err(PackageFault::Identifier);
-    }
-    if bytes[REVISION] != HEADER_REVISION {
-        return Err(PackageFault::Revision);
-    }
-    let size = usize::from(LittleEndian::read_u16(&bytes[HEADER_SIZE..]));
-    if bytes.len() < size {
-        return Err(PackageFault::HeaderSize);
-    }
-    Ok(&bytes[..size])
-}
 
-/// The bytes of a bitmap of so many bits, for so many components.
-#[tactic(auto, unfolding(crate::specs::Reading::bitmap_size_of))]
-fn bitmap_size(bits: usize, component_count: u16) -> Result<usize, PackageFault>
-    ensures { result ≡ bitmap_size_of bits component_count }
-{
-    if bits == 0 || bits % BYTE_BITS != 0 || bits < usize::from(component_count) {
-        return Err(PackageFault::BitmapLength);
+    /// The number of records.
+    pub fn record_count(&self) -> usize
+        ensures { result ≡ length self.now.records }
+    {
+        self.records.len()
     }
-    Ok(bits / BYTE_BITS)
-}
 
-/// Compares the checksum, with which a header ends, with that of the bytes before it.
-#[tactic(auto, unfolding(crate::specs::Reading::checked))]
-fn check(header: &[u8]) -> Result<&[u8], PackageFault>
-    requires { FIXED_SIZE ≤ length header.now }
-    ensures { result_map_both (λ h. h.now) (λ e. e) result ≡ checked header.now }
-{
-    let (before, checksum) = header.split_at(header.len() - CHECKSUM_SIZE);
-    if crc32(before) != LittleEndian::read_u32(checksum) {
-        return Err(PackageFault::Checksum);
+    /// The number of components.
+    pub fn component_count(&self) -> usize
+        ensures { result ≡ length self.now.components }
+    {
+        self.components.len()
     }
-    Ok(before)
+
+    /// The update option flags of a record.
+    pub fn flags(&self, number: usize) -> u32
+        requires { number < length self.now.records }
+        ensures { result ≡ (record_at self.now number).flags }
+    {
+        self.records[number].flags()
+    }
+
+    /// The component image set version text of a record.
+    pub fn set_text(&self, number: usize) -> Text<'_>
+        requires { number < length self.now.records }
+        ensures { text_of result ≡ (record_at self.now number).set_text }
+    {
+        self.records[number].set_text()
+    }
+
+    /// The number of descriptors of a record.
+    pub fn descriptor_count(&self, number: usize) -> usize
+        requires { number < length self.now.records }
+        ensures { result ≡ length (record_at self.now number).descriptors }
+    {
+        self.records[number].descriptor_count()
+    }
+
+    /// A descriptor of a record.
+    pub fn descriptor(&self, number: usize, place: usize) -> Descriptor<'_>
+        requires there { number < length self.now.records }
+        requires place { place < length (record_at self.now number).descriptors }
+        ensures { descriptor_of result ≡ slice_index_or (record_at self.now number).descriptors place no_descriptor }
+    {
+        self.records[number].descriptor(place)
+    }
+
+    /// The number of components that a record uses.
+    pub fn use_count(&self, number: usize) -> usize
+        requires { number < length self.now.records }
+        ensures { result ≡ length (record_at self.now number).uses }
+    {
+        self.records[number].uses().len()
+    }
+
+    /// The number of a component that a record uses, by its place among these.
+    pub fn use_at(&self, number: usize, place: usize) -> usize
+        requires there { number < length self.now.records }
+        requires place { place < length (record_at self.now number).uses }
+        ensures number { result ≡ slice_index_or (record_at self.now number).uses place 0 }
+        ensures component { result < length self.now.components }
+    {
+        usize::from(self.records[number].uses()[place])
+    }
+
+    /// The classification of a component, the first part of its key.
+    pub fn classification(&self, component: usize) -> u16
+        requires { component < length self.now.components }
+        ensures { result ≡ (component_at self.now component).classification }
+    {
+        self.components[component].classification()
+    }
+
+    /// The identifier of a component, the second part of its key.
+    pub fn identifier(&self, component: usize) -> u16
+        requires { component < length self.now.components }
+        ensures { result ≡ (component_at self.now component).identifier }
+    {
+        self.components[component].identifier()
+    }
+
+    /// The comparison stamp of a component.
+    pub fn stamp(&self, component: usize) -> u32
+        requires { component < length self.now.components }
+        ensures { result ≡ (component_at self.now component).stamp }
+    {
+        self.components[component].stamp()
+    }
+
+    /// The options of a component: bit 0 forces the update, bit 1 uses the stamp.
+    pub fn options(&self, component: usize) -> u16
+        requires { component < length self.now.components }
+        ensures { result ≡ (component_at self.now component).options }
+    {
+        self.components[component].options()
+    }
+
+    /// Where a component's image stands, in bytes from the package's start.
+    pub fn offset(&self, component: usize) -> usize
+        requires { component < length self.now.components }
+        ensures { result ≡ (component_at self.now component).offset }
+    {
+        self.components[component].offset()
+    }
+
+    /// The bytes of a component's image.
+    pub fn size(&self, component: usize) -> usize
+        requires { component < length self.now.components }
+        ensures { result ≡ length (component_at self.now component).image }
+    {
+        self.components[component].size()
+    }
+
+    /// The version text of a component.
+    pub fn text(&self, component: usize) -> Text<'_>
+        requires { component < length self.now.components }
+        ensures { text_of result ≡ (component_at self.now component).text }
+    {
+        self.components[component].text()
+    }
+
+    /// The image of a component.
+    pub fn image(&self, component: usize) -> &[u8]
+        requires { component < length self.now.components }
+        ensures { result.now ≡ (component_at self.now component).image }
+    {
+        let place = &self.components[component];
+        &self.file[place.offset()..place.offset() + place.size()]
+    }
+
+    /// The number of the first record that is for the device with these descriptors: it has a descriptor, and
+    /// each of its descriptors is, type and data, one of the device's.
+    pub fn record_for(&self, descriptors: &[Descriptor<'_>]) -> Option<usize>
+        ensures number { result ≡ record_number self.now (map descriptor_of descriptors.now) }
+        ensures there { IfSome result (λ n. n < length self.now.records) }
+    {
+        self.records
+            .iter()
+            .position(|record| record.is_for(descriptors))
+    }
 }

@@ -1,8 +1,10 @@
 //! A device identification record: which devices a package is for, and which components they take.
 
-ghost use Rattle.std.specs.Prelude.{◌≡◌, ◌≢◌, ◌/◌, ◌<◌, ◌≤◌, length, IfOk, IfErr, IsSome, Ok, Err};
+ghost use Rattle.std.specs.Prelude.{◌≡◌, ◌≢◌, ◌/◌, ◌<◌, ◌≤◌, length, map, slice_index_or, IfOk, IfErr, IsSome, Ok, Err};
+ghost use Rattle.std.specs.List.{list_all};
 ghost use Rattle.std.specs.Result.{result_map_both};
-ghost use Rattle.fw_package.specs.Package.{descriptor_of};
+ghost use Rattle.fw_package.specs.Choice.{is_among, is_for, no_descriptor};
+ghost use Rattle.fw_package.specs.Package.{descriptor_of, text_of};
 ghost use Rattle.fw_package.specs.Records.{descriptor_split, descriptors_split, is_named, named, record_of, records_of, split_after};
 ghost use Rattle.fw_package.specs.Layout.{after_records};
 
@@ -89,6 +91,62 @@ impl Record {
             uses: named(alloc, bitmap, component_count)?,
         })
     }
+
+    /// The update option flags.
+    pub fn flags(&self) -> u32
+        ensures { result ≡ self.now.flags }
+    {
+        self.flags
+    }
+
+    /// The component image set version text.
+    pub fn set_text(&self) -> Text<'_>
+        ensures { text_of result ≡ self.now.set_text }
+    {
+        self.set_text.lend()
+    }
+
+    /// The number of descriptors.
+    pub fn descriptor_count(&self) -> usize
+        ensures { result ≡ length self.now.descriptors }
+    {
+        self.descriptors.len()
+    }
+
+    /// A descriptor.
+    pub fn descriptor(&self, place: usize) -> Descriptor<'_>
+        requires { place < length self.now.descriptors }
+        ensures { descriptor_of result ≡ slice_index_or self.now.descriptors place no_descriptor }
+    {
+        self.descriptors[place].lend()
+    }
+
+    /// The numbers of the components that the record uses.
+    pub fn uses(&self) -> &[u16]
+        ensures { result.now ≡ self.now.uses }
+    {
+        self.uses.as_slice()
+    }
+
+    /// Whether the record is for the device with these descriptors: it has a descriptor, and all of its
+    /// descriptors are the device's.
+    pub fn is_for(&self, device: &[Descriptor<'_>]) -> bool
+        ensures { result ≡ is_for (map descriptor_of device.now) self.now }
+    {
+        !self.descriptors.is_empty() && are_among(self.descriptors.as_slice(), device)
+    }
+}
+
+/// Whether all of these descriptors are the device's.
+fn are_among(descriptors: &[OwnDescriptor], device: &[Descriptor<'_>]) -> bool
+    ensures { result ≡ list_all (is_among (map descriptor_of device.now)) descriptors.now }
+{
+    for descriptor in descriptors {
+        if !descriptor.is_among(device) {
+            return false;
+        }
+    }
+    true
 }
 
 /// Reads so many records, one after the other.

@@ -1,6 +1,7 @@
 //! Texts and descriptors, lent and owned.
 
-ghost use Rattle.std.specs.Prelude.{◌≡◌, IfOk};
+ghost use Rattle.std.specs.Prelude.{◌≡◌, map, IfOk};
+ghost use Rattle.fw_package.specs.Choice.{is_among, same_descriptor};
 ghost use Rattle.fw_package.specs.Package.{descriptor_of, text_of};
 
 use std::alloc::{AllocError, Global};
@@ -105,5 +106,24 @@ impl OwnDescriptor {
             kind: self.kind,
             bytes: self.bytes.as_slice(),
         }
+    }
+
+    /// Whether this is one of the device's descriptors.
+    pub fn is_among(&self, device: &[Descriptor<'_>]) -> bool
+        ensures { result ≡ is_among (map descriptor_of device.now) self.now }
+    {
+        for other in device {
+            if self.is(other) {
+                return true;
+            }
+        }
+        false
+    }
+
+    /// Whether this has the same type and the same data.
+    fn is(&self, other: &Descriptor<'_>) -> bool
+        ensures { result ≡ same_descriptor self.now (descriptor_of other.now) }
+    {
+        self.kind == other.kind && self.bytes.as_slice() == other.bytes
     }
 }
