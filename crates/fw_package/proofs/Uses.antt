@@ -9,8 +9,8 @@ use Rattle.std.proofs.lemmas.List.{length-map}
 use Rattle.std.proofs.lemmas.Result.{IfOk-at_ok}
 use Rattle.byteorder.specs.Endian.{little_number}
 use Rattle.fw_package.specs.Components.{PlaceOf, component_of, components_of, placed}
-use Rattle.fw_package.specs.Package.{ComponentOf, DescriptorOf, RecordOf}
-use Rattle.fw_package.specs.Reading.{IsUsing}
+use Rattle.fw_package.specs.Package.{ComponentOf, DescriptorOf, PackageText, RecordOf}
+use Rattle.fw_package.specs.Reading.{IsStored, IsUsing}
 use Rattle.fw_package.specs.Records.{◌>>=◌, descriptors_split, is_named, named, record_of, records_of, split_after}
 use Rattle.fw_package.specs.declared.fault.PackageFault.{PackageFault}
 
@@ -75,3 +75,12 @@ stored_using size count n file bytes below rs places re ce =
     let all : length (map (placed file) places) ≡ count = IfOk-at_ok (λ cs. length cs ≡ count) ce (length-components_of file count below) in
     let same : count ≡ length places = sym all ∙ simp length-map in
     subst (λ n. All (IsUsing n) rs) same (IfOk-at_ok (All (IsUsing count)) re (records_using size count n bytes))
+
+-- what is known of a record of a package
+pub using_at : (file : List ℕ) (rs : List RecordOf) (places : List PlaceOf) (size : ℕ) (p : PackageText) (number : ℕ) (r : RecordOf) → IsStored file rs places
+    → record { header_size = size; records = rs; components = map (placed file) places } ≡ p → number < length p.records → r ≡ get_or rs number r → IsUsing (length p.components) r
+using_at file rs places size p number r stored is lt at =
+    let same : rs ≡ p.records = ap (λ q. q.records) is in
+    let all : length places ≡ length p.components = sym (length-map places (placed file)) ∙ ap (λ q. length q.components) is in
+    let within : number < length rs = rw same lt in
+    subst (λ n. IsUsing n r) all (subst (IsUsing (length places)) (sym at) (stored.using number r within))

@@ -1,19 +1,28 @@
 //! A package, and reading one.
 
-ghost use Rattle.std.specs.Prelude.{◌≡◌, ◌≢◌, ◌<◌, ◌≤◌, length, map, slice_index_or, IfOk, IfErr, IfSome, Err};
-ghost use Rattle.fw_package.specs.Choice.{component_at, no_descriptor, record_at, record_number};
+ghost use Rattle.std.specs.Prelude.{◌≡◌, ◌≢◌, ◌<◌, ◌≤◌, length, map, slice_index_or, IfOk, IfErr, IfSome, Err, All};
+ghost use Rattle.std.specs.List.{list_any};
+ghost use Rattle.std.specs.List.Sorted.{IsStrictlyIncreasing};
+ghost use Rattle.fw_package.specs.Choice.{component_at, has_key, has_large_image, has_long_text, has_twin, no_descriptor, plan_of, record_at, record_number};
 ghost use Rattle.fw_package.specs.Package.{descriptor_of, text_of};
 ghost use Rattle.fw_package.specs.Reading.{package_of};
 
 use crate::components::{Component, read_components};
-use crate::fault::PackageFault;
+use crate::fault::{PackageFault, PlanFault};
 use crate::layout::{BITMAP_BITS, walk};
+use crate::plans::{PLAN_LIMIT, Plan};
 use crate::reading::{bitmap_size, check, header};
 use crate::records::{Record, read_records};
 use crate::texts::{Descriptor, Text};
 use byteorder::{ByteOrder, LittleEndian};
 use std::alloc::Global;
 use std::marker::Model;
+
+/// The most bytes of an image that a device takes.
+const IMAGE_LIMIT: usize = 1_048_576;
+
+/// The most bytes of a text that a message carries.
+const TEXT_LIMIT: usize = 200;
 
 /// A firmware update package.
 #[derive(Debug, Drop)]
@@ -139,7 +148,7 @@ impl Package {
         requires { number < length self.now.records }
         ensures { result ≡ length (record_at self.now number).uses }
     {
-        self.records[number].uses().len()
+        self.uses(number).len()
     }
 
     /// The number of a component that a record uses, by its place among these.
@@ -149,7 +158,7 @@ impl Package {
         ensures number { result ≡ slice_index_or (record_at self.now number).uses place 0 }
         ensures component { result < length self.now.components }
     {
-        usize::from(self.records[number].uses()[place])
+        usize::from(self.uses(number)[place])
     }
 
     /// The classification of a component, the first part of its key.
@@ -226,5 +235,101 @@ impl Package {
         self.records
             .iter()
             .position(|record| record.is_for(descriptors))
+    }
+
+    /// The components that a device is offered for a record: those that the record uses.
+    ///
+    /// # Errors
+    /// The first fault that holds.
+    #[tactic(auto, unfolding(crate::specs::Choice::plan_of))]
+    pub fn plan(&self, number: usize) -> Result<Plan, PlanFault>
+        requires { number < length self.now.records }
+        ensures value { result ≡ plan_of self.now number }
+        ensures rising { IfOk result (λ numbers. IsStrictlyIncreasing numbers) }
+        ensures there { IfOk result (λ numbers. All (λ n. n < length self.now.components) numbers) }
+    {
+        let uses = self.uses(number);
+        if self.has_twin(uses) {
+            return Err(PlanFault::DuplicateComponent);
+        }
+        if uses.len() > PLAN_LIMIT {
+            return Err(PlanFault::TooManyComponents);
+        }
+        if self.has_large_image(uses) {
+            return Err(PlanFault::ImageTooLarge);
+        }
+        if self.set_text(number).bytes.len() > TEXT_LIMIT || self.has_long_text(uses) {
+            return Err(PlanFault::TextTooLong);
+        }
+        Ok(Plan::new(uses))
+    }
+
+    /// The numbers of the components that a record uses.
+    fn uses(&self, number: usize) -> &[u16]
+        requires { number < length self.now.records }
+        ensures numbers { result.now ≡ (record_at self.now number).uses }
+        ensures rising { IsStrictlyIncreasing result.now }
+        ensures there { All (λ n. n < length self.now.components) result.now }
+    {
+        self.records[number].uses()
+    }
+
+    /// Whether two of these components have the same key.
+    #[tactic(auto, unfolding(crate::specs::Choice::has_twin))]
+    fn has_twin(&self, uses: &[u16]) -> bool
+        requires { All (λ n. n < length self.now.components) uses.now }
+        ensures { result ≡ has_twin self.now uses.now }
+    {
+        let mut rest = uses;
+        while let [number, others @ ..] = rest {
+            if self.has_key_of(usize::from(*number), others) {
+                return true;
+            }
+            rest = others;
+        }
+        false
+    }
+
+    /// Whether one of these components has the key of that of this number.
+    fn has_key_of(&self, number: usize, uses: &[u16]) -> bool
+        requires number { number < length self.now.components }
+        requires uses { All (λ n. n < length self.now.components) uses.now }
+        ensures { result ≡ list_any (λ m. has_key (component_at self.now number).classification (component_at self.now number).identifier (component_at self.now m)) uses.now }
+    {
+        for other in uses {
+            let other = usize::from(*other);
+            if self.classification(other) == self.classification(number)
+                && self.identifier(other) == self.identifier(number)
+            {
+                return true;
+            }
+        }
+        false
+    }
+
+    /// Whether one of these components has an image that is larger than a device takes.
+    fn has_large_image(&self, uses: &[u16]) -> bool
+        requires { All (λ n. n < length self.now.components) uses.now }
+        ensures { result ≡ has_large_image self.now uses.now }
+    {
+        for number in uses {
+            if self.size(usize::from(*number)) > IMAGE_LIMIT {
+                return true;
+            }
+        }
+        false
+    }
+
+    /// Whether one of these components has a version text that is longer than a message carries.
+    fn has_long_text(&self, uses: &[u16]) -> bool
+        requires { All (λ n. n < length self.now.components) uses.now }
+        ensures { result ≡ has_long_text self.now uses.now }
+    {
+        for number in uses {
+            if self.text(usize::from(*number)).bytes.len() > TEXT_LIMIT {
+                return true;
+            }
+        }
+        false
     }
 }
