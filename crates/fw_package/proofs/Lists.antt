@@ -101,5 +101,7 @@ unfolding records_of
 records_done size components count i bytes xs le = let none : count - i ≡ 0 = omega arith in rw (none, append-nil xs) refl
 
 pub ruleset recording = (records_begin, records_next, records_stop, records_done, record_there)
+
 pub ruleset naming = (named_none, named_more, named_same)
+
 pub ruleset describing = (descriptors_begin, descriptors_step, descriptors_stop, descriptors_end)

@@ -73,4 +73,5 @@ components_there count i bytes h lt =
     record { first = both.0; others = both.1 }
 
 pub ruleset record_walk = (records_step, records_end)
+
 pub ruleset component_walk = (components_step, components_end)

@@ -49,13 +49,13 @@ record_of bitmap_size component_count bytes = do
   text ← split_after (slice_index head.0 8) bitmap.1
   descriptors ← descriptors_split (slice_index head.0 2) text.1
   if length descriptors.1 == little_number 2 (drop 9 head.0)
-    then Ok (record {
-      flags = little_number 4 (drop 3 head.0);
-      set_text = record { kind = slice_index head.0 7; bytes = text.0 };
-      descriptors = descriptors.0;
-      uses = named bitmap.0 component_count;
-    })
-    else Err RecordLength
+      then Ok (record {
+        flags = little_number 4 (drop 3 head.0);
+        set_text = record { kind = slice_index head.0 7; bytes = text.0 };
+        descriptors = descriptors.0;
+        uses = named bitmap.0 component_count;
+      })
+      else Err RecordLength
 
 -- so many records, one after the other, each as long as it says
 unfoldable pub records_of : ℕ → ℕ → ℕ → List ℕ → Result (List RecordOf) PackageFault

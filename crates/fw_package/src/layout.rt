@@ -127,7 +127,10 @@ fn skip_records(bytes: &[u8], count: usize) -> Option<&[u8]>
 fn skip_component(bytes: &[u8]) -> Option<&[u8]>
     ensures { option_map (λ rest. rest.now) result ≡ after_component bytes.now }
 {
-    skip(bytes, COMPONENT_SIZE + text_size(bytes, COMPONENT_TEXT_LENGTH))
+    skip(
+        bytes,
+        COMPONENT_SIZE + text_size(bytes, COMPONENT_TEXT_LENGTH),
+    )
 }
 
 /// What stands after so many components.

@@ -3,6 +3,7 @@
 
 mod components;
 mod crc;
+mod crc_table;
 mod fault;
 mod layout;
 mod packages;
@@ -10,7 +11,6 @@ mod plans;
 mod reading;
 mod records;
 mod texts;
-mod crc_table;
 
 pub use crc::crc32;
 pub use fault::{PackageFault, PlanFault};

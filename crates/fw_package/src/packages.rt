@@ -333,3 +333,6 @@ impl Package {
         false
     }
 }
+
+#[cfg(test)]
+mod tests;
