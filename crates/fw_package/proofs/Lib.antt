@@ -1,5 +1,6 @@
 mod ByteSteps
 mod Images
 mod Lists
+mod Parts
 mod Uses
 mod Walks

@@ -117,7 +117,7 @@ fn sign(out: &mut File, header: usize) {
 fn sum_by_bits(bytes: &[u8]) -> u32 {
     let mut register = u32::MAX;
     for byte in bytes {
-        for place in 0..8 {
+        for place in 0u32..8 {
             let leaves = register & 1 != u32::from(*byte) >> place & 1;
             register >>= 1;
             if leaves {
@@ -447,7 +447,7 @@ fn refuses_each_turned_bit_of_the_header(rt: HostRuntime) {
         );
     }
     for place in 0..WORKED_HEADER {
-        for shift in 0..8 {
+        for shift in 0u32..8 {
             let mut file = worked();
             let byte = file.as_slice().get(place).copied().unwrap_or(0) ^ 1 << shift;
             write(&mut file, place, &[byte]);
@@ -489,7 +489,7 @@ fn chooses_the_first_record_that_matches(rt: HostRuntime) -> Result<(), Fail> {
         kind: 1,
         bytes: &[0x78, 0x56, 0x34, 0x12],
     };
-    let other_bytes = Descriptor {
+    let other_data = Descriptor {
         kind: 0,
         bytes: &[0x34, 0x13],
     };
@@ -497,17 +497,12 @@ fn chooses_the_first_record_that_matches(rt: HostRuntime) -> Result<(), Fail> {
         kind: 2,
         bytes: &[0x34, 0x12],
     };
-    let table: [(&str, &[Descriptor<'_>], Option<usize>); 6] = [
-        ("the second's", &[second], Some(1)),
-        ("both", &[first, second], Some(0)),
-        ("both, the other way round", &[second, first], Some(0)),
-        ("other data", &[other_bytes], None),
-        ("another type", &[other_type], None),
-        ("none", &[], None),
-    ];
-    for (situation, descriptors, number) in table {
-        assert_eq!(rt; package.record_for(descriptors), number, "{situation}");
-    }
+    assert_eq!(rt; package.record_for(&[second]), Some(1));
+    assert_eq!(rt; package.record_for(&[first, second]), Some(0));
+    assert_eq!(rt; package.record_for(&[second, first]), Some(0));
+    assert_eq!(rt; package.record_for(&[other_data]), None);
+    assert_eq!(rt; package.record_for(&[other_type]), None);
+    assert_eq!(rt; package.record_for(&[]), None);
     Ok(())
 }
 
@@ -604,43 +599,46 @@ fn record(text: u8) -> File {
 
 #[test]
 fn names_the_first_fault_of_a_plan(rt: HostRuntime) -> Result<(), Fail> {
-    let small = component(1, 0, 2);
-    let other = component(2, 0, 200);
-    let long = component(2, 0, 201);
-    let table: [(&str, u8, &[&[u8]], Option<PlanFault>); 6] = [
-        ("two keys", 2, &[small.as_slice(), other.as_slice()], None),
+    let table: [(&str, u8, u8, u8, Option<PlanFault>); 6] = [
+        ("two keys, the longest text", 2, 200, 2, None),
         (
             "one key twice",
+            1,
             2,
-            &[small.as_slice(), small.as_slice()],
+            2,
             Some(PlanFault::DuplicateComponent),
         ),
         (
             "a text of 201 bytes",
             2,
-            &[small.as_slice(), long.as_slice()],
+            201,
+            2,
             Some(PlanFault::TextTooLong),
         ),
-        ("a set text of 200 bytes", 200, &[small.as_slice()], None),
+        ("the longest set text", 2, 2, 200, None),
         (
             "a set text of 201 bytes",
+            2,
+            2,
             201,
-            &[small.as_slice()],
             Some(PlanFault::TextTooLong),
         ),
         (
             "one key twice, a text of 201 bytes",
+            1,
             201,
-            &[long.as_slice(), long.as_slice()],
+            201,
             Some(PlanFault::DuplicateComponent),
         ),
     ];
-    for (situation, text, components, fault) in table {
-        let record = record(text);
+    for (situation, identifier, text, set_text, fault) in table {
+        let first = component(1, 0, 2);
+        let second = component(identifier, 0, text);
+        let record = record(set_text);
         let draft = Draft {
             bitmap_bits: 8,
             records: &[record.as_slice()],
-            components,
+            components: &[first.as_slice(), second.as_slice()],
             rest: &[],
         };
         let package = Package::read(rt.alloc(), file(draft).as_slice())?;
