@@ -1,6 +1,7 @@
 mod ByteSteps
 mod Images
 mod Lists
+mod OnePackage
 mod Parts
 mod Uses
 mod Walks
