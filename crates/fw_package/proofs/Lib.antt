@@ -1,3 +1,4 @@
+mod Built
 mod ByteSteps
 mod Images
 mod Lists
