@@ -39,7 +39,7 @@ pub split_is : (n : ℕ) (bytes : List ℕ) (q : List ℕ × List ℕ) → split
 split_is n bytes q h = split_from (nat_lt (length bytes) n) n bytes q refl h
 
 -- lists of so many
-four : (P : List ℕ → Type 0) → ((a b c d : ℕ) → P (a ∷ b ∷ c ∷ d ∷ [])) → (xs : List ℕ) → length xs ≡ 4 → P xs
+pub four : (P : List ℕ → Type 0) → ((a b c d : ℕ) → P (a ∷ b ∷ c ∷ d ∷ [])) → (xs : List ℕ) → length xs ≡ 4 → P xs
 four P holds (a ∷ b ∷ c ∷ d ∷ []) fits = holds a b c d
 four P holds xs fits = absurd (omega (arith, fits))
 

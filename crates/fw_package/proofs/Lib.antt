@@ -6,3 +6,4 @@ mod OnePackage
 mod Parts
 mod Uses
 mod Walks
+mod WholeBuilt

@@ -20,7 +20,7 @@ thirteen P holds (a ∷ b ∷ c ∷ d ∷ e ∷ f ∷ g ∷ h ∷ i ∷ j ∷ k 
 thirteen P holds xs fits = absurd (omega (arith, fits))
 
 -- the bytes of a header from its identifier on
-abbrev before_of : (h0 h1 : ℕ) (release tail : List ℕ) → List ℕ
+abbrev pub before_of : (h0 h1 : ℕ) (release tail : List ℕ) → List ℕ
 before_of h0 h1 release tail = package_identifier ++ 1 ∷ h0 ∷ h1 ∷ (release ++ tail)
 
 -- the places of the fixed part
@@ -49,14 +49,14 @@ places : (h0 h1 b0 b1 kind t : ℕ) (release rest : List ℕ) → length release
 places h0 h1 b0 b1 kind t release rest =
     thirteen (λ r. HasPlaces h0 h1 b0 b1 kind t rest (before_of h0 h1 r (b0 ∷ b1 ∷ kind ∷ t ∷ rest))) (λ a b c d e f g h i j k l m. places_at h0 h1 b0 b1 kind t rest a b c d e f g h i j k l m) release
 
-before_more : (h0 h1 : ℕ) (release tail more : List ℕ) → before_of h0 h1 release tail ++ more ≡ before_of h0 h1 release (tail ++ more)
+pub before_more : (h0 h1 : ℕ) (release tail more : List ℕ) → before_of h0 h1 release tail ++ more ≡ before_of h0 h1 release (tail ++ more)
 before_more h0 h1 release tail more = ap (λ r. package_identifier ++ 1 ∷ h0 ∷ h1 ∷ r) (append_assoc release tail more)
 
 -- the parts of a header after its fixed part
-abbrev tail_of : (m n0 n1 : ℕ) (version records components : List ℕ) → List ℕ
+abbrev pub tail_of : (m n0 n1 : ℕ) (version records components : List ℕ) → List ℕ
 tail_of m n0 n1 version records components = version ++ m ∷ (records ++ n0 ∷ n1 ∷ components)
 
-tail_more : (m n0 n1 : ℕ) (version records components more : List ℕ) → tail_of m n0 n1 version records components ++ more ≡ tail_of m n0 n1 version records (components ++ more)
+pub tail_more : (m n0 n1 : ℕ) (version records components more : List ℕ) → tail_of m n0 n1 version records components ++ more ≡ tail_of m n0 n1 version records (components ++ more)
 tail_more m n0 n1 version records components more =
     append_assoc version (m ∷ (records ++ n0 ∷ n1 ∷ components)) more ∙ ap (λ r. version ++ m ∷ r) (append_assoc records (n0 ∷ n1 ∷ components) more)
 
