@@ -1,5 +1,6 @@
 mod Built
 mod ByteSteps
+mod Chosen
 mod Images
 mod Lists
 mod OnePackage

@@ -134,3 +134,9 @@ package_reads bytes p k =
     let all = length-append before sum in
     let size : length (before ++ sum) ≡ p.header_size = all ∙ sym whole ∙ k.size in
     rw (header_is, layout_is, bits, k.component_count, bitmap_is, records_are, checked_is, components_are, size) refl
+
+pub package_once : (bytes : List ℕ) (p q : PackageText) → IsPackage bytes p → IsPackage bytes q → p ≡ q
+package_once bytes p q is also =
+    let one = package_reads bytes p is in
+    let other = package_reads bytes q also in
+    cc

@@ -1,7 +1,8 @@
 -- What a package names for a device: the record that its descriptors choose, and the components to be sent.
 use Rattle.std.specs.Prelude.{◌≡◌, ℕ, ◌==◌, ◌<◌, ◌&&◌, ◌||◌, Bool, true, false, not, nat_eq, nat_lt, if◌then◌else◌, List, [], ◌∷◌, Option, Some, None, Result, Ok, Err, All, Contains, length, map, filter, slice_index_or}
 use Rattle.std.specs.List.{list_any, list_all, position}
-use lib.Pointwise.{pointwise}
+use Rattle.std.specs.Option.{option_and_then}
+use Rattle.std.specs.Cmp.Lexicographic.{pointwise}
 use Rattle.fw_package.specs.Package.{ComponentOf, DescriptorOf, PackageText, RecordOf, TextOf}
 use Rattle.fw_package.specs.declared.fault.PlanFault.{PlanFault}
 use Rattle.fw_package.specs.declared.fault.PlanFault.TheVariants.{DuplicateComponent, ImageTooLarge, TextTooLong, TooManyComponents}
@@ -68,3 +69,16 @@ plan_of p number =
     else if has_large_image p (record_at p number).uses then Err ImageTooLarge
     else if nat_lt 200 (length (record_at p number).set_text.bytes) || has_long_text p (record_at p number).uses then Err TextTooLong
     else Ok (record_at p number).uses
+
+-- the image of the one component among these, if there is one and no other
+abbrev pub sole_image : List ComponentOf → Option (List ℕ)
+sole_image (c ∷ []) = Some c.image
+sole_image _ = None
+
+-- The image that a package names for a device under a key: that of the one component with this key among
+-- those of the record for the device. There is none without a record, and none under two components' key.
+abbrev pub image_for : PackageText → List DescriptorOf → ℕ → ℕ → Option (List ℕ)
+image_for p device classification identifier =
+    option_and_then
+    (λ number. sole_image (filter (has_key classification identifier) (map (component_at p) (record_at p number).uses)))
+    (record_number p device)

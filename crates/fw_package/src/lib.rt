@@ -5,6 +5,7 @@ mod components;
 mod crc;
 mod crc_table;
 mod fault;
+mod laws;
 mod layout;
 mod packages;
 mod plans;
@@ -14,6 +15,7 @@ mod texts;
 
 pub use crc::crc32;
 pub use fault::{PackageFault, PlanFault};
+pub use laws::{chooses_first, one_package, plans_named_images};
 pub use packages::Package;
 pub use plans::{PLAN_LIMIT, Plan};
 pub use texts::{Descriptor, Text};
