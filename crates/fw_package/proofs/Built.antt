@@ -1,13 +1,13 @@
 -- What reads as a package is put together from its parts.
-use Rattle.std.proofs.Common.{◌≡◌, ◌≢◌, ℕ, zero, suc, ◌+◌, ◌-◌, ◌/◌, ◌%◌, ◌<◌, ◌≤◌, ◌∙◌, ◌==◌, ◌||◌, not, nat_lt, if◌then◌else◌, Bool, true, false, List, [], ◌∷◌, ◌++◌, Result, Ok, Err, Option, Some, None, length, take, drop, slice_index, refl, sym, ap, subst, arith, append_assoc}
+use Rattle.std.proofs.Common.{◌≡◌, ℕ, zero, suc, ◌+◌, ◌≤◌, ◌∙◌, ◌==◌, nat_lt, if◌then◌else◌, Bool, true, false, List, [], ◌∷◌, ◌++◌, Result, Ok, Err, Some, None, length, take, drop, slice_index, refl, sym, ap, subst, arith, append_assoc}
 use borrow.Author.Tests.{ltb-false}
 use Rattle.std.proofs.lemmas.Bool.{eqb-true}
 use Rattle.std.proofs.lemmas.List.{length-append, length-take-le, take-append-drop, drop-drop}
 use Rattle.std.specs.Option.{option_and_then}
 use Rattle.byteorder.specs.Endian.{little_number}
 use Rattle.fw_package.specs.Components.{component_of, components_of, place_of, placed}
-use Rattle.fw_package.specs.Grammar.{AreInTurn, IsComponent, IsDescriptor, IsRecord, IsRecordRest, four_bytes, two_bytes}
-use Rattle.fw_package.specs.Layout.{after, after_component, after_components, after_record, after_records}
+use Rattle.fw_package.specs.Grammar.{AreInTurn, IsComponent, IsDescriptor, IsRecord, four_bytes}
+use Rattle.fw_package.specs.Layout.{after_components, after_records}
 use Rattle.fw_package.specs.Package.{ComponentOf, DescriptorOf, RecordOf}
 use Rattle.fw_package.specs.Records.{◌>>=◌, descriptor_split, descriptors_split, named, record_of, records_of, split_after}
 use Rattle.fw_package.specs.declared.fault.PackageFault.{PackageFault}
@@ -135,9 +135,11 @@ record_built size count bytes r h long =
     mapped.is ∙ ap (λ xs. bitmap.value.0 ++ xs) (named_text.is ∙ ap (λ xs. text.value.0 ++ xs) described.first.is) in
     let built : IsRecord size count (head.value.0 ++ head.value.1) (record_from head.value.0 text.value.0 descriptors.value.0 (named bitmap.value.0 count)) =
     eleven (λ xs. little_number 2 (xs ++ head.value.1) ≡ length (xs ++ head.value.1) → length text.value.0 ≡ slice_index xs 8 → length descriptors.value.0 ≡ slice_index xs 2 → length descriptors.value.1 ≡ little_number 2 (drop 9 xs)
-        → IsRecord size count (xs ++ head.value.1) (record_from xs text.value.0 descriptors.value.0 (named bitmap.value.0 count)))
-    (λ l0 l1 n f0 f1 f2 f3 kind t d0 d1 whole texted counted sized.
-    (omega (arith, whole), refl, refl,
+    → IsRecord size count (xs ++ head.value.1) (record_from xs text.value.0 descriptors.value.0 (named bitmap.value.0 count)))
+    (λ l0 l1 n f0 f1 f2 f3 kind t d0 d1 whole texted counted sized. (
+      omega (arith, whole),
+      refl,
+      refl,
       record {
         bitmap = bitmap.value.0;
         descriptors = described.first.front;
@@ -149,7 +151,8 @@ record_built size count bytes r h long =
         described = described.first.hold;
         content_fits = sized;
         uses = refl;
-      }))
+      },
+    ))
     head.value.0 fixed.fits (rw fixed.is at long) named_text.fits described.counted (eqb-true (length descriptors.value.1) (little_number 2 (drop 9 head.value.0)) last.0) in
     subst (IsRecord size count bytes) last.1 (subst (λ xs. IsRecord size count xs (record_from head.value.0 text.value.0 descriptors.value.0 (named bitmap.value.0 count))) (sym fixed.is) built)
 

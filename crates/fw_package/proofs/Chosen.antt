@@ -1,12 +1,12 @@
 -- The record chosen for a device, and the images of its plan.
-use Rattle.std.proofs.Common.{◌≡◌, ◌↔◌, ℕ, zero, suc, ◌+◌, ◌<◌, ◌≤◌, ◌∙◌, ◌==◌, ◌&&◌, ◌||◌, ◌⊎◌, inl, inr, not, ne_eqb, nat_eq, nat_lt, if◌then◌else◌, Bool, true, false, All, Contains, MatchOption, List, [], ◌∷◌, Result, Ok, Err, Option, Some, None, length, map, get_or, slice_index_or, refl, sym, ap, subst, arith}
+use Rattle.std.proofs.Common.{◌≡◌, ℕ, zero, suc, ◌+◌, ◌<◌, ◌≤◌, ◌∙◌, ◌==◌, ◌&&◌, ◌||◌, ◌⊎◌, inl, inr, not, ne_eqb, nat_eq, nat_lt, if◌then◌else◌, Bool, true, false, All, Contains, MatchOption, List, [], ◌∷◌, Result, Ok, Err, Option, Some, None, length, map, get_or, refl, sym, ap, subst, arith}
 use Rattle.std.specs.List.{filter, list_any, list_all, position, position_or_len}
 use Rattle.std.specs.Cmp.Lexicographic.{pointwise}
 use borrow.Author.Tests.{ltb-false}
 use Rattle.std.proofs.lemmas.Bool.{eq-eqb, eqb-true}
 use Rattle.std.proofs.lemmas.List.Elements.{All-cons}
 use Rattle.std.proofs.lemmas.List.Quantifiers.{position-Some}
-use Rattle.fw_package.specs.Choice.{component_at, has_key, has_large_image, has_long_text, has_twin, image_for, is_among, is_for, no_record, plan_of, record_at, record_number, same_descriptor, sole_image}
+use Rattle.fw_package.specs.Choice.{component_at, has_key, has_large_image, has_long_text, has_twin, is_among, is_for, no_record, plan_of, record_at, record_number, same_descriptor}
 use Rattle.fw_package.specs.Laws.{ChoosesFirst, IsFor, PlansKeysOnce, PlansNamedImages}
 use Rattle.fw_package.specs.Package.{ComponentOf, DescriptorOf, PackageText, RecordOf}
 use Rattle.fw_package.specs.declared.fault.PlanFault.{PlanFault}
@@ -120,7 +120,7 @@ passes_over test rs k d none lt h = found_from (nat_lt (position_or_len test rs)
 
 chosen : (p : PackageText) (device : List DescriptorOf) (o : Option ℕ) → record_number p device ≡ o
     → MatchOption o ((k : ℕ) → k < length p.records → ¬ IsFor device (record_at p k))
-      (λ n. (n < length p.records) × IsFor device (record_at p n) × ((k : ℕ) → k < n → ¬ IsFor device (record_at p k)))
+    (λ n. (n < length p.records) × IsFor device (record_at p n) × ((k : ℕ) → k < n → ¬ IsFor device (record_at p k)))
 chosen p device None e = λ k lt is. passes_over (is_for device) p.records k no_record e lt (is_for_there device (record_at p k) is)
 chosen p device (Some n) e =
     let found = position-Some (is_for device) p.records n no_record e in
@@ -164,18 +164,18 @@ twin_apart p [] a b h (k, lt, is) cb e f = absurd (omega arith)
 twin_apart p (n ∷ ns) a b h ca cb e f =
     let t = neither (list_any (λ m. has_key (component_at p n).classification (component_at p n).identifier (component_at p m)) ns) (has_twin p ns) h in
     elim (contains_case n a ns ca) [
-      inl first ↦ elim (contains_case n b ns cb) [
-        inl also ↦ sym first ∙ also
+      | inl first ↦ elim (contains_case n b ns cb) [
+        | inl also ↦ sym first ∙ also
         | inr there ↦
-          let apart : has_key (component_at p n).classification (component_at p n).identifier (component_at p b) ≡ false = none_passes (λ m. has_key (component_at p n).classification (component_at p n).identifier (component_at p m)) ns b t.0 there in
-          let one : has_key (component_at p n).classification (component_at p n).identifier (component_at p b) ≡ true = same_key (component_at p n) (component_at p b) (ap (λ m. (component_at p m).classification) first ∙ e) (ap (λ m. (component_at p m).identifier) first ∙ f) in
-          absurd (cc)
+            let apart : has_key (component_at p n).classification (component_at p n).identifier (component_at p b) ≡ false = none_passes (λ m. has_key (component_at p n).classification (component_at p n).identifier (component_at p m)) ns b t.0 there in
+            let one : has_key (component_at p n).classification (component_at p n).identifier (component_at p b) ≡ true = same_key (component_at p n) (component_at p b) (ap (λ m. (component_at p m).classification) first ∙ e) (ap (λ m. (component_at p m).identifier) first ∙ f) in
+            absurd (cc)
       ]
       | inr before ↦ elim (contains_case n b ns cb) [
-        inl also ↦
-          let apart : has_key (component_at p n).classification (component_at p n).identifier (component_at p a) ≡ false = none_passes (λ m. has_key (component_at p n).classification (component_at p n).identifier (component_at p m)) ns a t.0 before in
-          let one : has_key (component_at p n).classification (component_at p n).identifier (component_at p a) ≡ true = same_key (component_at p n) (component_at p a) (ap (λ m. (component_at p m).classification) also ∙ sym e) (ap (λ m. (component_at p m).identifier) also ∙ sym f) in
-          absurd (cc)
+        | inl also ↦
+            let apart : has_key (component_at p n).classification (component_at p n).identifier (component_at p a) ≡ false = none_passes (λ m. has_key (component_at p n).classification (component_at p n).identifier (component_at p m)) ns a t.0 before in
+            let one : has_key (component_at p n).classification (component_at p n).identifier (component_at p a) ≡ true = same_key (component_at p n) (component_at p a) (ap (λ m. (component_at p m).classification) also ∙ sym e) (ap (λ m. (component_at p m).identifier) also ∙ sym f) in
+            absurd (cc)
         | inr there ↦ twin_apart p ns a b t.1 before there e f
       ]
     ]
@@ -186,11 +186,11 @@ sole p [] n h (k, lt, is) = absurd (omega arith)
 sole p (m ∷ ms) n h c =
     let t = neither (list_any (λ k. has_key (component_at p m).classification (component_at p m).identifier (component_at p k)) ms) (has_twin p ms) h in
     elim (contains_case m n ms c) [
-      inl first ↦ subst (λ k. filter (has_key (component_at p k).classification (component_at p k).identifier) (map (component_at p) (m ∷ ms)) ≡ component_at p k ∷ []) first
-        (rw (own_key (component_at p m), none_filtered p (has_key (component_at p m).classification (component_at p m).identifier) ms t.0) refl)
+      | inl first ↦ subst (λ k. filter (has_key (component_at p k).classification (component_at p k).identifier) (map (component_at p) (m ∷ ms)) ≡ component_at p k ∷ []) first
+          (rw (own_key (component_at p m), none_filtered p (has_key (component_at p m).classification (component_at p m).identifier) ms t.0) refl)
       | inr there ↦
-        let apart : has_key (component_at p m).classification (component_at p m).identifier (component_at p n) ≡ false = none_passes (λ k. has_key (component_at p m).classification (component_at p m).identifier (component_at p k)) ms n t.0 there in
-        rw (key_swapped (has_key (component_at p n).classification (component_at p n).identifier (component_at p m)) (component_at p n) (component_at p m) refl apart) (sole p ms n t.1 there)
+          let apart : has_key (component_at p m).classification (component_at p m).identifier (component_at p n) ≡ false = none_passes (λ k. has_key (component_at p m).classification (component_at p m).identifier (component_at p k)) ms n t.0 there in
+          rw (key_swapped (has_key (component_at p n).classification (component_at p n).identifier (component_at p m)) (component_at p n) (component_at p m) refl apart) (sole p ms n t.1 there)
     ]
 
 -- what is known of a plan

@@ -1,5 +1,5 @@
 -- Components that are read one after the other.
-use Rattle.std.proofs.Common.{◌≡◌, ℕ, zero, suc, ◌+◌, ◌-◌, ◌<◌, ◌≤◌, ◌∙◌, List, [], ◌∷◌, ◌++◌, Result, Ok, Err, map, drop, refl, sym, ap, arith, append-nil, slice_index}
+use Rattle.std.proofs.Common.{◌≡◌, ℕ, suc, ◌+◌, ◌-◌, ◌<◌, ◌≤◌, List, [], ◌∷◌, ◌++◌, Ok, Err, map, drop, refl, arith, append-nil, slice_index}
 use Rattle.std.proofs.lemmas.List.{map-append}
 use Rattle.fw_package.specs.Components.{PlaceOf, component_of, components_of, placed}
 use Rattle.fw_package.specs.Package.{ComponentOf}

@@ -5,6 +5,7 @@ mod Images
 mod Lists
 mod OnePackage
 mod Parts
+mod ReadWhole
 mod Uses
 mod Walks
 mod WholeBuilt

@@ -1,14 +1,13 @@
 -- A package's text reads as that package, so it is one package at most.
-use Rattle.std.proofs.Common.{◌≡◌, ◌≢◌, ℕ, zero, suc, ◌+◌, ◌-◌, ◌/◌, ◌%◌, ◌<◌, ◌≤◌, ◌∙◌, ◌==◌, ◌||◌, not, ne_eqb, nat_lt, if◌then◌else◌, Bool, true, false, List, [], ◌∷◌, ◌++◌, Result, Ok, Err, Option, Some, None, length, take, drop, slice_index, refl, sym, ap, subst, arith, append_assoc}
+use Rattle.std.proofs.Common.{◌≡◌, ◌≢◌, ℕ, ◌+◌, ◌-◌, ◌/◌, ◌%◌, ◌≤◌, ◌∙◌, ne_eqb, nat_lt, if◌then◌else◌, false, List, [], ◌∷◌, ◌++◌, Ok, Err, Some, length, take, drop, slice_index, refl, sym, ap, subst, arith, append_assoc}
 use Rattle.std.proofs.lemmas.Bool.{le-ltb, eq-eqb}
-use Rattle.std.proofs.lemmas.List.{drop-drop, length-append, length-drop, take_all, drop_all}
-use Rattle.std.specs.Option.{option_and_then}
+use Rattle.std.proofs.lemmas.List.{drop-drop, length-append, length-drop}
 use Rattle.byteorder.specs.Endian.{little_number}
 use Rattle.fw_package.specs.declared.fault.PackageFault.TheVariants as faults
 use Rattle.fw_package.specs.Crc.{crc_of}
 use Rattle.fw_package.specs.Components.{components_of}
 use Rattle.fw_package.specs.Grammar.{AreInTurn, IsComponent, IsPackage, IsRecord, four_bytes, two_bytes}
-use Rattle.fw_package.specs.Layout.{LayoutOf, after_components, after_records, layout_of}
+use Rattle.fw_package.specs.Layout.{after_components, after_records, layout_of}
 use Rattle.fw_package.specs.Package.{ComponentOf, PackageText, RecordOf}
 use Rattle.fw_package.specs.Reading.{bitmap_size_of, checked, header_of, package_identifier, package_of}
 use Rattle.fw_package.specs.Records.{records_of}
@@ -79,7 +78,7 @@ header_reads h0 h1 b0 b1 kind t size release tail sum after fits four whole =
 layout_reads : (h0 h1 b0 b1 kind m n0 n1 size count : ℕ) (release version records components sum file : List ℕ) (rs : List RecordOf) (cs : List ComponentOf) → length release ≡ 13 → length sum ≡ 4
     → m ≡ length rs → two_bytes n0 n1 ≡ length cs → AreInTurn (IsRecord size count) records rs → AreInTurn (IsComponent file) components cs
     → layout_of (before_of h0 h1 release (b0 ∷ b1 ∷ kind ∷ length version ∷ tail_of m n0 n1 version records (components ++ sum)))
-        ≡ Some (record { record_count = m; records = records ++ n0 ∷ n1 ∷ (components ++ sum); component_count = two_bytes n0 n1; components = components ++ sum })
+    ≡ Some (record { record_count = m; records = records ++ n0 ∷ n1 ∷ (components ++ sum); component_count = two_bytes n0 n1; components = components ++ sum })
 unfolding layout_of
 layout_reads h0 h1 b0 b1 kind m n0 n1 size count release version records components sum file rs cs fits four ms ns recorded composed =
     let rest : List ℕ = tail_of m n0 n1 version records (components ++ sum) in

@@ -1,14 +1,13 @@
 -- What is put together from its parts reads as these parts.
-use Rattle.std.proofs.Common.{◌≡◌, ◌≢◌, ℕ, zero, suc, ◌+◌, ◌*◌, ◌-◌, ◌/◌, ◌%◌, ◌<◌, ◌≤◌, ◌∙◌, ◌==◌, ◌||◌, not, nat_lt, if◌then◌else◌, Bool, true, false, List, [], ◌∷◌, ◌++◌, Result, Ok, Err, Option, Some, None, length, take, drop, slice_index, refl, sym, ap, subst, arith, append_assoc}
+use Rattle.std.proofs.Common.{◌≡◌, ℕ, ◌+◌, ◌≤◌, ◌∙◌, nat_lt, false, List, [], ◌∷◌, ◌++◌, Ok, Some, length, take, drop, slice_index, refl, sym, ap, arith, append_assoc}
 use Rattle.std.proofs.lemmas.Bool.{le-ltb, eq-eqb}
 use Rattle.std.proofs.lemmas.List.{length-append, take-append-le, drop-append-le, take_all, drop_all}
-use Rattle.std.specs.Option.{option_and_then}
 use Rattle.byteorder.specs.Endian.{little_number}
 use Rattle.fw_package.specs.Components.{component_of, components_of}
-use Rattle.fw_package.specs.Grammar.{AreInTurn, IsComponent, IsDescriptor, IsRecord, IsRecordRest, four_bytes, two_bytes}
-use Rattle.fw_package.specs.Layout.{after, after_component, after_components, after_record, after_records}
+use Rattle.fw_package.specs.Grammar.{AreInTurn, IsComponent, IsDescriptor, IsRecord, four_bytes, two_bytes}
+use Rattle.fw_package.specs.Layout.{after, after_components, after_records}
 use Rattle.fw_package.specs.Package.{ComponentOf, DescriptorOf, RecordOf}
-use Rattle.fw_package.specs.Records.{◌>>=◌, descriptor_split, descriptors_split, named, record_of, records_of, split_after}
+use Rattle.fw_package.specs.Records.{descriptor_split, descriptors_split, record_of, records_of, split_after}
 
 -- the front of a list, and what stands after it
 pub take_front : (xs ys : List ℕ) (n : ℕ) → length xs ≡ n → take n (xs ++ ys) ≡ xs

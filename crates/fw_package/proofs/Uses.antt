@@ -1,5 +1,5 @@
 -- The components that a record uses are rising, and there.
-use Rattle.std.proofs.Common.{◌≡◌, ℕ, zero, suc, ◌+◌, ◌<◌, ◌≤◌, ◌∙◌, ◌==◌, Bool, true, false, if◌then◌else◌, All, List, [], ◌∷◌, Result, Ok, Err, IfOk, length, map, take, drop, refl, sym, ap, subst, arith, get_or, slice_index, nat_lt}
+use Rattle.std.proofs.Common.{◌≡◌, ℕ, zero, suc, ◌+◌, ◌<◌, ◌∙◌, ◌==◌, Bool, true, false, if◌then◌else◌, All, List, Result, Ok, Err, IfOk, length, map, take, drop, refl, sym, ap, subst, arith, get_or, slice_index}
 use Rattle.std.specs.List.{range_with_len}
 use Rattle.std.specs.List.Sorted.{IsStrictlyIncreasing}
 use Rattle.std.proofs.lemmas.List.Elements.{All-cons, All-filter}
@@ -9,7 +9,7 @@ use Rattle.std.proofs.lemmas.List.{length-map}
 use Rattle.std.proofs.lemmas.Result.{IfOk-at_ok}
 use Rattle.byteorder.specs.Endian.{little_number}
 use Rattle.fw_package.specs.Components.{PlaceOf, component_of, components_of, placed}
-use Rattle.fw_package.specs.Package.{ComponentOf, DescriptorOf, PackageText, RecordOf}
+use Rattle.fw_package.specs.Package.{PackageText, RecordOf}
 use Rattle.fw_package.specs.Reading.{IsStored, IsUsing}
 use Rattle.fw_package.specs.Records.{◌>>=◌, descriptors_split, is_named, named, record_of, records_of, split_after}
 use Rattle.fw_package.specs.declared.fault.PackageFault.{PackageFault}

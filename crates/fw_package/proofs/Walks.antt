@@ -1,5 +1,5 @@
 -- One step of a walk over records or components.
-use Rattle.std.proofs.Common.{◌≡◌, ℕ, zero, suc, ◌+◌, ◌-◌, ◌<◌, ◌≤◌, List, Option, Some, None, IsSome, Bool, true, false, nat_lt, slice_index, if◌then◌else◌, length, drop, refl, sym, subst, arith}
+use Rattle.std.proofs.Common.{◌≡◌, ℕ, suc, ◌+◌, ◌-◌, ◌<◌, ◌≤◌, List, Some, None, IsSome, Bool, true, false, nat_lt, slice_index, if◌then◌else◌, length, drop, refl, subst, arith}
 use Rattle.byteorder.specs.Endian.{little_number}
 use borrow.Author.Tests.{ltb-false}
 use Rattle.std.specs.Option.{option_and_then}

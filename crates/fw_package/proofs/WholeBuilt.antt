@@ -1,5 +1,5 @@
 -- A header that is read is put together from its parts, and so is the package.
-use Rattle.std.proofs.Common.{◌≡◌, ◌≢◌, ℕ, zero, suc, ◌+◌, ◌-◌, ◌/◌, ◌%◌, ◌<◌, ◌≤◌, ◌∙◌, ◌==◌, ◌||◌, not, nat_eq, nat_lt, if◌then◌else◌, Bool, true, false, List, [], ◌∷◌, ◌++◌, Result, Ok, Err, Option, Some, None, length, take, drop, slice_index, refl, sym, ap, subst, arith, append_assoc}
+use Rattle.std.proofs.Common.{◌≡◌, ◌≢◌, ℕ, ◌+◌, ◌-◌, ◌/◌, ◌%◌, ◌≤◌, ◌∙◌, ◌==◌, ◌||◌, not, nat_eq, nat_lt, if◌then◌else◌, Bool, true, false, List, [], ◌∷◌, ◌++◌, Result, Ok, Err, Option, Some, None, length, take, drop, slice_index, refl, sym, ap, subst, arith, append_assoc}
 use borrow.Author.Tests.{ltb-false}
 use Rattle.std.proofs.lemmas.Bool.{eq-eqb, eqb-true}
 use Rattle.std.proofs.lemmas.Bool.Decides.{Decides-eqb}
@@ -10,14 +10,14 @@ use Rattle.std.specs.Option.{option_and_then}
 use Rattle.byteorder.specs.Endian.{little_number}
 use Rattle.fw_package.specs.Components.{components_of}
 use Rattle.fw_package.specs.Crc.{crc_of}
-use Rattle.fw_package.specs.Grammar.{AreInTurn, IsComponent, IsPackage, IsRecord, four_bytes, two_bytes}
+use Rattle.fw_package.specs.Grammar.{IsPackage, two_bytes}
 use Rattle.fw_package.specs.Layout.{LayoutOf, after, after_components, after_records, closed_layout, layout_from_components, layout_from_records, layout_of}
 use Rattle.fw_package.specs.Package.{ComponentOf, PackageText, RecordOf}
 use Rattle.fw_package.specs.Reading.{bitmap_size_of, checked, header_of, package_identifier, package_of, parts_of}
-use Rattle.fw_package.specs.Records.{◌>>=◌, records_of}
+use Rattle.fw_package.specs.Records.{records_of}
 use Rattle.fw_package.specs.declared.fault.PackageFault.{PackageFault}
 use Rattle.fw_package.specs.declared.fault.PackageFault.TheVariants as faults
-use Rattle.fw_package.proofs.Built.{ComponentsBuilt, RecordsBuilt, components_built, four, records_built, through}
+use Rattle.fw_package.proofs.Built.{components_built, four, records_built, through}
 use Rattle.fw_package.proofs.OnePackage.{before_more, before_of, tail_more, tail_of}
 use Rattle.fw_package.proofs.Parts.{drop_front, take_front}
 
@@ -219,7 +219,7 @@ whole_built bytes header l bitmap_size rs cs checked_before head walk bits recor
     let header_is : header ≡ before ++ walk.sum = f.spelled
     ∙ spelled_as (take 16 header) package_identifier (slice_index header 16) 1 h0 h1 b0 b1 kind t (length version) release (drop 36 header) (tail_of l.record_count n0 n1 version records (components ++ walk.sum)) identified revised (sym version_fits) rest_is
     ∙ sym (before_more h0 h1 release (b0 ∷ b1 ∷ kind ∷ length version ∷ tail_of l.record_count n0 n1 version records components) walk.sum
-      ∙ ap (λ xs. before_of h0 h1 release (b0 ∷ b1 ∷ kind ∷ length version ∷ xs)) (tail_more l.record_count n0 n1 version records components walk.sum)) in
+    ∙ ap (λ xs. before_of h0 h1 release (b0 ∷ b1 ∷ kind ∷ length version ∷ xs)) (tail_more l.record_count n0 n1 version records components walk.sum)) in
     let sized : size ≡ length header = sym (length-take-le size bytes head.fits) ∙ ap length head.is in
     let all = length-append before walk.sum in
     let bits_are : two_bytes b0 b1 / 8 ≡ bitmap_size = ap (λ n. n / 8) (sym f.bits) ∙ bits.is in
@@ -270,6 +270,6 @@ package_built bytes p h =
     let same : record { header_size = length header.value; records = records.value; components = components.value } ≡ p = let e = components.gives in cc in
     subst (IsPackage bytes) same
     (whole_built bytes header.value layout.value bitmap.value records.value components.value signed.value (header_built bytes header.value header.is)
-      (layout_built header.value layout.value (some_layout (layout_of header.value) layout.value layout.is))
-      (bitmap_built (little_number 2 (drop 32 header.value)) layout.value.component_count bitmap.value bitmap.is)
-      records.is signed.is components.is)
+    (layout_built header.value layout.value (some_layout (layout_of header.value) layout.value layout.is))
+    (bitmap_built (little_number 2 (drop 32 header.value)) layout.value.component_count bitmap.value bitmap.is)
+    records.is signed.is components.is)

@@ -1,5 +1,5 @@
 -- What holds of all packages.
-use Rattle.std.specs.Prelude.{◌≡◌, ◌↔◌, ◌<◌, ◌≤◌, ℕ, List, Option, Some, None, Ok, All, Contains, MatchOption, length}
+use Rattle.std.specs.Prelude.{◌≡◌, ◌↔◌, ◌<◌, ◌≤◌, ℕ, List, Some, Ok, All, Contains, MatchOption, length}
 use Rattle.fw_package.specs.Choice.{component_at, image_for, plan_of, record_at, record_number}
 use Rattle.fw_package.specs.Grammar.{IsPackage}
 use Rattle.fw_package.specs.Package.{DescriptorOf, PackageText, RecordOf}

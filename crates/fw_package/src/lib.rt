@@ -13,7 +13,6 @@ mod reading;
 mod records;
 mod texts;
 
-pub use crc::crc32;
 pub use fault::{PackageFault, PlanFault};
 pub use laws::{chooses_first, one_package, plans_named_images};
 pub use packages::Package;

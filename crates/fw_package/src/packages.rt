@@ -47,15 +47,28 @@ impl Model for Package {
 }
 
 impl Package {
+    ghost use Rattle.fw_package.specs.Grammar.{IsPackage};
+    ghost use Rattle.fw_package.specs.Package.{PackageText};
+
     /// Reads the package that these bytes are. It copies them once.
     ///
     /// # Errors
     /// Bytes that are no package are refused by the first fault that holds. `Memory` comes last: only where
     /// memory was refused before a fault was found.
-    #[tactic(auto, unfolding(crate::specs::Reading::package_of))]
     pub fn read(alloc: Global, bytes: &[u8]) -> Result<Package, PackageFault>
-        ensures ok { IfOk result (λ p. package_of bytes.now ≡ Ok p) }
-        ensures err { IfErr result (λ e. e ≢ PackageFault.Memory → package_of bytes.now ≡ Err e) }
+        ensures found { IfOk result (λ p. IsPackage bytes.now p) }
+        ensures only { (p : PackageText) → IsPackage bytes.now p → IfErr result (λ e. e ≡ PackageFault.Memory) }
+        ensures value { IfOk result (λ p. package_of bytes.now ≡ Ok p) }
+        ensures fault { IfErr result (λ e. e ≢ PackageFault.Memory → package_of bytes.now ≡ Err e) }
+    {
+        Package::read_parts(alloc, bytes)
+    }
+
+    /// Reads header, layout, records, checksum and components, in the order of their faults.
+    #[tactic(auto, unfolding(crate::specs::Reading::package_of))]
+    fn read_parts(alloc: Global, bytes: &[u8]) -> Result<Package, PackageFault>
+        ensures value { IfOk result (λ p. package_of bytes.now ≡ Ok p) }
+        ensures fault { IfErr result (λ e. e ≢ PackageFault.Memory → package_of bytes.now ≡ Err e) }
     {
         let header = header(bytes)?;
         let Some(layout) = walk(header) else {

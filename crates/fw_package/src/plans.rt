@@ -26,7 +26,7 @@ impl Model for Plan {
 
 impl Plan {
     /// A plan of these components.
-    pub fn new(uses: &[u16]) -> Plan
+    pub(crate) fn new(uses: &[u16]) -> Plan
         requires { length uses.now ≤ 8 }
         ensures { result ≡ uses.now }
     {

@@ -1,4 +1,4 @@
-use Rattle.std.proofs.Common.{◌≡◌, take, drop}
+use Rattle.std.proofs.Common.{◌≡◌, drop}
 use Rattle.fw_package.specs.Crc.{after_bytes}
 use Rattle.fw_package.proofs.crc.crc32.Given as goal
 

@@ -1,4 +1,3 @@
-use Rattle.std.proofs.Common.{◌∙◌, sym}
 use Rattle.fw_package.proofs.OnePackage.{package_once, package_reads}
 use Rattle.fw_package.proofs.WholeBuilt.{package_built}
 use Rattle.fw_package.proofs.laws.one_package.Goals as goal

@@ -1,5 +1,5 @@
 use Rattle.std.proofs.Common.{◌<◌, arith}
-use Rattle.fw_package.proofs.Walks.{IsRecordThere, record_there}
+use Rattle.fw_package.proofs.Walks.{record_there}
 use Rattle.fw_package.proofs.records.read_records.Goals as goal
 
 pub read_u16-requires : goal.read_u16-requires
