@@ -1,0 +1,11 @@
+mod Built
+mod ByteSteps
+mod Chosen
+mod Images
+mod Lists
+mod OnePackage
+mod Parts
+mod ReadWhole
+mod Uses
+mod Walks
+mod WholeBuilt

@@ -1,0 +1,9 @@
+pub mod Choice
+pub mod Components
+pub mod Crc
+pub mod Grammar
+pub mod Laws
+pub mod Layout
+pub mod Package
+pub mod Reading
+pub mod Records

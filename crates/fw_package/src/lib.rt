@@ -1,0 +1,20 @@
+//! Firmware update packages (DSP0267 1.0): reading one, and what it names for a device.
+#![tactic(auto)]
+
+mod components;
+mod crc;
+mod crc_table;
+mod fault;
+mod laws;
+mod layout;
+mod packages;
+mod plans;
+mod reading;
+mod records;
+mod texts;
+
+pub use fault::{PackageFault, PlanFault};
+pub use laws::{chooses_first, one_package, plans_named_images};
+pub use packages::Package;
+pub use plans::{PLAN_LIMIT, Plan};
+pub use texts::{Descriptor, Text};

@@ -1,0 +1,66 @@
+//! The tests that a header has to pass as a whole.
+
+ghost use Rattle.std.specs.Prelude.{◌≡◌, ◌≤◌, length};
+ghost use Rattle.std.specs.Result.{result_map_both};
+ghost use Rattle.fw_package.specs.Reading.{bitmap_size_of, checked, header_of};
+
+use crate::crc::crc32;
+use crate::fault::PackageFault;
+use crate::layout::{CHECKSUM_SIZE, FIXED_SIZE, HEADER_SIZE, REVISION};
+use byteorder::{ByteOrder, LittleEndian};
+
+/// The package header identifier of revision 1, F018878C-CB7D-4943-9800-A02F059ACA02.
+const PACKAGE_IDENTIFIER: [u8; 16] = [
+    0xF0, 0x18, 0x87, 0x8C, 0xCB, 0x7D, 0x49, 0x43, 0x98, 0x00, 0xA0, 0x2F, 0x05, 0x9A, 0xCA, 0x02,
+];
+
+/// The header revision that this is.
+const HEADER_REVISION: u8 = 1;
+
+/// The bits of a byte of a bitmap.
+const BYTE_BITS: usize = 8;
+
+/// The header of a package.
+#[tactic(auto, unfolding(crate::specs::Reading::header_of))]
+pub fn header(bytes: &[u8]) -> Result<&[u8], PackageFault>
+    ensures { result_map_both (λ h. h.now) (λ e. e) result ≡ header_of bytes.now }
+{
+    if bytes.len() < FIXED_SIZE {
+        return Err(PackageFault::Short);
+    }
+    if !bytes.starts_with(&PACKAGE_IDENTIFIER) {
+        return Err(PackageFault::Identifier);
+    }
+    if bytes[REVISION] != HEADER_REVISION {
+        return Err(PackageFault::Revision);
+    }
+    let size = usize::from(LittleEndian::read_u16(&bytes[HEADER_SIZE..]));
+    if bytes.len() < size {
+        return Err(PackageFault::HeaderSize);
+    }
+    Ok(&bytes[..size])
+}
+
+/// The bytes of a bitmap of so many bits, for so many components.
+#[tactic(auto, unfolding(crate::specs::Reading::bitmap_size_of))]
+pub fn bitmap_size(bits: usize, component_count: u16) -> Result<usize, PackageFault>
+    ensures { result ≡ bitmap_size_of bits component_count }
+{
+    if bits == 0 || bits % BYTE_BITS != 0 || bits < usize::from(component_count) {
+        return Err(PackageFault::BitmapLength);
+    }
+    Ok(bits / BYTE_BITS)
+}
+
+/// Compares the checksum, with which a header ends, with that of the bytes before it.
+#[tactic(auto, unfolding(crate::specs::Reading::checked))]
+pub fn check(header: &[u8]) -> Result<&[u8], PackageFault>
+    requires { FIXED_SIZE ≤ length header.now }
+    ensures { result_map_both (λ h. h.now) (λ e. e) result ≡ checked header.now }
+{
+    let (before, checksum) = header.split_at(header.len() - CHECKSUM_SIZE);
+    if crc32(before) != LittleEndian::read_u32(checksum) {
+        return Err(PackageFault::Checksum);
+    }
+    Ok(before)
+}
