@@ -3,6 +3,7 @@
 
 mod command_line;
 mod drops;
+mod inspection;
 mod responder;
 mod stream;
 #[cfg(test)]
