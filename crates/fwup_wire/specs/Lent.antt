@@ -1,0 +1,48 @@
+-- The values of commands and answers whose texts and data are lent.
+use Rattle.fwup_wire.specs.Values.{CommandOf, EntryOf, OfferOf, RequestOf, TextOf, VersionOf}
+use Rattle.fwup_wire.specs.declared.command.Command.{Command}
+use Rattle.fwup_wire.specs.declared.command.Command.TheVariants as commands
+use Rattle.fwup_wire.specs.declared.command.ComponentOffer.{ComponentOffer}
+use Rattle.fwup_wire.specs.declared.command.TableEntry.{TableEntry}
+use Rattle.fwup_wire.specs.declared.command.UpdateRequest.{UpdateRequest}
+use Rattle.fwup_wire.specs.declared.values.Text.{Text}
+use Rattle.fwup_wire.specs.declared.values.Version.{Version}
+
+abbrev pub text_of : Text → TextOf
+text_of t = record { text_type = t.text_type; bytes = t.bytes.now }
+
+abbrev pub version_of : Version → VersionOf
+version_of v = record { stamp = v.stamp; text = text_of v.text }
+
+abbrev pub request_of : UpdateRequest → RequestOf
+request_of r =
+    record {
+      transfer_size = r.transfer_size;
+      components = r.components;
+      outstanding = r.outstanding;
+      package_data_length = r.package_data_length;
+      image_set = text_of r.image_set;
+    }
+
+abbrev pub entry_of : TableEntry → EntryOf
+entry_of e = record { flag = e.flag; key = e.key; index = e.index; version = version_of e.version }
+
+abbrev pub offer_of : ComponentOffer → OfferOf
+offer_of o =
+    record { key = o.key; index = o.index; version = version_of o.version; size = o.size; force = o.force }
+
+-- the value of a command
+abbrev pub command_of : Command → CommandOf
+command_of commands.QueryDeviceIdentifiers = CommandOf.QueryDeviceIdentifiers
+command_of commands.GetFirmwareParameters = CommandOf.GetFirmwareParameters
+command_of (commands.RequestUpdate request) = CommandOf.RequestUpdate (request_of request)
+command_of (commands.PassComponentTable entry) = CommandOf.PassComponentTable (entry_of entry)
+command_of (commands.UpdateComponent offer) = CommandOf.UpdateComponent (offer_of offer)
+command_of (commands.RequestFirmwareData offset size) = CommandOf.RequestFirmwareData offset size
+command_of (commands.TransferComplete result) = CommandOf.TransferComplete result
+command_of (commands.VerifyComplete result) = CommandOf.VerifyComplete result
+command_of (commands.ApplyComplete result methods) = CommandOf.ApplyComplete result methods
+command_of (commands.ActivateFirmware self_contained) = CommandOf.ActivateFirmware self_contained
+command_of commands.GetStatus = CommandOf.GetStatus
+command_of commands.CancelUpdateComponent = CommandOf.CancelUpdateComponent
+command_of commands.CancelUpdate = CommandOf.CancelUpdate

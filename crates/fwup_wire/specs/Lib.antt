@@ -1,0 +1,4 @@
+pub mod Commands
+pub mod Fields
+pub mod Lent
+pub mod Values

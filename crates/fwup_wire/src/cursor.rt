@@ -1,0 +1,116 @@
+//! Reading the fields of a message one after the other. Each step is one checked advance, and lengths have one place.
+
+ghost use Rattle.std.specs.Prelude.{List, drop, length, IfSome, IsTrue, ◌↔◌, ◌≡◌, [], ℕ};
+ghost use Rattle.std.specs.Option.{option_map};
+ghost use Rattle.fwup_wire.specs.Fields.{first_byte, first_component, first_key, first_u16, first_u32, last_text};
+ghost use Rattle.fwup_wire.specs.Lent.{text_of};
+
+use crate::values::{Key, Text};
+use byteorder::{ByteOrder, LittleEndian};
+use std::marker::Model;
+
+/// What is left to read.
+#[derive(Drop)]
+pub struct Cursor<'a> {
+    rest: &'a [u8],
+}
+
+impl<'a> Model for Cursor<'a> {
+    ghost Value = { List ℕ };
+
+    ghost view = { λ c. c.rest.now };
+}
+
+impl<'a> Cursor<'a> {
+    /// All of these bytes are left.
+    pub fn new(bytes: &'a [u8]) -> Self
+        ensures { result ≡ bytes.now }
+    {
+        Cursor { rest: bytes }
+    }
+
+    /// Whether nothing is left.
+    pub fn is_at_end(&self) -> bool
+        ensures { IsTrue result ↔ (self.now ≡ []) }
+    {
+        self.rest.is_empty()
+    }
+
+    /// The next byte.
+    pub fn byte(&mut self) -> Option<u8>
+        ensures value { result ≡ first_byte self.old }
+        ensures rest { IfSome result (λ _. self.new ≡ drop 1 self.old) }
+    {
+        let [byte, rest @ ..] = self.rest else {
+            return None;
+        };
+        self.rest = rest;
+        Some(*byte)
+    }
+
+    /// The number in the next two bytes.
+    pub fn u16(&mut self) -> Option<u16>
+        ensures value { result ≡ first_u16 self.old }
+        ensures rest { IfSome result (λ _. self.new ≡ drop 2 self.old) }
+    {
+        let bytes = self.rest;
+        let [_, _, rest @ ..] = bytes else {
+            return None;
+        };
+        self.rest = rest;
+        Some(LittleEndian::read_u16(bytes))
+    }
+
+    /// The number in the next four bytes.
+    pub fn u32(&mut self) -> Option<u32>
+        ensures value { result ≡ first_u32 self.old }
+        ensures rest { IfSome result (λ _. self.new ≡ drop 4 self.old) }
+    {
+        let bytes = self.rest;
+        let [_, _, _, _, rest @ ..] = bytes else {
+            return None;
+        };
+        self.rest = rest;
+        Some(LittleEndian::read_u32(bytes))
+    }
+
+    /// The component that the next four bytes name.
+    pub fn key(&mut self) -> Option<Key>
+        ensures value { result ≡ first_key self.old }
+        ensures rest { IfSome result (λ _. self.new ≡ drop 4 self.old) }
+    {
+        let classification = self.u16()?;
+        let identifier = self.u16()?;
+        Some(Key {
+            classification,
+            identifier,
+        })
+    }
+
+    /// What begins an entry of the component table and an offer: key, index and comparison stamp.
+    pub fn component(&mut self) -> Option<(Key, u8, u32)>
+        ensures value { result ≡ first_component self.old }
+        ensures rest { IfSome result (λ _. self.new ≡ drop 9 self.old) }
+    {
+        let key = self.key()?;
+        let index = self.byte()?;
+        let stamp = self.u32()?;
+        Some((key, index, stamp))
+    }
+
+    /// The text that takes all that is left: its type, its length and its bytes.
+    pub fn last_text(self) -> Option<Text<'a>>
+        ensures { option_map text_of result ≡ last_text self.entry }
+    {
+        let [text_type, length, bytes @ ..] = self.rest else {
+            return None;
+        };
+        if usize::from(*length) != bytes.len() {
+            return None;
+        }
+        Some(Text {
+            text_type: *text_type,
+            bytes,
+        })
+    }
+}

@@ -1,0 +1,14 @@
+//! The firmware update messages of PLDM (DSP0267 1.0, PLDM type 5): commands and their answers, read and written
+//! exactly. Reading lends texts and data from the message and copies none.
+#![tactic(auto)]
+
+pub mod code;
+mod command;
+mod cursor;
+mod read_command;
+pub use read_command::read;
+mod values;
+
+pub use command::{Command, ComponentOffer, TableEntry, UpdateRequest};
+
+pub use values::{Key, Text, TransferFlag, Version};

@@ -1,0 +1,66 @@
+//! What several commands and answers hold.
+
+ghost use Rattle.std.specs.Prelude.{◌≡◌};
+ghost use Rattle.fwup_wire.specs.Fields.{flag_byte, flag_of};
+
+/// Names a component: what kind of component it is, and which of that kind.
+#[derive(Clone, Copy, Debug, PartialEq, Eq)]
+pub struct Key {
+    /// The component's classification.
+    pub classification: u16,
+    /// The component's identifier.
+    pub identifier: u16,
+}
+
+/// A text with its type, which isn't checked.
+#[derive(Clone, Copy, Debug)]
+pub struct Text<'a> {
+    /// How the text is encoded, as `code::text_type`.
+    pub text_type: u8,
+    /// The text's bytes.
+    pub bytes: &'a [u8],
+}
+
+/// What an image calls itself.
+#[derive(Clone, Copy, Debug)]
+pub struct Version<'a> {
+    /// The comparison stamp, by which a device tells older images from newer ones.
+    pub stamp: u32,
+    /// The version text.
+    pub text: Text<'a>,
+}
+
+/// Where an entry stands in the component table.
+#[derive(Clone, Copy, Debug, PartialEq, Eq)]
+pub enum TransferFlag {
+    /// The first of several.
+    Start = 1,
+    /// Neither the first nor the last.
+    Middle = 2,
+    /// The last of several.
+    End = 4,
+    /// The only one.
+    StartAndEnd = 5,
+}
+
+impl TransferFlag {
+    /// The flag's byte in a message.
+    pub fn byte(self) -> u8
+        ensures { result ≡ flag_byte self }
+    {
+        self as u8
+    }
+
+    /// The flag of this byte. The other values name none.
+    pub fn from_byte(byte: u8) -> Option<Self>
+        ensures { result ≡ flag_of byte }
+    {
+        match byte {
+            1 => Some(TransferFlag::Start),
+            2 => Some(TransferFlag::Middle),
+            4 => Some(TransferFlag::End),
+            5 => Some(TransferFlag::StartAndEnd),
+            _ => None,
+        }
+    }
+}
