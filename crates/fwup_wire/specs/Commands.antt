@@ -1,9 +1,9 @@
 -- The commands of DSP0267 1.0: which bytes are one, what reading gives, and how they are written.
-use Rattle.std.specs.Prelude.{[], ◌%◌, ◌*◌, ◌++◌, ◌+◌, ◌<◌, ◌==◌, ◌∷◌, ◌≡◌, ◌≤◌, Bool, Err, List, None, Ok, Option, Result, Some, false, if◌then◌else◌, length, true, ℕ}
+use Rattle.std.specs.Prelude.{[], ◌%◌, ◌*◌, ◌++◌, ◌^◌, ◌+◌, ◌<◌, ◌==◌, ◌∷◌, ◌≡◌, ◌≤◌, Bool, Err, List, None, Ok, Option, Result, Some, false, if◌then◌else◌, length, true, ℕ}
 use Rattle.std.specs.Option.{option_map}
 use Rattle.byteorder.specs.Endian.{little_bytes}
 use Rattle.pldm_base.specs.Codes.{invalid_data, invalid_length, unsupported_command}
-use Rattle.fwup_wire.specs.Fields.{IsText, component_bytes, flag_byte, flag_of, last_text, text_bytes, u16_of, u32_of}
+use Rattle.fwup_wire.specs.Fields.{HasComponentWidths, IsText, bit, component_bytes, flag_byte, flag_of, last_text, text_bytes, u16_of, u32_of}
 use Rattle.fwup_wire.specs.Values.{CommandOf, EntryOf, OfferOf, RequestOf, TextOf, VersionOf}
 use Rattle.fwup_wire.specs.declared.values.Key.{Key}
 use Rattle.fwup_wire.specs.declared.values.TransferFlag.{TransferFlag}
@@ -168,3 +168,38 @@ command_read command fields =
     else if command == 0x1C then alone fields CommandOf.CancelUpdateComponent
     else if command == 0x1D then alone fields CommandOf.CancelUpdate
     else Err unsupported_command
+
+-- how request data are written: reserved bits are 0
+abbrev pub command_bytes : CommandOf → List ℕ
+command_bytes (CommandOf.RequestUpdate r) =
+    little_bytes 4 r.transfer_size ++ little_bytes 2 r.components ++ r.outstanding ∷ little_bytes 2 r.package_data_length
+    ++ text_bytes r.image_set
+command_bytes (CommandOf.PassComponentTable e) =
+    flag_byte e.flag ∷ component_bytes e.key e.index e.version.stamp ++ text_bytes e.version.text
+command_bytes (CommandOf.UpdateComponent o) =
+    component_bytes o.key o.index o.version.stamp ++ little_bytes 4 o.size ++ little_bytes 4 (bit o.force)
+    ++ text_bytes o.version.text
+command_bytes (CommandOf.RequestFirmwareData offset size) = little_bytes 4 offset ++ little_bytes 4 size
+command_bytes (CommandOf.TransferComplete result) = result ∷ []
+command_bytes (CommandOf.VerifyComplete result) = result ∷ []
+command_bytes (CommandOf.ApplyComplete result methods) = result ∷ little_bytes 2 methods
+command_bytes (CommandOf.ActivateFirmware self_contained) = bit self_contained ∷ []
+command_bytes CommandOf.QueryDeviceIdentifiers = []
+command_bytes CommandOf.GetFirmwareParameters = []
+command_bytes CommandOf.GetStatus = []
+command_bytes CommandOf.CancelUpdateComponent = []
+command_bytes CommandOf.CancelUpdate = []
+
+-- a command whose text fits its length byte and a message
+abbrev pub IsWritable : CommandOf → Type 0
+IsWritable c = length (command_bytes c) ≤ 252
+
+-- each number fits its field
+abbrev pub HasWidths : CommandOf → Type 0
+HasWidths (CommandOf.RequestUpdate r) =
+    (r.transfer_size < 256 ^ 4) × (r.components < 256 ^ 2) × (r.package_data_length < 256 ^ 2)
+HasWidths (CommandOf.PassComponentTable e) = HasComponentWidths e.key e.version.stamp
+HasWidths (CommandOf.UpdateComponent o) = HasComponentWidths o.key o.version.stamp × (o.size < 256 ^ 4)
+HasWidths (CommandOf.RequestFirmwareData offset size) = (offset < 256 ^ 4) × (size < 256 ^ 4)
+HasWidths (CommandOf.ApplyComplete result methods) = methods < 256 ^ 2
+HasWidths c = Unit {0}

@@ -1,5 +1,5 @@
 -- The fields that messages are made of. Integers are little-endian.
-use Rattle.std.specs.Prelude.{[], ◌%◌, ◌*◌, ◌++◌, ◌+◌, ◌==◌, ◌∷◌, ◌≡◌, Bool, List, None, Option, Some, if◌then◌else◌, length, ℕ}
+use Rattle.std.specs.Prelude.{[], ◌%◌, ◌*◌, ◌++◌, ◌+◌, ◌==◌, ◌∷◌, ◌≡◌, Bool, List, None, Option, false, true, ◌<◌, ◌^◌, Some, if◌then◌else◌, length, ℕ}
 use Rattle.byteorder.specs.Endian.{little_bytes, little_number}
 use Rattle.fwup_wire.specs.Values.{TextOf}
 use Rattle.fwup_wire.specs.declared.values.Key.{Key}
@@ -13,6 +13,11 @@ u16_of a b = little_number 2 (a ∷ b ∷ [])
 -- the number in four bytes, the lowest first
 abbrev pub u32_of : ℕ → ℕ → ℕ → ℕ → ℕ
 u32_of a b c d = little_number 4 (a ∷ b ∷ c ∷ d ∷ [])
+
+-- a truth value as a bit
+abbrev pub bit : Bool → ℕ
+bit true = 1
+bit false = 0
 
 -- where an entry stands in the component table
 abbrev pub flag_byte : TransferFlag → ℕ
@@ -70,3 +75,8 @@ text_bytes t = t.text_type ∷ length t.bytes ∷ t.bytes
 abbrev pub component_bytes : Key → ℕ → ℕ → List ℕ
 component_bytes key index stamp =
     little_bytes 2 key.classification ++ little_bytes 2 key.identifier ++ index ∷ little_bytes 4 stamp
+
+-- they fit their fields
+abbrev pub HasComponentWidths : Key → ℕ → Type 0
+HasComponentWidths key stamp =
+    (key.classification < 256 ^ 2) × (key.identifier < 256 ^ 2) × (stamp < 256 ^ 4)

@@ -1,4 +1,5 @@
 pub mod Commands
 pub mod Fields
+pub mod Laws
 pub mod Lent
 pub mod Values

@@ -5,9 +5,13 @@
 pub mod code;
 mod command;
 mod cursor;
+mod laws;
 mod read_command;
 pub use read_command::read;
 mod values;
+mod write_command;
+mod writer;
+pub use write_command::write;
 
 pub use command::{Command, ComponentOffer, TableEntry, UpdateRequest};
 
