@@ -19,6 +19,8 @@ use pldm_base::completion::{ERROR_INVALID_DATA, ERROR_INVALID_LENGTH, ERROR_UNSU
 /// The completion code of the refusal, the first of these: `ERROR_UNSUPPORTED_PLDM_CMD` for a command that PLDM type 5
 /// doesn't have here, `ERROR_INVALID_LENGTH` for too few or too many bytes, `ERROR_INVALID_DATA` for a field's value.
 pub fn read(command: u8, fields: &[u8]) -> Result<Command<'_>, u8>
+    ensures found { IfOk result (λ c. IsCommand command fields.now (command_of c)) }
+    ensures only { (c : CommandOf) → IsCommand command fields.now c → IsOk result }
     ensures value { result_map_both command_of (λ e. e) result ≡ command_read command fields.now }
 {
     match command {

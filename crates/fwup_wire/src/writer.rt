@@ -3,7 +3,7 @@
 ghost use Rattle.std.specs.Prelude.{◌+◌, ◌++◌, ◌≡◌, ◌≤◌, length};
 ghost use Rattle.arrayvec.specs.ArrayVec.{array_vec_len};
 ghost use Rattle.byteorder.specs.Endian.{little_bytes};
-ghost use Rattle.fwup_wire.specs.Fields.{component_bytes, text_bytes};
+ghost use Rattle.fwup_wire.specs.Fields.{HasComponentWidths, component_bytes, text_bytes};
 ghost use Rattle.fwup_wire.specs.Lent.{text_of};
 
 use crate::values::{Key, Text};
@@ -33,7 +33,8 @@ pub fn put_u32(out: &mut Reply, number: u32)
 /// Appends a key, an index and a comparison stamp.
 pub fn put_component(out: &mut Reply, key: &Key, index: u8, stamp: u32)
     requires { array_vec_len out.old + 9 ≤ 252 }
-    ensures { out.new.items ≡ out.old.items ++ component_bytes key.now index stamp }
+    ensures bytes { out.new.items ≡ out.old.items ++ component_bytes key.now index stamp }
+    ensures widths { HasComponentWidths key.now stamp }
 {
     put_u16(out, key.classification);
     put_u16(out, key.identifier);
