@@ -1,5 +1,7 @@
 -- The values of commands and answers whose texts and data are lent.
-use Rattle.fwup_wire.specs.Values.{CommandOf, EntryOf, OfferOf, RequestOf, TextOf, VersionOf}
+use Rattle.fwup_wire.specs.Values.{AnswerOf, CommandOf, EntryOf, OfferOf, RequestOf, TextOf, VersionOf}
+use Rattle.fwup_wire.specs.declared.answer.Answer.{Answer}
+use Rattle.fwup_wire.specs.declared.answer.Answer.TheVariants as answers
 use Rattle.fwup_wire.specs.declared.command.Command.{Command}
 use Rattle.fwup_wire.specs.declared.command.Command.TheVariants as commands
 use Rattle.fwup_wire.specs.declared.command.ComponentOffer.{ComponentOffer}
@@ -46,3 +48,18 @@ command_of (commands.ActivateFirmware self_contained) = CommandOf.ActivateFirmwa
 command_of commands.GetStatus = CommandOf.GetStatus
 command_of commands.CancelUpdateComponent = CommandOf.CancelUpdateComponent
 command_of commands.CancelUpdate = CommandOf.CancelUpdate
+
+-- the value of an answer
+abbrev pub answer_of : Answer → AnswerOf
+answer_of (answers.Refused code) = AnswerOf.Refused code
+answer_of answers.RequestUpdate = AnswerOf.RequestUpdate
+answer_of (answers.PassComponentTable response) = AnswerOf.PassComponentTable response
+answer_of (answers.UpdateComponent response) = AnswerOf.UpdateComponent response
+answer_of (answers.RequestFirmwareData bytes) = AnswerOf.RequestFirmwareData bytes.now
+answer_of answers.TransferComplete = AnswerOf.TransferComplete
+answer_of answers.VerifyComplete = AnswerOf.VerifyComplete
+answer_of answers.ApplyComplete = AnswerOf.ApplyComplete
+answer_of (answers.ActivateFirmware time) = AnswerOf.ActivateFirmware time
+answer_of (answers.GetStatus status) = AnswerOf.GetStatus status
+answer_of answers.CancelUpdateComponent = AnswerOf.CancelUpdateComponent
+answer_of answers.CancelUpdate = AnswerOf.CancelUpdate

@@ -1,5 +1,8 @@
 -- Commands and answers as values, without the messages that their texts are lent from.
 use Rattle.std.specs.Prelude.{Bool, List, ℕ}
+use Rattle.fwup_wire.specs.declared.answer.OfferResponse.{OfferResponse}
+use Rattle.fwup_wire.specs.declared.answer.Status.{Status}
+use Rattle.fwup_wire.specs.declared.answer.TableResponse.{TableResponse}
 use Rattle.fwup_wire.specs.declared.values.Key.{Key}
 use Rattle.fwup_wire.specs.declared.values.TransferFlag.{TransferFlag}
 
@@ -51,3 +54,18 @@ pub data CommandOf : Type 0 where
   GetStatus : CommandOf
   CancelUpdateComponent : CommandOf
   CancelUpdate : CommandOf
+
+-- an answer: a refusal by its completion code, or what follows the code 0
+pub data AnswerOf : Type 0 where
+  Refused : (code : ℕ) → AnswerOf
+  RequestUpdate : AnswerOf
+  PassComponentTable : (response : TableResponse) → AnswerOf
+  UpdateComponent : (response : OfferResponse) → AnswerOf
+  RequestFirmwareData : (bytes : List ℕ) → AnswerOf
+  TransferComplete : AnswerOf
+  VerifyComplete : AnswerOf
+  ApplyComplete : AnswerOf
+  ActivateFirmware : (time : ℕ) → AnswerOf
+  GetStatus : (status : Status) → AnswerOf
+  CancelUpdateComponent : AnswerOf
+  CancelUpdate : AnswerOf

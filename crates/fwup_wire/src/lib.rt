@@ -5,7 +5,9 @@
 pub mod code;
 mod command;
 mod cursor;
+mod answer;
 mod laws;
+mod read_answer;
 mod read_command;
 pub use read_command::read;
 mod values;
@@ -13,6 +15,7 @@ mod write_command;
 mod writer;
 pub use write_command::write;
 
+pub use answer::{Answer, Malformed, OfferResponse, Status, TableResponse};
 pub use command::{Command, ComponentOffer, TableEntry, UpdateRequest};
 
 pub use values::{Key, Text, TransferFlag, Version};

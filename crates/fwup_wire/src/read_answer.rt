@@ -1,0 +1,114 @@
+//! Answers, read.
+
+ghost use Rattle.std.specs.Prelude.{IfOk, IsOk, ◌≡◌, ℕ};
+ghost use Rattle.std.specs.Option.{option_map};
+ghost use Rattle.fwup_wire.specs.Answers.{IsAnswer, activation_in, answer_in, bare, offer_response_in, status_in, success_in, update_begun_in, update_cancelled_in};
+ghost use Rattle.fwup_wire.specs.Lent.{answer_of};
+ghost use Rattle.fwup_wire.specs.Values.{AnswerOf};
+
+use crate::answer::{Answer, Malformed, OfferResponse, Status, TableResponse};
+use crate::code::command;
+use crate::cursor::Cursor;
+use pldm_base::completion::SUCCESS;
+
+fn success(command: u8, fields: &[u8]) -> Option<Answer<'_>>
+    ensures { option_map answer_of result ≡ success_in command fields.now }
+{
+    match command {
+        command::REQUEST_UPDATE => request_update(fields),
+        command::PASS_COMPONENT_TABLE => match fields {
+            [response, code] => Some(Answer::PassComponentTable(TableResponse {
+                response: *response,
+                code: *code,
+            })),
+            _ => None,
+        },
+        command::UPDATE_COMPONENT => update_component(fields),
+        command::REQUEST_FIRMWARE_DATA => Some(Answer::RequestFirmwareData(fields)),
+        command::TRANSFER_COMPLETE => alone(fields, Answer::TransferComplete),
+        command::VERIFY_COMPLETE => alone(fields, Answer::VerifyComplete),
+        command::APPLY_COMPLETE => alone(fields, Answer::ApplyComplete),
+        command::ACTIVATE_FIRMWARE => activate_firmware(fields),
+        command::GET_STATUS => get_status(fields),
+        command::CANCEL_UPDATE_COMPONENT => alone(fields, Answer::CancelUpdateComponent),
+        command::CANCEL_UPDATE => cancel_update(fields),
+        _ => None,
+    }
+}
+
+/// An answer without fields.
+fn alone<'a>(fields: &[u8], answer: Answer<'a>) -> Option<Answer<'a>>
+    ensures { option_map answer_of result ≡ bare (answer_of answer.entry) fields.now }
+{
+    if fields.is_empty() { Some(answer) } else { None }
+}
+
+fn request_update(fields: &[u8]) -> Option<Answer<'static>>
+    ensures { option_map answer_of result ≡ update_begun_in fields.now }
+{
+    match fields {
+        [0, 0, 0] => Some(Answer::RequestUpdate),
+        _ => None,
+    }
+}
+
+fn update_component(fields: &[u8]) -> Option<Answer<'static>>
+    ensures { option_map answer_of result ≡ offer_response_in fields.now }
+{
+    let mut cursor = Cursor::new(fields);
+    let compatibility = cursor.byte()?;
+    let code = cursor.byte()?;
+    let flags = cursor.u32()?;
+    let time = cursor.u16()?;
+    if !cursor.is_at_end() {
+        return None;
+    }
+    Some(Answer::UpdateComponent(OfferResponse {
+        compatibility,
+        code,
+        force: flags % 2 == 1,
+        time,
+    }))
+}
+
+fn activate_firmware(fields: &[u8]) -> Option<Answer<'static>>
+    ensures { option_map answer_of result ≡ activation_in fields.now }
+{
+    let mut cursor = Cursor::new(fields);
+    let time = cursor.u16()?;
+    if !cursor.is_at_end() {
+        return None;
+    }
+    Some(Answer::ActivateFirmware { time })
+}
+
+fn get_status(fields: &[u8]) -> Option<Answer<'static>>
+    ensures { option_map answer_of result ≡ status_in fields.now }
+{
+    let [state, previous, aux, aux_status, progress, reason, flags @ ..] = fields else {
+        return None;
+    };
+    let mut cursor = Cursor::new(flags);
+    let flags = cursor.u32()?;
+    if !cursor.is_at_end() {
+        return None;
+    }
+    Some(Answer::GetStatus(Status {
+        state: *state,
+        previous: *previous,
+        aux: *aux,
+        aux_status: *aux_status,
+        progress: *progress,
+        reason: *reason,
+        force: flags % 2 == 1,
+    }))
+}
+
+fn cancel_update(fields: &[u8]) -> Option<Answer<'static>>
+    ensures { option_map answer_of result ≡ update_cancelled_in fields.now }
+{
+    match fields {
+        [0, 0, 0, 0, 0, 0, 0, 0, 0] => Some(Answer::CancelUpdate),
+        _ => None,
+    }
+}
