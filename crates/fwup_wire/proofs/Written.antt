@@ -1,5 +1,5 @@
 -- What is written reads back, at a command that equals a written one.
-use Rattle.std.proofs.Common.{List, Ok, ◌≡◌, rules}
+use Rattle.std.proofs.Common.{Ok, ◌≡◌, rules}
 use Rattle.fwup_wire.specs.Commands.{HasWidths, IsCommand, IsWritable, command_bytes, command_code, command_read}
 use Rattle.fwup_wire.specs.Values.{CommandOf}
 

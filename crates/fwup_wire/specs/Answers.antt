@@ -1,6 +1,5 @@
 -- The answers of DSP0267 1.0: which bytes are one, what reading gives, and how they are written.
-use Rattle.std.specs.Prelude.{[], ◌%◌, ◌++◌, ◌<◌, ◌==◌, ◌&&◌, ◌||◌, ◌^◌, ◌∷◌, ◌≡◌, ◌≢◌, ◌≤◌, Bool, Err, List, None, Ok, Option, Result, Some, false, if◌then◌else◌, length, replicate, true, ℕ}
-use Rattle.std.specs.Option.{option_map}
+use Rattle.std.specs.Prelude.{[], ◌%◌, ◌++◌, ◌<◌, ◌==◌, ◌&&◌, ◌^◌, ◌∷◌, ◌≡◌, ◌≢◌, ◌≤◌, Bool, Err, List, None, Ok, Option, Result, Some, if◌then◌else◌, length, replicate, true, ℕ}
 use Rattle.std.specs.List.{list_any}
 use Rattle.byteorder.specs.Endian.{little_bytes}
 use Rattle.fwup_wire.specs.Fields.{bit, u16_of, u32_of}
@@ -8,7 +7,6 @@ use Rattle.fwup_wire.specs.Values.{AnswerOf}
 use Rattle.fwup_wire.specs.declared.answer.Malformed.{Malformed}
 use Rattle.fwup_wire.specs.declared.answer.OfferResponse.{OfferResponse}
 use Rattle.fwup_wire.specs.declared.answer.Status.{Status}
-use Rattle.fwup_wire.specs.declared.answer.TableResponse.{TableResponse}
 
 -- the commands of PLDM type 5 that are here
 abbrev pub known_commands : List ℕ
@@ -90,13 +88,13 @@ table_response_in _ = None
 abbrev pub offer_response_in : List ℕ → Option AnswerOf
 offer_response_in (compatibility ∷ code ∷ f0 ∷ f1 ∷ f2 ∷ f3 ∷ t0 ∷ t1 ∷ []) =
     Some
-      (AnswerOf.UpdateComponent
-         (record {
-            compatibility = compatibility;
-            code = code;
-            force = (u32_of f0 f1 f2 f3 % 2) == 1;
-            time = u16_of t0 t1;
-          }))
+    (AnswerOf.UpdateComponent
+    (record {
+      compatibility = compatibility;
+      code = code;
+      force = (u32_of f0 f1 f2 f3 % 2) == 1;
+      time = u16_of t0 t1;
+    }))
 offer_response_in _ = None
 
 abbrev pub activation_in : List ℕ → Option AnswerOf
@@ -106,16 +104,16 @@ activation_in _ = None
 abbrev pub status_in : List ℕ → Option AnswerOf
 status_in (state ∷ previous ∷ aux ∷ aux_status ∷ progress ∷ reason ∷ f0 ∷ f1 ∷ f2 ∷ f3 ∷ []) =
     Some
-      (AnswerOf.GetStatus
-         (record {
-            state = state;
-            previous = previous;
-            aux = aux;
-            aux_status = aux_status;
-            progress = progress;
-            reason = reason;
-            force = (u32_of f0 f1 f2 f3 % 2) == 1;
-          }))
+    (AnswerOf.GetStatus
+    (record {
+      state = state;
+      previous = previous;
+      aux = aux;
+      aux_status = aux_status;
+      progress = progress;
+      reason = reason;
+      force = (u32_of f0 f1 f2 f3 % 2) == 1;
+    }))
 status_in _ = None
 
 abbrev pub update_cancelled_in : List ℕ → Option AnswerOf
@@ -141,6 +139,10 @@ success_in command fields =
     else if command == 0x1D then update_cancelled_in fields
     else None
 
+abbrev pub ok_or_malformed : Option AnswerOf → Result AnswerOf Malformed
+ok_or_malformed None = Err (record {})
+ok_or_malformed (Some a) = Ok a
+
 -- what reading gives: the answer, or none where the bytes are malformed
 abbrev pub answer_in : ℕ → List ℕ → Option AnswerOf
 answer_in command [] = None
@@ -148,6 +150,10 @@ answer_in command (code ∷ fields) =
     if code == 0 then success_in command fields
     else if is_known command then bare (AnswerOf.Refused code) fields
     else None
+
+-- the same as a result
+abbrev pub answer_read : ℕ → List ℕ → Result AnswerOf Malformed
+answer_read command bytes = ok_or_malformed (answer_in command bytes)
 
 -- how what follows the code is written: reserved bits are 0
 abbrev pub success_bytes : AnswerOf → List ℕ
@@ -170,3 +176,24 @@ answer_bytes a = answer_code a ∷ success_bytes a
 abbrev pub IsAnswerWritable : AnswerOf → Type 0
 IsAnswerWritable (AnswerOf.Refused code) = code ≢ 0
 IsAnswerWritable a = length (answer_bytes a) ≤ 252
+
+-- each number fits its field
+abbrev pub HasAnswerWidths : AnswerOf → Type 0
+HasAnswerWidths (AnswerOf.UpdateComponent r) = r.time < 256 ^ 2
+HasAnswerWidths (AnswerOf.ActivateFirmware time) = time < 256 ^ 2
+HasAnswerWidths a = Unit {0}
+
+-- whether an answer can be one to this command: a refusal to each
+abbrev pub answers_command : ℕ → AnswerOf → Bool
+answers_command command (AnswerOf.Refused code) = is_known command
+answers_command command AnswerOf.RequestUpdate = command == 0x10
+answers_command command (AnswerOf.PassComponentTable _) = command == 0x13
+answers_command command (AnswerOf.UpdateComponent _) = command == 0x14
+answers_command command (AnswerOf.RequestFirmwareData _) = command == 0x15
+answers_command command AnswerOf.TransferComplete = command == 0x16
+answers_command command AnswerOf.VerifyComplete = command == 0x17
+answers_command command AnswerOf.ApplyComplete = command == 0x18
+answers_command command (AnswerOf.ActivateFirmware _) = command == 0x1A
+answers_command command (AnswerOf.GetStatus _) = command == 0x1B
+answers_command command AnswerOf.CancelUpdateComponent = command == 0x1C
+answers_command command AnswerOf.CancelUpdate = command == 0x1D

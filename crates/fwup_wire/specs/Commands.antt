@@ -1,13 +1,12 @@
 -- The commands of DSP0267 1.0: which bytes are one, what reading gives, and how they are written.
-use Rattle.std.specs.Prelude.{[], ◌%◌, ◌*◌, ◌++◌, ◌^◌, ◌+◌, ◌<◌, ◌==◌, ◌∷◌, ◌≡◌, ◌≤◌, Bool, Err, List, None, Ok, Option, Result, Some, false, if◌then◌else◌, length, true, ℕ}
+use Rattle.std.specs.Prelude.{[], ◌%◌, ◌++◌, ◌^◌, ◌<◌, ◌==◌, ◌∷◌, ◌≡◌, ◌≤◌, Err, List, None, Ok, Option, Result, Some, false, if◌then◌else◌, length, true, ℕ}
 use Rattle.std.specs.Option.{option_map}
 use Rattle.byteorder.specs.Endian.{little_bytes}
 use Rattle.pldm_base.specs.Codes.{invalid_data, invalid_length, unsupported_command}
 use Rattle.fwup_wire.specs.Fields.{HasComponentWidths, IsText, bit, component_bytes, flag_byte, flag_of, last_text, text_bytes, u16_of, u32_of}
-use Rattle.fwup_wire.specs.Values.{CommandOf, EntryOf, OfferOf, RequestOf, TextOf, VersionOf}
+use Rattle.fwup_wire.specs.Values.{CommandOf, EntryOf, OfferOf, RequestOf, TextOf}
 use Rattle.fwup_wire.specs.declared.values.Key.{Key}
 use Rattle.fwup_wire.specs.declared.values.TransferFlag.{TransferFlag}
-use Rattle.fwup_wire.specs.declared.values.TransferFlag.TheVariants as flags
 
 -- the byte of each command
 abbrev pub command_code : CommandOf → ℕ
@@ -106,13 +105,13 @@ entry_with flag key index stamp None = Err invalid_length
 entry_with None key index stamp (Some text) = Err invalid_data
 entry_with (Some flag) key index stamp (Some text) =
     Ok
-      (CommandOf.PassComponentTable
-         (record { flag = flag; key = key; index = index; version = record { stamp = stamp; text = text } }))
+    (CommandOf.PassComponentTable
+    (record { flag = flag; key = key; index = index; version = record { stamp = stamp; text = text } }))
 
 abbrev pub entry_read : List ℕ → Result CommandOf ℕ
 entry_read (flag ∷ c0 ∷ c1 ∷ i0 ∷ i1 ∷ index ∷ s0 ∷ s1 ∷ s2 ∷ s3 ∷ text) =
     entry_with (flag_of flag) (record { classification = u16_of c0 c1; identifier = u16_of i0 i1 }) index
-      (u32_of s0 s1 s2 s3) (last_text text)
+    (u32_of s0 s1 s2 s3) (last_text text)
 entry_read _ = Err invalid_length
 
 -- of UpdateComponent

@@ -1,5 +1,5 @@
 -- The fields that messages are made of. Integers are little-endian.
-use Rattle.std.specs.Prelude.{[], ◌%◌, ◌*◌, ◌++◌, ◌+◌, ◌==◌, ◌∷◌, ◌≡◌, Bool, List, None, Option, false, true, ◌<◌, ◌^◌, Some, if◌then◌else◌, length, ℕ}
+use Rattle.std.specs.Prelude.{[], ◌++◌, ◌==◌, ◌∷◌, ◌≡◌, Bool, List, None, Option, false, true, ◌<◌, ◌^◌, Some, if◌then◌else◌, length, ℕ}
 use Rattle.byteorder.specs.Endian.{little_bytes, little_number}
 use Rattle.fwup_wire.specs.Values.{TextOf}
 use Rattle.fwup_wire.specs.declared.values.Key.{Key}

@@ -2,20 +2,23 @@
 //! exactly. Reading lends texts and data from the message and copies none.
 #![tactic(auto)]
 
+mod answer;
+mod answer_reading;
+mod answer_writing;
 pub mod code;
 mod command;
+mod command_reading;
+mod command_writing;
 mod cursor;
-mod answer;
 mod laws;
-mod read_answer;
-mod read_command;
-pub use read_command::read;
 mod values;
-mod write_command;
 mod writer;
-pub use write_command::write;
 
 pub use answer::{Answer, Malformed, OfferResponse, Status, TableResponse};
+pub use answer_reading::read_answer;
+pub use answer_writing::write_answer;
 pub use command::{Command, ComponentOffer, TableEntry, UpdateRequest};
-
+pub use command_reading::read;
+pub use command_writing::write;
+pub use laws::{answers_read_back, commands_read_back};
 pub use values::{Key, Text, TransferFlag, Version};

@@ -2,7 +2,8 @@
 
 ghost use Rattle.std.specs.Prelude.{IfOk, IsOk, ◌≡◌, ℕ};
 ghost use Rattle.std.specs.Option.{option_map};
-ghost use Rattle.fwup_wire.specs.Answers.{IsAnswer, activation_in, answer_in, bare, offer_response_in, status_in, success_in, update_begun_in, update_cancelled_in};
+ghost use Rattle.std.specs.Result.{result_map_both};
+ghost use Rattle.fwup_wire.specs.Answers.{IsAnswer, activation_in, answer_in, answer_read, bare, offer_response_in, status_in, success_in, update_begun_in, update_cancelled_in};
 ghost use Rattle.fwup_wire.specs.Lent.{answer_of};
 ghost use Rattle.fwup_wire.specs.Values.{AnswerOf};
 
@@ -11,6 +12,64 @@ use crate::code::command;
 use crate::cursor::Cursor;
 use pldm_base::completion::SUCCESS;
 
+/// Reads an answer to this command (DSP0267 1.0): the completion code and, where it is `SUCCESS`, what follows it.
+/// Reserved bits may hold anything.
+///
+/// # Errors
+/// `Malformed` for an answer of no bytes, one to a command that PLDM type 5 doesn't have here, one that goes on after
+/// another code than `SUCCESS`, one of another length than its command's, and one with a value in a field that this
+/// profile doesn't have there.
+#[tactic(auto, using(crate::proofs::Found::found_answer_value))]
+pub fn read_answer(command: u8, bytes: &[u8]) -> Result<Answer<'_>, Malformed>
+    ensures found { IfOk result (λ a. IsAnswer command bytes.now (answer_of a)) }
+    ensures only { (a : AnswerOf) → IsAnswer command bytes.now a → IsOk result }
+    ensures value { result_map_both answer_of (λ e. e) result ≡ answer_read command bytes.now }
+{
+    let Some(answer) = answer(command, bytes) else {
+        return Err(Malformed);
+    };
+    Ok(answer)
+}
+
+/// The answer, if the bytes are one.
+fn answer(command: u8, bytes: &[u8]) -> Option<Answer<'_>>
+    ensures { option_map answer_of result ≡ answer_in command bytes.now }
+{
+    let [code, fields @ ..] = bytes else {
+        return None;
+    };
+    if *code == SUCCESS {
+        success(command, fields)
+    } else if is_known(command) {
+        alone(fields, Answer::Refused { code: *code })
+    } else {
+        None
+    }
+}
+
+/// Whether PLDM type 5 has this command here.
+fn is_known(command: u8) -> bool
+    ensures { result ≡ Rattle.fwup_wire.specs.Answers.is_known command }
+{
+    matches!(
+        command,
+        command::QUERY_DEVICE_IDENTIFIERS
+            | command::GET_FIRMWARE_PARAMETERS
+            | command::REQUEST_UPDATE
+            | command::PASS_COMPONENT_TABLE
+            | command::UPDATE_COMPONENT
+            | command::REQUEST_FIRMWARE_DATA
+            | command::TRANSFER_COMPLETE
+            | command::VERIFY_COMPLETE
+            | command::APPLY_COMPLETE
+            | command::ACTIVATE_FIRMWARE
+            | command::GET_STATUS
+            | command::CANCEL_UPDATE_COMPONENT
+            | command::CANCEL_UPDATE
+    )
+}
+
+/// What follows the code of success.
 fn success(command: u8, fields: &[u8]) -> Option<Answer<'_>>
     ensures { option_map answer_of result ≡ success_in command fields.now }
 {
@@ -40,7 +99,11 @@ fn success(command: u8, fields: &[u8]) -> Option<Answer<'_>>
 fn alone<'a>(fields: &[u8], answer: Answer<'a>) -> Option<Answer<'a>>
     ensures { option_map answer_of result ≡ bare (answer_of answer.entry) fields.now }
 {
-    if fields.is_empty() { Some(answer) } else { None }
+    if fields.is_empty() {
+        Some(answer)
+    } else {
+        None
+    }
 }
 
 fn request_update(fields: &[u8]) -> Option<Answer<'static>>
@@ -85,7 +148,16 @@ fn activate_firmware(fields: &[u8]) -> Option<Answer<'static>>
 fn get_status(fields: &[u8]) -> Option<Answer<'static>>
     ensures { option_map answer_of result ≡ status_in fields.now }
 {
-    let [state, previous, aux, aux_status, progress, reason, flags @ ..] = fields else {
+    let [
+        state,
+        previous,
+        aux,
+        aux_status,
+        progress,
+        reason,
+        flags @ ..,
+    ] = fields
+    else {
         return None;
     };
     let mut cursor = Cursor::new(flags);

@@ -28,10 +28,16 @@ pub fn read(command: u8, fields: &[u8]) -> Result<Command<'_>, u8>
         command::GET_FIRMWARE_PARAMETERS => alone(fields, Command::GetFirmwareParameters),
         command::REQUEST_UPDATE => of_length(request_update(fields).map(Command::RequestUpdate)),
         command::PASS_COMPONENT_TABLE => pass_component_table(fields),
-        command::UPDATE_COMPONENT => of_length(update_component(fields).map(Command::UpdateComponent)),
+        command::UPDATE_COMPONENT => of_length(update_component(fields).map(
+            Command::UpdateComponent,
+        )),
         command::REQUEST_FIRMWARE_DATA => of_length(request_firmware_data(fields)),
-        command::TRANSFER_COMPLETE => of_length(only_byte(fields).map(|byte| Command::TransferComplete { result: byte })),
-        command::VERIFY_COMPLETE => of_length(only_byte(fields).map(|byte| Command::VerifyComplete { result: byte })),
+        command::TRANSFER_COMPLETE => of_length(only_byte(fields).map(
+            |byte| Command::TransferComplete { result: byte },
+        )),
+        command::VERIFY_COMPLETE => of_length(only_byte(fields).map(|byte| Command::VerifyComplete {
+            result: byte,
+        })),
         command::APPLY_COMPLETE => of_length(apply_complete(fields)),
         command::ACTIVATE_FIRMWARE => activate_firmware(fields),
         command::GET_STATUS => alone(fields, Command::GetStatus),
@@ -52,7 +58,11 @@ fn of_length(found: Option<Command<'_>>) -> Result<Command<'_>, u8>
 fn alone<'a>(fields: &[u8], command: Command<'a>) -> Result<Command<'a>, u8>
     ensures { result_map_both command_of (λ e. e) result ≡ Rattle.fwup_wire.specs.Commands.alone fields.now (command_of command.entry) }
 {
-    if fields.is_empty() { Ok(command) } else { Err(ERROR_INVALID_LENGTH) }
+    if fields.is_empty() {
+        Ok(command)
+    } else {
+        Err(ERROR_INVALID_LENGTH)
+    }
 }
 
 fn request_update(fields: &[u8]) -> Option<UpdateRequest<'_>>
@@ -145,15 +155,22 @@ fn apply_complete(fields: &[u8]) -> Option<Command<'static>>
     if !cursor.is_at_end() {
         return None;
     }
-    Some(Command::ApplyComplete { result: outcome, methods })
+    Some(Command::ApplyComplete {
+        result: outcome,
+        methods,
+    })
 }
 
 fn activate_firmware(fields: &[u8]) -> Result<Command<'static>, u8>
     ensures { result_map_both command_of (λ e. e) result ≡ activation_read fields.now }
 {
     match fields {
-        [0] => Ok(Command::ActivateFirmware { self_contained: false }),
-        [1] => Ok(Command::ActivateFirmware { self_contained: true }),
+        [0] => Ok(Command::ActivateFirmware {
+            self_contained: false,
+        }),
+        [1] => Ok(Command::ActivateFirmware {
+            self_contained: true,
+        }),
         [_] => Err(ERROR_INVALID_DATA),
         _ => Err(ERROR_INVALID_LENGTH),
     }
