@@ -1,5 +1,5 @@
 -- The fields that messages are made of. Integers are little-endian.
-use Rattle.std.specs.Prelude.{[], ◌++◌, ◌==◌, ◌∷◌, ◌≡◌, Bool, List, None, Option, false, true, ◌<◌, ◌^◌, Some, if◌then◌else◌, length, ℕ}
+use Rattle.std.specs.Prelude.{nat_le, take, [], ◌++◌, ◌==◌, ◌∷◌, ◌≡◌, Bool, List, None, Option, false, true, ◌<◌, ◌^◌, Some, if◌then◌else◌, length, ℕ}
 use Rattle.byteorder.specs.Endian.{little_bytes, little_number}
 use Rattle.fwup_wire.specs.Values.{TextOf}
 use Rattle.fwup_wire.specs.declared.values.Key.{Key}
@@ -55,6 +55,10 @@ abbrev pub first_component : List ℕ → Option (Key × ℕ × ℕ)
 first_component (c0 ∷ c1 ∷ i0 ∷ i1 ∷ index ∷ s0 ∷ s1 ∷ s2 ∷ s3 ∷ _) =
     Some (record { classification = u16_of c0 c1; identifier = u16_of i0 i1 }, index, u32_of s0 s1 s2 s3)
 first_component _ = None
+
+-- the first so many bytes, if there are as many
+abbrev pub first_bytes : ℕ → List ℕ → Option (List ℕ)
+first_bytes count bytes = if nat_le count (length bytes) then Some (take count bytes) else None
 
 -- The bytes are this text: its type, its length and exactly as many bytes.
 abbrev pub IsText : List ℕ → TextOf → Type 0

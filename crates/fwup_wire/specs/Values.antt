@@ -16,6 +16,11 @@ pub record VersionOf : Type 0 where
   pub stamp : ℕ
   pub text : TextOf
 
+-- a descriptor of a device
+pub record DescriptorOf : Type 0 where
+  pub kind : ℕ
+  pub bytes : List ℕ
+
 -- what RequestUpdate says
 pub record RequestOf : Type 0 where
   pub transfer_size : ℕ

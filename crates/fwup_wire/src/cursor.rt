@@ -2,10 +2,11 @@
 
 ghost use Rattle.std.specs.Prelude.{List, drop, length, IfSome, IsTrue, ◌↔◌, ◌≡◌, [], ℕ};
 ghost use Rattle.std.specs.Option.{option_map};
-ghost use Rattle.fwup_wire.specs.Fields.{first_byte, first_component, first_key, first_u16, first_u32, last_text};
-ghost use Rattle.fwup_wire.specs.Lent.{text_of};
+ghost use Rattle.fwup_wire.specs.Descriptors.{descriptor_size, first_descriptor};
+ghost use Rattle.fwup_wire.specs.Fields.{first_byte, first_bytes, first_component, first_key, first_u16, first_u32, last_text};
+ghost use Rattle.fwup_wire.specs.Lent.{descriptor_of, text_of};
 
-use crate::values::{Key, Text};
+use crate::values::{Descriptor, Key, Text};
 use byteorder::{ByteOrder, LittleEndian};
 use std::marker::Model;
 
@@ -96,6 +97,38 @@ impl<'a> Cursor<'a> {
         let index = self.byte()?;
         let stamp = self.u32()?;
         Some((key, index, stamp))
+    }
+
+    /// The next descriptor.
+    pub fn descriptor(&mut self) -> Option<Descriptor<'a>>
+        ensures value { option_map descriptor_of result ≡ first_descriptor self.old }
+        ensures rest { IfSome result (λ d. self.new ≡ drop (descriptor_size (descriptor_of d)) self.old) }
+    {
+        let kind = self.u16()?;
+        let length = self.u16()?;
+        let bytes = self.bytes(usize::from(length))?;
+        Some(Descriptor { kind, bytes })
+    }
+
+    /// The next bytes, so many of them.
+    pub fn bytes(&mut self, count: usize) -> Option<&'a [u8]>
+        ensures value { option_map (λ bytes. bytes.now) result ≡ first_bytes count self.old }
+        ensures rest { IfSome result (λ _. self.new ≡ drop count self.old) }
+    {
+        let bytes = self.rest;
+        if bytes.len() < count {
+            return None;
+        }
+        let (first, rest) = bytes.split_at(count);
+        self.rest = rest;
+        Some(first)
+    }
+
+    /// What is left.
+    pub fn rest(&self) -> &'a [u8]
+        ensures { result.now ≡ self.now }
+    {
+        self.rest
     }
 
     /// The text that takes all that is left: its type, its length and its bytes.

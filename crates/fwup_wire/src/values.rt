@@ -21,6 +21,15 @@ pub struct Text<'a> {
     pub bytes: &'a [u8],
 }
 
+/// One of the descriptors by which a package names the devices that it is for.
+#[derive(Clone, Copy, Debug)]
+pub struct Descriptor<'a> {
+    /// What the descriptor tells, as a PCI vendor ID.
+    pub kind: u16,
+    /// The descriptor's data.
+    pub bytes: &'a [u8],
+}
+
 /// What an image calls itself.
 #[derive(Clone, Copy, Debug)]
 pub struct Version<'a> {
