@@ -1,3 +1,4 @@
+pub mod DescriptorLaws
 mod Found
 pub mod Items
 mod Written

@@ -2,7 +2,7 @@
 use Rattle.std.specs.Prelude.{List, None, Option, Some, [], if◌then◌else◌, length, nat_le, take, unwrap_or, ◌+◌, ◌++◌, ◌∷◌, ◌<◌, ◌^◌, ℕ}
 use Rattle.byteorder.specs.Endian.{little_bytes}
 use Rattle.fwup_wire.specs.Fields.{u16_of}
-use Rattle.fwup_wire.specs.Items.{items_bytes, items_in}
+use Rattle.fwup_wire.specs.Items.{AreItems, items_bytes, items_in}
 use Rattle.fwup_wire.specs.Values.{DescriptorOf}
 
 -- the descriptor that bytes begin with, if they do
@@ -31,3 +31,7 @@ descriptors_bytes ds = items_bytes descriptor_bytes ds
 -- its type and its length fit their fields
 abbrev pub HasDescriptorWidths : DescriptorOf → Type 0
 HasDescriptorWidths d = (d.kind < 256 ^ 2) × (length d.bytes < 256 ^ 2)
+
+-- The bytes are so many descriptors, these, as they are written.
+abbrev pub AreDescriptors : ℕ → List ℕ → List DescriptorOf → Type 0
+AreDescriptors count bytes ds = AreItems first_descriptor descriptor_size descriptor_bytes count bytes ds

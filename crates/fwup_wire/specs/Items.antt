@@ -1,5 +1,5 @@
 -- Lists whose items stand one after the other in a message, each as long as it says itself.
-use Rattle.std.specs.Prelude.{List, None, Option, Some, [], drop, suc, unwrap_or, zero, ◌∷◌, ◌++◌, ℕ}
+use Rattle.std.specs.Prelude.{List, None, Option, Some, [], drop, suc, unwrap_or, zero, ◌∷◌, ◌++◌, ◌≡◌, ℕ}
 use Rattle.std.specs.Option.{option_map}
 
 -- a first item, if there is one, and those behind it, if there are such
@@ -18,3 +18,14 @@ items_in first size (suc count) bytes = with_first (first bytes) (λ a. items_in
 abbrev pub items_bytes : {A : Type 0} → (A → List ℕ) → List A → List ℕ
 items_bytes spelling [] = []
 items_bytes spelling (a ∷ items) = spelling a ++ items_bytes spelling items
+
+-- a fact of each item
+abbrev pub EachItem : {A : Type 0} → (A → Type 0) → List A → Type 0
+EachItem P [] = Unit {0}
+EachItem P (a ∷ items) = P a × EachItem P items
+
+-- The bytes are so many items, these, as they are written.
+pub record AreItems {A : Type 0} (first : List ℕ → Option A) (size : A → ℕ) (spelling : A → List ℕ) (count : ℕ)
+    (bytes : List ℕ) (items : List A) : Type 0 where
+  pub found : items_in first size count bytes ≡ Some items
+  pub spelled : bytes ≡ items_bytes spelling items
