@@ -1,11 +1,11 @@
 -- A descriptor, read and written.
-use Rattle.std.proofs.Common.{Bool, List, None, Option, Some, [], ap, arith, drop, false, if◌then◌else◌, is_some, length, nat_le, refl, sym, take, true, unwrap_or, ◌-◌, ◌%◌, ◌*◌, ◌+◌, ◌++◌, ◌∙◌, ◌/◌, ◌<◌, ◌≤◌, ◌∷◌, ◌≡◌, ℕ}
+use Rattle.std.proofs.Common.{Bool, List, None, Some, [], ap, arith, drop, false, if◌then◌else◌, is_some, length, nat_le, refl, sym, take, true, unwrap_or, ◌-◌, ◌%◌, ◌*◌, ◌+◌, ◌++◌, ◌∙◌, ◌/◌, ◌<◌, ◌≤◌, ◌∷◌, ◌≡◌, ℕ}
 use Rattle.std.proofs.lemmas.Bool.{le-leb, leb-true}
 use Rattle.std.proofs.lemmas.List.{length-append, length-take-le, take-append-drop}
 use Rattle.std.proofs.Math.Seq.{drop-append-add, drop-append_seam, take-append_seam}
 use Rattle.byteorder.specs.Numbers.{little_number-reads_back}
-use Rattle.fwup_wire.proofs.Items.{AreBytes, are_items, items_behind}
-use Rattle.fwup_wire.specs.Descriptors.{AreDescriptors, HasDescriptorWidths, descriptor_bytes, descriptor_size, descriptors_in, first_descriptor}
+use Rattle.fwup_wire.proofs.Items.{AreBytes, are_items, items_behind, items_kept, items_pushed}
+use Rattle.fwup_wire.specs.Descriptors.{AreDescriptors, HasDescriptorWidths, HoldsDescriptors, descriptor_bytes, descriptor_size, descriptors_in, first_descriptor}
 use Rattle.fwup_wire.specs.Fields.{u16_of}
 use Rattle.fwup_wire.specs.Values.{DescriptorOf}
 
@@ -28,7 +28,7 @@ spelled_at k0 k1 l0 l1 rest d true fits a b c e is =
     let behind : drop (4 + u16_of l0 l1) (k0 ∷ k1 ∷ l0 ∷ l1 ∷ rest) ≡ drop (u16_of l0 l1) rest =
     drop-append-add (k0 ∷ k1 ∷ l0 ∷ l1 ∷ []) rest (u16_of l0 l1) in
     rw (same, whole, behind, low_of k0 k1 a, high_of k0 k1 a b, low_of l0 l1 c, high_of l0 l1 c e)
-      (ap (λ tail. k0 ∷ k1 ∷ l0 ∷ l1 ∷ tail) (sym (take-append-drop (u16_of l0 l1) rest)))
+    (ap (λ tail. k0 ∷ k1 ∷ l0 ∷ l1 ∷ tail) (sym (take-append-drop (u16_of l0 l1) rest)))
 
 pub descriptor_spelled : (bytes : List ℕ) (d : DescriptorOf) → AreBytes bytes → first_descriptor bytes ≡ Some d
     → bytes ≡ descriptor_bytes d ++ drop (descriptor_size d) bytes
@@ -51,7 +51,7 @@ descriptor_reads_back d rest fits =
     let kind = little_number-reads_back 2 d.kind [] fits.0 in
     let size = little_number-reads_back 2 (length d.bytes) [] fits.1 in
     rw kind (read_at d rest (u16_of (length d.bytes % 256) (length d.bytes / 256 % 256))
-      (nat_le (u16_of (length d.bytes % 256) (length d.bytes / 256 % 256)) (length (d.bytes ++ rest))) size refl)
+    (nat_le (u16_of (length d.bytes % 256) (length d.bytes / 256 % 256)) (length (d.bytes ++ rest))) size refl)
 
 pub descriptor_skips : (d : DescriptorOf) (rest : List ℕ) → drop (descriptor_size d) (descriptor_bytes d ++ rest) ≡ rest
 descriptor_skips d rest =
@@ -69,3 +69,25 @@ pub descriptors_behind : (count : ℕ) (bytes : List ℕ) (d : DescriptorOf) (ds
     → AreDescriptors (count - 1) (drop (descriptor_size d) bytes) (unwrap_or (descriptors_in (count - 1) (drop (descriptor_size d) bytes)) [])
 descriptors_behind count bytes d ds some is are =
     items_behind first_descriptor descriptor_size descriptor_bytes descriptor_skips count bytes d ds some is are
+
+-- one more descriptor
+pub descriptors_pushed : (count : ℕ) (bytes : List ℕ) (ds : List DescriptorOf) (d : DescriptorOf) → HoldsDescriptors count bytes ds
+    → HasDescriptorWidths d → HoldsDescriptors (count + 1) (bytes ++ descriptor_bytes d) (ds ++ d ∷ [])
+descriptors_pushed count bytes ds d holds fits =
+    items_pushed first_descriptor descriptor_size descriptor_bytes HasDescriptorWidths descriptor_reads_back descriptor_skips count bytes ds d holds fits
+
+pub descriptors_kept : (count : ℕ) (bytes : List ℕ) (ds : List DescriptorOf) (d : DescriptorOf) → HoldsDescriptors count bytes ds
+    → HasDescriptorWidths d
+    → HoldsDescriptors (count + 1) (bytes ++ descriptor_bytes d) (unwrap_or (descriptors_in (count + 1) (bytes ++ descriptor_bytes d)) [])
+descriptors_kept count bytes ds d holds fits =
+    items_kept first_descriptor descriptor_size descriptor_bytes HasDescriptorWidths (count + 1) (bytes ++ descriptor_bytes d) (ds ++ d ∷ []) (descriptors_pushed count bytes ds d holds fits)
+
+pub descriptors_seen : (count : ℕ) (bytes : List ℕ) (ds : List DescriptorOf) (d : DescriptorOf) → HoldsDescriptors count bytes ds
+    → HasDescriptorWidths d → unwrap_or (descriptors_in (count + 1) (bytes ++ descriptor_bytes d)) [] ≡ ds ++ d ∷ []
+descriptors_seen count bytes ds d holds fits =
+    let pushed = descriptors_pushed count bytes ds d holds fits in let found = pushed.are.found in rw found refl
+
+-- it gets longer by as much
+pub descriptors_longer : (count : ℕ) (bytes : List ℕ) (d : DescriptorOf) → 4 * count ≤ length bytes
+    → 4 * (count + 1) ≤ length (bytes ++ descriptor_bytes d)
+descriptors_longer count bytes d long = rw (length-append bytes (descriptor_bytes d)) (omega (arith, long))

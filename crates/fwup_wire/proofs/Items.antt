@@ -1,8 +1,8 @@
 -- Lists of items, one after the other.
-use Rattle.std.proofs.Common.{Bool, List, None, Option, Some, [], ap, arith, drop, false, is_some, length, refl, slice_index, suc, sym, true, unwrap_or, zero, ◌+◌, ◌++◌, ◌-◌, ◌<◌, ◌∙◌, ◌∷◌, ◌≡◌, ℕ}
-use Rattle.std.proofs.lemmas.List.{get_or-drop}
+use Rattle.std.proofs.Common.{List, None, Option, Some, [], ap, arith, drop, is_some, length, refl, slice_index, suc, sym, true, unwrap_or, zero, ◌+◌, ◌++◌, ◌-◌, ◌<◌, ◌∙◌, ◌∷◌, ◌≡◌, ℕ}
+use Rattle.std.proofs.lemmas.List.{append_assoc, append-nil, get_or-drop, length-append}
 use Rattle.std.specs.Option.{option_map}
-use Rattle.fwup_wire.specs.Items.{AreItems, EachItem, items_bytes, items_in, with_first}
+use Rattle.fwup_wire.specs.Items.{AreItems, EachItem, HoldsItems, items_bytes, items_in, with_first}
 
 is_some-option_map : {A B : Type 0} (f : A → B) (o : Option A) → is_some (option_map f o) ≡ is_some o
 is_some-option_map f None = refl
@@ -37,9 +37,9 @@ items_length first size zero [] items e = let none : items ≡ [] = cc in rw non
 items_length first size zero (x ∷ xs) items e = absurd (cc)
 items_length {A} first size (suc count) bytes items e =
     first_found (first bytes) (λ a. items_in first size count (drop (size a) bytes)) items e
-      (λ a others is others_are same.
-         let rest = items_length first size count (drop (size a) bytes) others others_are in
-         rw same (omega (arith, rest)))
+    (λ a others is others_are same.
+    let rest = items_length first size count (drop (size a) bytes) others others_are in
+    rw same (omega (arith, rest)))
 
 abbrev pub AreBytes : List ℕ → Type 0
 AreBytes bytes = (k : ℕ) → slice_index bytes k < 256
@@ -56,9 +56,9 @@ items_spelled first size spelling exact zero [] items are e = let none : items �
 items_spelled first size spelling exact zero (x ∷ xs) items are e = absurd (cc)
 items_spelled first size spelling exact (suc count) bytes items are e =
     first_found (first bytes) (λ a. items_in first size count (drop (size a) bytes)) items e
-      (λ a others is others_are same.
-         let rest = items_spelled first size spelling exact count (drop (size a) bytes) others (bytes_behind (size a) bytes are) others_are in
-         exact bytes a are is ∙ ap (λ behind. spelling a ++ behind) rest ∙ ap (items_bytes spelling) (sym same))
+    (λ a others is others_are same.
+    let rest = items_spelled first size spelling exact count (drop (size a) bytes) others (bytes_behind (size a) bytes are) others_are in
+    exact bytes a are is ∙ ap (λ behind. spelling a ++ behind) rest ∙ ap (items_bytes spelling) (sym same))
 
 -- what is written is found again
 pub items_read_back : {A : Type 0} (first : List ℕ → Option A) (size : A → ℕ) (spelling : A → List ℕ) (Fits : A → Type 0)
@@ -100,10 +100,45 @@ items_behind first size spelling skips count bytes a items some is are =
     let found = are.found in
     let more = rw (one, is) at found in
     others_found a (items_in first size (count - 1) (drop (size a) bytes)) items more
-      (λ others others_are same.
-         let spelled = are.spelled in
-         rw others_are
-           (record {
-              found = others_are;
-              spelled = ap (drop (size a)) (rw same at spelled) ∙ skips a (items_bytes spelling others);
-            }))
+    (λ others others_are same.
+    let spelled = are.spelled in
+    rw others_are
+    (record {
+      found = others_are;
+      spelled = ap (drop (size a)) (rw same at spelled) ∙ skips a (items_bytes spelling others);
+    }))
+
+-- one more item at the end
+EachItem-append : {A : Type 0} (P : A → Type 0) (items : List A) (a : A) → EachItem P items → P a → EachItem P (items ++ a ∷ [])
+EachItem-append P [] a each one = (one, tt)
+EachItem-append P (b ∷ items) a each one = (each.0, EachItem-append P items a each.1 one)
+
+items_bytes-append : {A : Type 0} (spelling : A → List ℕ) (items : List A) (a : A)
+    → items_bytes spelling (items ++ a ∷ []) ≡ items_bytes spelling items ++ spelling a
+items_bytes-append spelling [] a = append-nil (spelling a)
+items_bytes-append spelling (b ∷ items) a =
+    ap (λ behind. spelling b ++ behind) (items_bytes-append spelling items a)
+    ∙ sym (append_assoc (spelling b) (items_bytes spelling items) (spelling a))
+
+pub items_pushed : {A : Type 0} (first : List ℕ → Option A) (size : A → ℕ) (spelling : A → List ℕ) (Fits : A → Type 0)
+    → ((a : A) (rest : List ℕ) → Fits a → first (spelling a ++ rest) ≡ Some a)
+    → ((a : A) (rest : List ℕ) → drop (size a) (spelling a ++ rest) ≡ rest)
+    → (count : ℕ) (bytes : List ℕ) (items : List A) (a : A) → HoldsItems first size spelling Fits count bytes items → Fits a
+    → HoldsItems first size spelling Fits (count + 1) (bytes ++ spelling a) (items ++ a ∷ [])
+items_pushed {A} first size spelling Fits reads skips count bytes items a holds fits =
+    let each = EachItem-append Fits items a holds.fit fits in
+    let long = items_length first size count bytes items holds.are.found in
+    let longer : length (items ++ a ∷ []) ≡ count + 1 = length-append items (a ∷ []) ∙ (rw long refl) in
+    let spelled : bytes ++ spelling a ≡ items_bytes spelling (items ++ a ∷ []) =
+    ap (λ before. before ++ spelling a) holds.are.spelled ∙ sym (items_bytes-append spelling items a) in
+    let back = items_read_back first size spelling Fits reads skips (items ++ a ∷ []) each in
+    record {
+      are = record { found = rw (spelled, sym longer) back; spelled = spelled };
+      fit = each;
+    }
+
+-- the same of what is found then
+pub items_kept : {A : Type 0} (first : List ℕ → Option A) (size : A → ℕ) (spelling : A → List ℕ) (Fits : A → Type 0)
+    (count : ℕ) (bytes : List ℕ) (items : List A) → HoldsItems first size spelling Fits count bytes items
+    → HoldsItems first size spelling Fits count bytes (unwrap_or (items_in first size count bytes) [])
+items_kept first size spelling Fits count bytes items holds = let found = holds.are.found in rw found holds

@@ -1,8 +1,8 @@
 -- The descriptors of a device (DSP0267 1.0, "Descriptor definition"): each has a type, a length and its data.
-use Rattle.std.specs.Prelude.{List, None, Option, Some, [], if◌then◌else◌, length, nat_le, take, unwrap_or, ◌+◌, ◌++◌, ◌∷◌, ◌<◌, ◌^◌, ℕ}
+use Rattle.std.specs.Prelude.{List, None, Option, Some, if◌then◌else◌, length, nat_le, take, ◌+◌, ◌++◌, ◌∷◌, ◌<◌, ◌^◌, ℕ}
 use Rattle.byteorder.specs.Endian.{little_bytes}
 use Rattle.fwup_wire.specs.Fields.{u16_of}
-use Rattle.fwup_wire.specs.Items.{AreItems, items_bytes, items_in}
+use Rattle.fwup_wire.specs.Items.{AreItems, HoldsItems, items_bytes, items_in}
 use Rattle.fwup_wire.specs.Values.{DescriptorOf}
 
 -- the descriptor that bytes begin with, if they do
@@ -35,3 +35,8 @@ HasDescriptorWidths d = (d.kind < 256 ^ 2) × (length d.bytes < 256 ^ 2)
 -- The bytes are so many descriptors, these, as they are written.
 abbrev pub AreDescriptors : ℕ → List ℕ → List DescriptorOf → Type 0
 AreDescriptors count bytes ds = AreItems first_descriptor descriptor_size descriptor_bytes count bytes ds
+
+-- the same of a list that is put together: its descriptors fit their fields
+abbrev pub HoldsDescriptors : ℕ → List ℕ → List DescriptorOf → Type 0
+HoldsDescriptors count bytes ds =
+    HoldsItems first_descriptor descriptor_size descriptor_bytes HasDescriptorWidths count bytes ds

@@ -1,5 +1,5 @@
 -- Lists whose items stand one after the other in a message, each as long as it says itself.
-use Rattle.std.specs.Prelude.{List, None, Option, Some, [], drop, suc, unwrap_or, zero, ◌∷◌, ◌++◌, ◌≡◌, ℕ}
+use Rattle.std.specs.Prelude.{List, None, Option, Some, [], drop, suc, zero, ◌∷◌, ◌++◌, ◌≡◌, ℕ}
 use Rattle.std.specs.Option.{option_map}
 
 -- a first item, if there is one, and those behind it, if there are such
@@ -29,3 +29,9 @@ pub record AreItems {A : Type 0} (first : List ℕ → Option A) (size : A → �
     (bytes : List ℕ) (items : List A) : Type 0 where
   pub found : items_in first size count bytes ≡ Some items
   pub spelled : bytes ≡ items_bytes spelling items
+
+-- The bytes are so many items, these, each of which fits its fields.
+pub record HoldsItems {A : Type 0} (first : List ℕ → Option A) (size : A → ℕ) (spelling : A → List ℕ) (Fits : A → Type 0)
+    (count : ℕ) (bytes : List ℕ) (items : List A) : Type 0 where
+  pub are : AreItems first size spelling count bytes items
+  pub fit : EachItem Fits items

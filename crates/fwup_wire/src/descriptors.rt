@@ -1,9 +1,9 @@
 //! Lists of descriptors as they are sent.
 
 ghost use Rattle.std.specs.Iterator.{YieldsFirstBy, item_count};
-ghost use Rattle.std.specs.Prelude.{IsTrue, List, [], drop, length, ◌↔◌, ◌≡◌, ◌<◌, ℕ};
+ghost use Rattle.std.specs.Prelude.{IsTrue, List, [], drop, length, unwrap_or, ◌↔◌, ◌≡◌, ◌<◌, ℕ};
 ghost use Rattle.fwup_wire.specs.Lent.{descriptor_of};
-ghost use Rattle.fwup_wire.specs.Descriptors.{descriptors_bytes, descriptors_in};
+ghost use Rattle.fwup_wire.specs.Descriptors.{AreDescriptors, descriptors_bytes, descriptors_in};
 
 use crate::cursor::Cursor;
 use crate::values::Descriptor;
@@ -42,6 +42,14 @@ impl<'a> Descriptors<'a> {
             return None;
         }
         Some(Descriptors { count, bytes })
+    }
+
+    /// So many descriptors, which the bytes are known to be.
+    pub(crate) fn known(count: u8, bytes: &'a [u8]) -> Self
+        requires { AreDescriptors count bytes.now (unwrap_or (descriptors_in count bytes.now) []) }
+        ensures { result ≡ unwrap_or (descriptors_in count bytes.now) [] }
+    {
+        Descriptors { count, bytes }
     }
 
     /// The descriptors one after the other, as they are sent.

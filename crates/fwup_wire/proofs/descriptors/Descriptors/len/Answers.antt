@@ -7,5 +7,5 @@ pub returns : goal.returns
 returns c =
     c.from.ensures
     ∙ sym
-        (items_length first_descriptor descriptor_size c.self.inside.count c.self.inside.bytes.now c.args.self.now
-           (c.self.invariant.found ∙ ap (λ items. Some items) c.self.view_is))
+    (items_length first_descriptor descriptor_size c.self.inside.count c.self.inside.bytes.now c.args.self.now
+    (c.self.invariant.found ∙ ap (λ items. Some items) c.self.view_is))

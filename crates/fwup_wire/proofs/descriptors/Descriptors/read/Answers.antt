@@ -7,6 +7,6 @@ use Rattle.fwup_wire.proofs.descriptors.Descriptors.read.Goals as goal
 pub loop-preserved : goal.loop-preserved
 loop-preserved c =
     rw c.in_ok-descriptor.ensures.rest
-      (c.loop.invariant
-       ∙ items_more first_descriptor descriptor_size c.args.count c.loop.counter c.loop.cursor
-           (descriptor_of c.in_ok-descriptor.field-0) (omega arith) (sym c.in_ok-descriptor.ensures.value))
+    (c.loop.invariant
+    ∙ items_more first_descriptor descriptor_size c.args.count c.loop.counter c.loop.cursor
+    (descriptor_of c.in_ok-descriptor.field-0) (omega arith) (sym c.in_ok-descriptor.ensures.value))
