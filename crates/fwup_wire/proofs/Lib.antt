@@ -1,4 +1,5 @@
 pub mod DescriptorLaws
 mod Found
 pub mod Items
+pub mod Parts
 mod Written

@@ -1,5 +1,5 @@
 -- The values of commands and answers whose texts and data are lent.
-use Rattle.fwup_wire.specs.Values.{AnswerOf, CommandOf, DescriptorOf, EntryOf, OfferOf, RequestOf, TextOf, VersionOf}
+use Rattle.fwup_wire.specs.Values.{AnswerOf, CommandOf, DescriptorOf, EntryOf, OfferOf, ParametersOf, RequestOf, TextOf, VersionOf}
 use Rattle.fwup_wire.specs.declared.answer.Answer.{Answer}
 use Rattle.fwup_wire.specs.declared.answer.Answer.TheVariants as answers
 use Rattle.fwup_wire.specs.declared.command.Command.{Command}
@@ -7,6 +7,7 @@ use Rattle.fwup_wire.specs.declared.command.Command.TheVariants as commands
 use Rattle.fwup_wire.specs.declared.command.ComponentOffer.{ComponentOffer}
 use Rattle.fwup_wire.specs.declared.command.TableEntry.{TableEntry}
 use Rattle.fwup_wire.specs.declared.command.UpdateRequest.{UpdateRequest}
+use Rattle.fwup_wire.specs.declared.values.ComponentParameters.{ComponentParameters}
 use Rattle.fwup_wire.specs.declared.values.Descriptor.{Descriptor}
 use Rattle.fwup_wire.specs.declared.values.Text.{Text}
 use Rattle.fwup_wire.specs.declared.values.Version.{Version}
@@ -19,6 +20,10 @@ descriptor_of d = record { kind = d.kind; bytes = d.bytes.now }
 
 abbrev pub version_of : Version → VersionOf
 version_of v = record { stamp = v.stamp; text = text_of v.text }
+
+abbrev pub parameters_of : ComponentParameters → ParametersOf
+parameters_of p =
+    record { key = p.key; index = p.index; active = version_of p.active; pending = version_of p.pending }
 
 abbrev pub request_of : UpdateRequest → RequestOf
 request_of r =

@@ -5,4 +5,5 @@ pub mod Fields
 pub mod Items
 pub mod Laws
 pub mod Lent
+pub mod Parameters
 pub mod Values

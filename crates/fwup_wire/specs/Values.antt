@@ -21,6 +21,13 @@ pub record DescriptorOf : Type 0 where
   pub kind : ℕ
   pub bytes : List ℕ
 
+-- what a device tells of one of its components
+pub record ParametersOf : Type 0 where
+  pub key : Key
+  pub index : ℕ
+  pub active : VersionOf
+  pub pending : VersionOf
+
 -- what RequestUpdate says
 pub record RequestOf : Type 0 where
   pub transfer_size : ℕ

@@ -1,12 +1,13 @@
 //! Reading the fields of a message one after the other. Each step is one checked advance, and lengths have one place.
 
-ghost use Rattle.std.specs.Prelude.{List, drop, length, IfSome, IsTrue, ◌↔◌, ◌≡◌, [], ℕ};
+ghost use Rattle.std.specs.Prelude.{List, drop, is_some, length, IfSome, IsTrue, ◌↔◌, ◌≡◌, [], ℕ};
 ghost use Rattle.std.specs.Option.{option_map};
 ghost use Rattle.fwup_wire.specs.Descriptors.{descriptor_size, first_descriptor};
 ghost use Rattle.fwup_wire.specs.Fields.{first_byte, first_bytes, first_component, first_key, first_u16, first_u32, last_text};
-ghost use Rattle.fwup_wire.specs.Lent.{descriptor_of, text_of};
+ghost use Rattle.fwup_wire.specs.Parameters.{first_parameters, first_text_head, has_methods, parameters_size};
+ghost use Rattle.fwup_wire.specs.Lent.{descriptor_of, parameters_of, text_of};
 
-use crate::values::{Descriptor, Key, Text};
+use crate::values::{ComponentParameters, Descriptor, Key, Text, Version};
 use byteorder::{ByteOrder, LittleEndian};
 use std::marker::Model;
 
@@ -110,10 +111,68 @@ impl<'a> Cursor<'a> {
         Some(Descriptor { kind, bytes })
     }
 
+    #[tactic(auto, using(crate::proofs::Parts::parameters_skipped))]
+    /// The parameters of the next component. A text's bytes stand behind all other fields.
+    pub fn parameters(&mut self) -> Option<ComponentParameters<'a>>
+        ensures value { option_map parameters_of result ≡ first_parameters self.old }
+        ensures rest { IfSome result (λ p. self.new ≡ drop (parameters_size (parameters_of p)) self.old) }
+    {
+        let (key, index, active_stamp) = self.component()?;
+        let (active_type, active_length) = self.text_head()?;
+        let pending_stamp = self.u32()?;
+        let (pending_type, pending_length) = self.text_head()?;
+        self.methods()?;
+        let active_text = self.bytes(usize::from(active_length))?;
+        let pending_text = self.bytes(usize::from(pending_length))?;
+        Some(ComponentParameters {
+            key,
+            index,
+            active: Version {
+                stamp: active_stamp,
+                text: Text {
+                    text_type: active_type,
+                    bytes: active_text,
+                },
+            },
+            pending: Version {
+                stamp: pending_stamp,
+                text: Text {
+                    text_type: pending_type,
+                    bytes: pending_text,
+                },
+            },
+        })
+    }
+
+    /// The type and the length of a text whose bytes come later, and a date that isn't set.
+    fn text_head(&mut self) -> Option<(u8, u8)>
+        ensures value { result ≡ first_text_head self.old }
+        ensures rest { IfSome result (λ _. self.new ≡ drop 10 self.old) }
+    {
+        let [text_type, length, 0, 0, 0, 0, 0, 0, 0, 0, rest @ ..] = self.rest else {
+            return None;
+        };
+        self.rest = rest;
+        Some((*text_type, *length))
+    }
+
+    /// The activation methods and the capabilities of a component, which have one value each.
+    fn methods(&mut self) -> Option<()>
+        ensures value { is_some result ≡ has_methods self.old }
+        ensures rest { IfSome result (λ _. self.new ≡ drop 6 self.old) }
+    {
+        let [2, 0, 0, 0, 0, 0, rest @ ..] = self.rest else {
+            return None;
+        };
+        self.rest = rest;
+        Some(())
+    }
+
     /// The next bytes, so many of them.
     pub fn bytes(&mut self, count: usize) -> Option<&'a [u8]>
         ensures value { option_map (λ bytes. bytes.now) result ≡ first_bytes count self.old }
         ensures rest { IfSome result (λ _. self.new ≡ drop count self.old) }
+        ensures whole { IfSome result (λ bytes. length bytes.now ≡ count) }
     {
         let bytes = self.rest;
         if bytes.len() < count {

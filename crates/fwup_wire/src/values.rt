@@ -39,6 +39,19 @@ pub struct Version<'a> {
     pub text: Text<'a>,
 }
 
+/// What a device tells of one of its components: which it is, and which images of it there are.
+#[derive(Clone, Copy, Debug)]
+pub struct ComponentParameters<'a> {
+    /// The component.
+    pub key: Key,
+    /// Which of several components of this classification in the device.
+    pub index: u8,
+    /// The version of the image that runs.
+    pub active: Version<'a>,
+    /// The version of the image that was applied and isn't active yet; stamp 0, type 0 and no bytes where there is none.
+    pub pending: Version<'a>,
+}
+
 /// Where an entry stands in the component table.
 #[derive(Clone, Copy, Debug, PartialEq, Eq)]
 pub enum TransferFlag {
