@@ -44,7 +44,7 @@ items_length {A} first size (suc count) bytes items e =
 abbrev pub AreBytes : List ℕ → Type 0
 AreBytes bytes = (k : ℕ) → slice_index bytes k < 256
 
-bytes_behind : (n : ℕ) (bytes : List ℕ) → AreBytes bytes → AreBytes (drop n bytes)
+pub bytes_behind : (n : ℕ) (bytes : List ℕ) → AreBytes bytes → AreBytes (drop n bytes)
 bytes_behind n bytes are k = rw (get_or-drop n bytes k 0) (are (n + k))
 
 -- where a first item stands as it is written, so do all

@@ -1,5 +1,6 @@
 pub mod DescriptorLaws
 mod Found
 pub mod Items
+pub mod ParameterLaws
 pub mod Parts
 mod Written
