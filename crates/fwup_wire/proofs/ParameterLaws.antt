@@ -1,14 +1,14 @@
 -- A component's parameters, read and written.
-use Rattle.std.proofs.Common.{Bool, List, None, Option, Some, [], ap, arith, drop, false, if◌then◌else◌, length, nat_le, refl, replicate, rules, sym, take, true, ◌%◌, ◌+◌, ◌++◌, ◌/◌, ◌<◌, ◌∙◌, ◌∷◌, ◌≡◌, ℕ}
+use Rattle.std.proofs.Common.{Bool, List, None, Option, Some, [], ap, arith, drop, false, if◌then◌else◌, is_some, length, nat_le, refl, replicate, rules, sym, take, true, unwrap_or, ℕ, ◌%◌, ◌*◌, ◌++◌, ◌+◌, ◌-◌, ◌/◌, ◌<◌, ◌∙◌, ◌∷◌, ◌≡◌, ◌≤◌}
 use Rattle.std.proofs.lemmas.Bool.{le-leb, leb-true}
 use Rattle.std.proofs.lemmas.List.{append_assoc, drop-drop, length-append, length-take-le, take-append-drop}
 use Rattle.std.proofs.Math.Seq.{drop-append-add, drop-append_seam, take-append_seam}
 use Rattle.byteorder.specs.Endian.{little_bytes}
 use Rattle.byteorder.specs.Numbers.{little_number-reads_back}
-use Rattle.fwup_wire.proofs.Items.{AreBytes, bytes_behind}
+use Rattle.fwup_wire.proofs.Items.{AreBytes, are_items, bytes_behind, items_behind, items_kept, items_pushed}
 use Rattle.fwup_wire.proofs.Parts.{parameters_skipped}
 use Rattle.fwup_wire.specs.Fields.{component_bytes, first_bytes, first_component, first_u32, u16_of, u32_of}
-use Rattle.fwup_wire.specs.Parameters.{HasParametersWidths, first_parameters, first_text_head, has_methods, parameters_bytes, parameters_size, text_head_bytes, with_part, with_texts}
+use Rattle.fwup_wire.specs.Parameters.{AreParameters, HasParametersWidths, HoldsParameters, first_parameters, first_text_head, has_methods, parameters_bytes, parameters_in, parameters_size, text_head_bytes, with_part, with_texts}
 use Rattle.fwup_wire.specs.Values.{ParametersOf}
 use Rattle.fwup_wire.specs.declared.values.Key.{Key}
 
@@ -181,3 +181,37 @@ parameters_spelled s p are is =
     (methods_exact s4 has) texts.0 others.0 texts.1 others.1
     ∙ ap (λ r. parameters_bytes (made component active pending_stamp pending active_text pending_text) ++ r)
     (parameters_skipped s active.1 pending.1 (length active_text) (length pending_text) texts.1 others.1)))))))))
+
+-- bytes in which components are found are those as they are written
+pub are_parameters : (count : ℕ) (bytes : List ℕ) → AreBytes bytes → is_some (parameters_in count bytes) ≡ true
+    → AreParameters count bytes (unwrap_or (parameters_in count bytes) [])
+are_parameters count bytes are e = are_items first_parameters parameters_size parameters_bytes parameters_spelled count bytes are e
+
+-- behind the first are the others
+pub parameters_behind : (count : ℕ) (bytes : List ℕ) (p : ParametersOf) (ps : List ParametersOf) → (count ≡ 0 → ⊥)
+    → first_parameters bytes ≡ Some p → AreParameters count bytes ps
+    → AreParameters (count - 1) (drop (parameters_size p) bytes) (unwrap_or (parameters_in (count - 1) (drop (parameters_size p) bytes)) [])
+parameters_behind count bytes p ps some is are =
+    items_behind first_parameters parameters_size parameters_bytes parameters_skip count bytes p ps some is are
+
+-- one more component
+pub parameters_pushed : (count : ℕ) (bytes : List ℕ) (ps : List ParametersOf) (p : ParametersOf) → HoldsParameters count bytes ps
+    → HasParametersWidths p → HoldsParameters (count + 1) (bytes ++ parameters_bytes p) (ps ++ p ∷ [])
+parameters_pushed count bytes ps p holds fits =
+    items_pushed first_parameters parameters_size parameters_bytes HasParametersWidths parameters_read_back parameters_skip count bytes ps p holds fits
+
+pub parameters_kept : (count : ℕ) (bytes : List ℕ) (ps : List ParametersOf) (p : ParametersOf) → HoldsParameters count bytes ps
+    → HasParametersWidths p
+    → HoldsParameters (count + 1) (bytes ++ parameters_bytes p) (unwrap_or (parameters_in (count + 1) (bytes ++ parameters_bytes p)) [])
+parameters_kept count bytes ps p holds fits =
+    items_kept first_parameters parameters_size parameters_bytes HasParametersWidths (count + 1) (bytes ++ parameters_bytes p) (ps ++ p ∷ []) (parameters_pushed count bytes ps p holds fits)
+
+pub parameters_seen : (count : ℕ) (bytes : List ℕ) (ps : List ParametersOf) (p : ParametersOf) → HoldsParameters count bytes ps
+    → HasParametersWidths p → unwrap_or (parameters_in (count + 1) (bytes ++ parameters_bytes p)) [] ≡ ps ++ p ∷ []
+parameters_seen count bytes ps p holds fits =
+    let pushed = parameters_pushed count bytes ps p holds fits in let found = pushed.are.found in rw found refl
+
+-- it gets longer by as much
+pub parameters_longer : (count : ℕ) (bytes : List ℕ) (p : ParametersOf) → 39 * count ≤ length bytes
+    → 39 * (count + 1) ≤ length (bytes ++ parameters_bytes p)
+parameters_longer count bytes p long = rw (length-append bytes (parameters_bytes p)) (omega (arith, long))

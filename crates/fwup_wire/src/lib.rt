@@ -13,6 +13,8 @@ mod cursor;
 mod descriptor_list;
 mod descriptors;
 mod laws;
+mod parameter_list;
+mod parameters;
 mod values;
 mod writer;
 
@@ -25,4 +27,6 @@ pub use command_writing::write;
 pub use descriptor_list::{DescriptorList, MAX_DESCRIPTOR_BYTES};
 pub use descriptors::Descriptors;
 pub use laws::{answers_read_back, commands_read_back};
-pub use values::{Descriptor, Key, Text, TransferFlag, Version};
+pub use parameter_list::{MAX_PARAMETER_BYTES, ParameterList};
+pub use parameters::Parameters;
+pub use values::{ComponentParameters, Descriptor, Key, Text, TransferFlag, Version};
