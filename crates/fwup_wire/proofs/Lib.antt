@@ -4,3 +4,4 @@ pub mod Items
 pub mod ParameterLaws
 pub mod Parts
 mod Written
+mod WrittenAnswers

@@ -1,9 +1,12 @@
 -- The answers of DSP0267 1.0: which bytes are one, what reading gives, and how they are written.
-use Rattle.std.specs.Prelude.{[], ◌%◌, ◌++◌, ◌<◌, ◌==◌, ◌&&◌, ◌^◌, ◌∷◌, ◌≡◌, ◌≢◌, ◌≤◌, Bool, Err, List, None, Ok, Option, Result, Some, if◌then◌else◌, length, replicate, true, ℕ}
+use Rattle.std.specs.Prelude.{[], ◌%◌, ◌++◌, ◌<◌, ◌==◌, ◌&&◌, ◌^◌, ◌∷◌, ◌≡◌, ◌≢◌, ◌≤◌, Bool, Err, List, None, Ok, Option, Result, Some, if◌then◌else◌, length, option_map, replicate, true, ℕ}
 use Rattle.std.specs.List.{list_any}
 use Rattle.byteorder.specs.Endian.{little_bytes}
 use Rattle.fwup_wire.specs.Fields.{bit, u16_of, u32_of}
-use Rattle.fwup_wire.specs.Values.{AnswerOf}
+use Rattle.fwup_wire.specs.Descriptors.{HasDescriptorWidths, descriptors_bytes, descriptors_in}
+use Rattle.fwup_wire.specs.Items.{EachItem}
+use Rattle.fwup_wire.specs.Parameters.{HasParametersWidths, all_parameters_bytes, parameters_in}
+use Rattle.fwup_wire.specs.Values.{AnswerOf, DescriptorOf, ParametersOf}
 use Rattle.fwup_wire.specs.declared.answer.Malformed.{Malformed}
 use Rattle.fwup_wire.specs.declared.answer.OfferResponse.{OfferResponse}
 use Rattle.fwup_wire.specs.declared.answer.Status.{Status}
@@ -20,6 +23,20 @@ is_known command = list_any (λ known. known == command) known_commands
 abbrev pub answer_code : AnswerOf → ℕ
 answer_code (AnswerOf.Refused code) = code
 answer_code _ = 0
+
+-- After the code of QueryDeviceIdentifiers: how many bytes and how many descriptors follow, and they.
+abbrev pub IsIdentifiers : List ℕ → List DescriptorOf → Type 0
+IsIdentifiers (l0 ∷ l1 ∷ l2 ∷ l3 ∷ count ∷ rest) ds =
+    (u32_of l0 l1 l2 l3 ≡ length rest) × (descriptors_in count rest ≡ Some ds)
+IsIdentifiers _ ds = ⊥
+
+-- After that of GetFirmwareParameters: capabilities, 0; how many components follow; the heads of the texts of the active
+-- and the pending component image set, of type 0 and length 0; and the components.
+abbrev pub IsParameters : List ℕ → List ParametersOf → Type 0
+IsParameters (c0 ∷ c1 ∷ c2 ∷ c3 ∷ n0 ∷ n1 ∷ a0 ∷ a1 ∷ p0 ∷ p1 ∷ rest) ps =
+    (c0 ≡ 0) × (c1 ≡ 0) × (c2 ≡ 0) × (c3 ≡ 0) × (a0 ≡ 0) × (a1 ≡ 0) × (p0 ≡ 0) × (p1 ≡ 0)
+    × (parameters_in (u16_of n0 n1) rest ≡ Some ps)
+IsParameters _ ps = ⊥
 
 -- After the code of RequestUpdate: the length of the device's metadata, 0, and whether it wants package data, 0.
 abbrev pub no_metadata : List ℕ
@@ -52,6 +69,8 @@ IsTime _ time = ⊥
 -- What follows the code 0 in an answer to this command is this answer.
 abbrev pub IsSuccess : ℕ → List ℕ → AnswerOf → Type 0
 IsSuccess command fields (AnswerOf.Refused code) = ⊥
+IsSuccess command fields (AnswerOf.QueryDeviceIdentifiers ds) = (command ≡ 0x01) × IsIdentifiers fields ds
+IsSuccess command fields (AnswerOf.GetFirmwareParameters ps) = (command ≡ 0x02) × IsParameters fields ps
 IsSuccess command fields AnswerOf.RequestUpdate = (command ≡ 0x10) × (fields ≡ no_metadata)
 IsSuccess command fields (AnswerOf.PassComponentTable r) = (command ≡ 0x13) × (fields ≡ r.response ∷ r.code ∷ [])
 IsSuccess command fields (AnswerOf.UpdateComponent r) = (command ≡ 0x14) × IsOfferResponse fields r
@@ -75,6 +94,20 @@ IsAnswer command (code ∷ fields) a = (code ≡ 0) × IsSuccess command fields 
 abbrev pub bare : AnswerOf → List ℕ → Option AnswerOf
 bare a [] = Some a
 bare a (_ ∷ _) = None
+
+abbrev pub identifiers_in : List ℕ → Option AnswerOf
+identifiers_in (l0 ∷ l1 ∷ l2 ∷ l3 ∷ count ∷ rest) =
+    if u32_of l0 l1 l2 l3 == length rest
+    then option_map AnswerOf.QueryDeviceIdentifiers (descriptors_in count rest)
+    else None
+identifiers_in _ = None
+
+abbrev pub firmware_parameters_in : List ℕ → Option AnswerOf
+firmware_parameters_in (c0 ∷ c1 ∷ c2 ∷ c3 ∷ n0 ∷ n1 ∷ a0 ∷ a1 ∷ p0 ∷ p1 ∷ rest) =
+    if (c0 == 0) && (c1 == 0) && (c2 == 0) && (c3 == 0) && (a0 == 0) && (a1 == 0) && (p0 == 0) && (p1 == 0)
+    then option_map AnswerOf.GetFirmwareParameters (parameters_in (u16_of n0 n1) rest)
+    else None
+firmware_parameters_in _ = None
 
 abbrev pub update_begun_in : List ℕ → Option AnswerOf
 update_begun_in (m0 ∷ m1 ∷ wants ∷ []) =
@@ -126,7 +159,9 @@ update_cancelled_in _ = None
 -- what reading gives of what follows the code 0
 abbrev pub success_in : ℕ → List ℕ → Option AnswerOf
 success_in command fields =
-    if command == 0x10 then update_begun_in fields
+    if command == 0x01 then identifiers_in fields
+    else if command == 0x02 then firmware_parameters_in fields
+    else if command == 0x10 then update_begun_in fields
     else if command == 0x13 then table_response_in fields
     else if command == 0x14 then offer_response_in fields
     else if command == 0x15 then Some (AnswerOf.RequestFirmwareData fields)
@@ -157,6 +192,10 @@ answer_read command bytes = ok_or_malformed (answer_in command bytes)
 
 -- how what follows the code is written: reserved bits are 0
 abbrev pub success_bytes : AnswerOf → List ℕ
+success_bytes (AnswerOf.QueryDeviceIdentifiers ds) =
+    little_bytes 4 (length (descriptors_bytes ds)) ++ length ds ∷ descriptors_bytes ds
+success_bytes (AnswerOf.GetFirmwareParameters ps) =
+    replicate 4 0 ++ little_bytes 2 (length ps) ++ replicate 4 0 ++ all_parameters_bytes ps
 success_bytes AnswerOf.RequestUpdate = no_metadata
 success_bytes (AnswerOf.PassComponentTable r) = r.response ∷ r.code ∷ []
 success_bytes (AnswerOf.UpdateComponent r) =
@@ -179,6 +218,8 @@ IsAnswerWritable a = length (answer_bytes a) ≤ 252
 
 -- each number fits its field
 abbrev pub HasAnswerWidths : AnswerOf → Type 0
+HasAnswerWidths (AnswerOf.QueryDeviceIdentifiers ds) = EachItem HasDescriptorWidths ds × (length ds < 256)
+HasAnswerWidths (AnswerOf.GetFirmwareParameters ps) = EachItem HasParametersWidths ps × (length ps < 256 ^ 2)
 HasAnswerWidths (AnswerOf.UpdateComponent r) = r.time < 256 ^ 2
 HasAnswerWidths (AnswerOf.ActivateFirmware time) = time < 256 ^ 2
 HasAnswerWidths a = Unit {0}
@@ -186,6 +227,8 @@ HasAnswerWidths a = Unit {0}
 -- whether an answer can be one to this command: a refusal to each
 abbrev pub answers_command : ℕ → AnswerOf → Bool
 answers_command command (AnswerOf.Refused code) = is_known command
+answers_command command (AnswerOf.QueryDeviceIdentifiers _) = command == 0x01
+answers_command command (AnswerOf.GetFirmwareParameters _) = command == 0x02
 answers_command command AnswerOf.RequestUpdate = command == 0x10
 answers_command command (AnswerOf.PassComponentTable _) = command == 0x13
 answers_command command (AnswerOf.UpdateComponent _) = command == 0x14

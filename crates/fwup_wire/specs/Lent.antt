@@ -61,6 +61,8 @@ command_of commands.CancelUpdate = CommandOf.CancelUpdate
 -- the value of an answer
 abbrev pub answer_of : Answer → AnswerOf
 answer_of (answers.Refused code) = AnswerOf.Refused code
+answer_of (answers.QueryDeviceIdentifiers descriptors) = AnswerOf.QueryDeviceIdentifiers descriptors
+answer_of (answers.GetFirmwareParameters components) = AnswerOf.GetFirmwareParameters components
 answer_of answers.RequestUpdate = AnswerOf.RequestUpdate
 answer_of (answers.PassComponentTable response) = AnswerOf.PassComponentTable response
 answer_of (answers.UpdateComponent response) = AnswerOf.UpdateComponent response

@@ -70,6 +70,8 @@ pub data CommandOf : Type 0 where
 -- an answer: a refusal by its completion code, or what follows the code 0
 pub data AnswerOf : Type 0 where
   Refused : (code : ℕ) → AnswerOf
+  QueryDeviceIdentifiers : (descriptors : List DescriptorOf) → AnswerOf
+  GetFirmwareParameters : (components : List ParametersOf) → AnswerOf
   RequestUpdate : AnswerOf
   PassComponentTable : (response : TableResponse) → AnswerOf
   UpdateComponent : (response : OfferResponse) → AnswerOf

@@ -4,6 +4,8 @@ ghost use Rattle.std.specs.Prelude.{◌≡◌};
 ghost use Rattle.fwup_wire.specs.Answers.{answer_code};
 ghost use Rattle.fwup_wire.specs.Lent.{answer_of};
 
+use crate::descriptors::Descriptors;
+use crate::parameters::Parameters;
 use pldm_base::completion::SUCCESS;
 use thiserror::Error;
 
@@ -57,6 +59,10 @@ pub enum Answer<'a> {
         /// The completion code, which isn't `SUCCESS`.
         code: u8,
     },
+    /// The device's descriptors.
+    QueryDeviceIdentifiers(Descriptors<'a>),
+    /// The device's components. It can do nothing beyond this profile, and names no component image set.
+    GetFirmwareParameters(Parameters<'a>),
     /// The update began. The device wants no package data and has no metadata.
     RequestUpdate,
     /// What the device says of the component.

@@ -3,13 +3,15 @@
 ghost use Rattle.std.specs.Prelude.{IfOk, IsOk, ◌≡◌, ℕ};
 ghost use Rattle.std.specs.Option.{option_map};
 ghost use Rattle.std.specs.Result.{result_map_both};
-ghost use Rattle.fwup_wire.specs.Answers.{IsAnswer, activation_in, answer_in, answer_read, bare, offer_response_in, status_in, success_in, update_begun_in, update_cancelled_in};
+ghost use Rattle.fwup_wire.specs.Answers.{IsAnswer, firmware_parameters_in, identifiers_in, activation_in, answer_in, answer_read, bare, offer_response_in, status_in, success_in, update_begun_in, update_cancelled_in};
 ghost use Rattle.fwup_wire.specs.Lent.{answer_of};
 ghost use Rattle.fwup_wire.specs.Values.{AnswerOf};
 
 use crate::answer::{Answer, Malformed, OfferResponse, Status, TableResponse};
 use crate::code::command;
 use crate::cursor::Cursor;
+use crate::descriptors::Descriptors;
+use crate::parameters::Parameters;
 use pldm_base::completion::SUCCESS;
 
 /// Reads an answer to this command (DSP0267 1.0): the completion code and, where it is `SUCCESS`, what follows it.
@@ -74,6 +76,8 @@ fn success(command: u8, fields: &[u8]) -> Option<Answer<'_>>
     ensures { option_map answer_of result ≡ success_in command fields.now }
 {
     match command {
+        command::QUERY_DEVICE_IDENTIFIERS => query_device_identifiers(fields),
+        command::GET_FIRMWARE_PARAMETERS => get_firmware_parameters(fields),
         command::REQUEST_UPDATE => request_update(fields),
         command::PASS_COMPONENT_TABLE => match fields {
             [response, code] => Some(Answer::PassComponentTable(TableResponse {
@@ -104,6 +108,35 @@ fn alone<'a>(fields: &[u8], answer: Answer<'a>) -> Option<Answer<'a>>
     } else {
         None
     }
+}
+
+fn query_device_identifiers(fields: &[u8]) -> Option<Answer<'_>>
+    ensures { option_map answer_of result ≡ identifiers_in fields.now }
+{
+    let mut cursor = Cursor::new(fields);
+    let length = cursor.u32()?;
+    let count = cursor.byte()?;
+    let bytes = cursor.rest();
+    if length as usize != bytes.len() {
+        return None;
+    }
+    let descriptors = Descriptors::read(count, bytes)?;
+    Some(Answer::QueryDeviceIdentifiers(descriptors))
+}
+
+fn get_firmware_parameters(fields: &[u8]) -> Option<Answer<'_>>
+    ensures { option_map answer_of result ≡ firmware_parameters_in fields.now }
+{
+    let [0, 0, 0, 0, count @ ..] = fields else {
+        return None;
+    };
+    let mut cursor = Cursor::new(count);
+    let count = cursor.u16()?;
+    let [0, 0, 0, 0, bytes @ ..] = cursor.rest() else {
+        return None;
+    };
+    let components = Parameters::read(count, bytes)?;
+    Some(Answer::GetFirmwareParameters(components))
 }
 
 fn request_update(fields: &[u8]) -> Option<Answer<'static>>

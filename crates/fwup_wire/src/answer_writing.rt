@@ -9,6 +9,12 @@ use crate::writer::{put_u16, put_u32};
 use pldm_base::Reply;
 use pldm_base::completion::SUCCESS;
 
+/// The capabilities of a device during an update: none beyond this profile.
+const NO_CAPABILITIES: [u8; 4] = [0; 4];
+
+/// The heads of the texts of the active and the pending component image set, which have type 0 and no bytes.
+const NO_SET_TEXTS: [u8; 4] = [0; 4];
+
 /// The bytes of RequestUpdate's answer after its code: no metadata, and no package data wanted.
 const NO_METADATA: [u8; 3] = [0; 3];
 
@@ -23,6 +29,17 @@ pub fn write_answer(answer: &Answer<'_>) -> Reply
     let mut out = Reply::new();
     out.push(answer.code());
     match answer {
+        Answer::QueryDeviceIdentifiers(descriptors) => {
+            put_u32(&mut out, descriptors.as_bytes().len() as u32);
+            out.push(descriptors.count());
+            let _ = out.try_extend_from_slice(descriptors.as_bytes());
+        }
+        Answer::GetFirmwareParameters(components) => {
+            let _ = out.try_extend_from_slice(&NO_CAPABILITIES);
+            put_u16(&mut out, components.count());
+            let _ = out.try_extend_from_slice(&NO_SET_TEXTS);
+            let _ = out.try_extend_from_slice(components.as_bytes());
+        }
         Answer::RequestUpdate => {
             let _ = out.try_extend_from_slice(&NO_METADATA);
         }

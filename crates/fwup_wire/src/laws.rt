@@ -12,7 +12,7 @@ pub fn commands_read_back()
 
 /// Bytes are one answer to a command at most, which is the one that is read, and what is written reads back as the same
 /// answer.
-#[tactic(auto, using(crate::proofs::Found::only_answer))]
+#[tactic(auto, using(crate::proofs::Found::only_answer, crate::proofs::WrittenAnswers::writes_answers))]
 pub fn answers_read_back()
     ensures read { ReadsAnswers }
     ensures only { ReadsOnlyAnswers }

@@ -66,6 +66,13 @@ impl<'a> Parameters<'a> {
         usize::from(self.count)
     }
 
+    /// The same as it is sent.
+    pub(crate) fn count(&self) -> u16
+        ensures { result ≡ length self.now }
+    {
+        self.count
+    }
+
     /// Whether none is left.
     pub fn is_empty(&self) -> bool
         ensures { IsTrue result ↔ (self.now ≡ []) }
