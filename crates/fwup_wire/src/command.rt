@@ -8,7 +8,7 @@ use crate::code::command;
 use crate::values::{Key, Text, TransferFlag, Version};
 
 /// What RequestUpdate says.
-#[derive(Clone, Copy, Debug)]
+#[derive(Clone, Copy, Debug, PartialEq, Eq)]
 pub struct UpdateRequest<'a> {
     /// The most bytes that the agent gives in answer to one RequestFirmwareData.
     pub transfer_size: u32,
@@ -23,7 +23,7 @@ pub struct UpdateRequest<'a> {
 }
 
 /// What PassComponentTable says of one component.
-#[derive(Clone, Copy, Debug)]
+#[derive(Clone, Copy, Debug, PartialEq, Eq)]
 pub struct TableEntry<'a> {
     /// Where the entry stands in the table.
     pub flag: TransferFlag,
@@ -36,7 +36,7 @@ pub struct TableEntry<'a> {
 }
 
 /// What UpdateComponent says of the component that is to be updated.
-#[derive(Clone, Copy, Debug)]
+#[derive(Clone, Copy, Debug, PartialEq, Eq)]
 pub struct ComponentOffer<'a> {
     /// The component.
     pub key: Key,
@@ -52,7 +52,7 @@ pub struct ComponentOffer<'a> {
 }
 
 /// A command with its request data (DSP0267 1.0), its texts lent.
-#[derive(Clone, Copy, Debug)]
+#[derive(Clone, Copy, Debug, PartialEq, Eq)]
 pub enum Command<'a> {
     /// Which descriptors has the device?
     QueryDeviceIdentifiers,
