@@ -1,13 +1,20 @@
 //! The answers to the commands of firmware update.
 
-ghost use Rattle.std.specs.Prelude.{◌≡◌};
-ghost use Rattle.fwup_wire.specs.Answers.{answer_code};
+ghost use Rattle.std.specs.Prelude.{IsTrue, ◌↔◌, ◌≡◌};
+ghost use Rattle.fwup_wire.specs.Answers.{IsAnswerWritable, answer_code};
 ghost use Rattle.fwup_wire.specs.Lent.{answer_of};
 
 use crate::descriptors::Descriptors;
 use crate::parameters::Parameters;
+use pldm_base::MAX_REPLY;
 use pldm_base::completion::SUCCESS;
 use thiserror::Error;
+
+/// The answer to QueryDeviceIdentifiers without its descriptors.
+const IDENTIFIERS_SIZE: usize = 6;
+
+/// The answer to GetFirmwareParameters without its components.
+const PARAMETERS_SIZE: usize = 11;
 
 /// What a device says of a component of the update, in answer to PassComponentTable.
 #[derive(Clone, Copy, Debug, PartialEq, Eq)]
@@ -103,6 +110,23 @@ impl Answer<'_> {
         match self {
             Answer::Refused { code } => *code,
             _ => SUCCESS,
+        }
+    }
+
+    /// Whether `write_answer` takes the answer: it fits a message, and it is no refusal with the code of success.
+    pub fn is_writable(&self) -> bool
+        ensures { IsTrue result ↔ IsAnswerWritable (answer_of self.now) }
+    {
+        match self {
+            Answer::Refused { code } => *code != SUCCESS,
+            Answer::QueryDeviceIdentifiers(descriptors) => {
+                IDENTIFIERS_SIZE + descriptors.as_bytes().len() <= MAX_REPLY
+            }
+            Answer::GetFirmwareParameters(components) => {
+                PARAMETERS_SIZE + components.as_bytes().len() <= MAX_REPLY
+            }
+            Answer::RequestFirmwareData(bytes) => bytes.len() < MAX_REPLY,
+            _ => true,
         }
     }
 }

@@ -1,11 +1,21 @@
 //! The commands of firmware update.
 
-ghost use Rattle.std.specs.Prelude.{◌≡◌};
+ghost use Rattle.std.specs.Prelude.{IsTrue, ◌↔◌, ◌≡◌};
 ghost use Rattle.fwup_wire.specs.Lent.{command_of};
-ghost use Rattle.fwup_wire.specs.Commands.{command_code};
+ghost use Rattle.fwup_wire.specs.Commands.{IsWritable, command_code};
 
 use crate::code::command;
 use crate::values::{Key, Text, TransferFlag, Version};
+use pldm_base::MAX_REPLY;
+
+/// The request data of RequestUpdate without its text's bytes.
+const REQUEST_SIZE: usize = 11;
+
+/// The request data of PassComponentTable without its text's bytes.
+const ENTRY_SIZE: usize = 12;
+
+/// The request data of UpdateComponent without its text's bytes.
+const OFFER_SIZE: usize = 19;
 
 /// What RequestUpdate says.
 #[derive(Clone, Copy, Debug, PartialEq, Eq)]
@@ -120,6 +130,24 @@ impl Command<'_> {
             Command::GetStatus => command::GET_STATUS,
             Command::CancelUpdateComponent => command::CANCEL_UPDATE_COMPONENT,
             Command::CancelUpdate => command::CANCEL_UPDATE,
+        }
+    }
+
+    /// Whether the request data fit a message, so that `write` takes the command. Only a long text keeps them from it.
+    pub fn is_writable(&self) -> bool
+        ensures { IsTrue result ↔ IsWritable (command_of self.now) }
+    {
+        match self {
+            Command::RequestUpdate(request) => {
+                REQUEST_SIZE + request.image_set.bytes.len() <= MAX_REPLY
+            }
+            Command::PassComponentTable(entry) => {
+                ENTRY_SIZE + entry.version.text.bytes.len() <= MAX_REPLY
+            }
+            Command::UpdateComponent(offer) => {
+                OFFER_SIZE + offer.version.text.bytes.len() <= MAX_REPLY
+            }
+            _ => true,
         }
     }
 }
