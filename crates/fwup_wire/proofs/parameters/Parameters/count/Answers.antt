@@ -1,0 +1,10 @@
+use Rattle.std.proofs.Common.{Some, ap, sym, ◌∙◌}
+use Rattle.fwup_wire.proofs.Items.{items_length}
+use Rattle.fwup_wire.proofs.parameters.Parameters.count.Goals as goal
+use Rattle.fwup_wire.specs.Parameters.{parameters_size, first_parameters}
+
+pub returns : goal.returns
+returns c =
+    sym
+    (items_length first_parameters parameters_size c.self.inside.count c.self.inside.bytes.now c.args.self.now
+    (c.self.invariant.found ∙ ap (λ items. Some items) c.self.view_is))

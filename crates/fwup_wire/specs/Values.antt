@@ -1,0 +1,85 @@
+-- Commands and answers as values, without the messages that their texts are lent from.
+use Rattle.std.specs.Prelude.{Bool, List, ℕ}
+use Rattle.fwup_wire.specs.declared.answer.OfferResponse.{OfferResponse}
+use Rattle.fwup_wire.specs.declared.answer.Status.{Status}
+use Rattle.fwup_wire.specs.declared.answer.TableResponse.{TableResponse}
+use Rattle.fwup_wire.specs.declared.values.Key.{Key}
+use Rattle.fwup_wire.specs.declared.values.TransferFlag.{TransferFlag}
+
+-- a text with its type
+pub record TextOf : Type 0 where
+  pub text_type : ℕ
+  pub bytes : List ℕ
+
+-- what an image calls itself
+pub record VersionOf : Type 0 where
+  pub stamp : ℕ
+  pub text : TextOf
+
+-- a descriptor of a device
+pub record DescriptorOf : Type 0 where
+  pub kind : ℕ
+  pub bytes : List ℕ
+
+-- what a device tells of one of its components
+pub record ParametersOf : Type 0 where
+  pub key : Key
+  pub index : ℕ
+  pub active : VersionOf
+  pub pending : VersionOf
+
+-- what RequestUpdate says
+pub record RequestOf : Type 0 where
+  pub transfer_size : ℕ
+  pub components : ℕ
+  pub outstanding : ℕ
+  pub package_data_length : ℕ
+  pub image_set : TextOf
+
+-- what PassComponentTable says
+pub record EntryOf : Type 0 where
+  pub flag : TransferFlag
+  pub key : Key
+  pub index : ℕ
+  pub version : VersionOf
+
+-- what UpdateComponent says
+pub record OfferOf : Type 0 where
+  pub key : Key
+  pub index : ℕ
+  pub version : VersionOf
+  pub size : ℕ
+  pub force : Bool
+
+-- a command with its request data
+pub data CommandOf : Type 0 where
+  QueryDeviceIdentifiers : CommandOf
+  GetFirmwareParameters : CommandOf
+  RequestUpdate : (request : RequestOf) → CommandOf
+  PassComponentTable : (entry : EntryOf) → CommandOf
+  UpdateComponent : (offer : OfferOf) → CommandOf
+  RequestFirmwareData : (offset size : ℕ) → CommandOf
+  TransferComplete : (result : ℕ) → CommandOf
+  VerifyComplete : (result : ℕ) → CommandOf
+  ApplyComplete : (result methods : ℕ) → CommandOf
+  ActivateFirmware : (self_contained : Bool) → CommandOf
+  GetStatus : CommandOf
+  CancelUpdateComponent : CommandOf
+  CancelUpdate : CommandOf
+
+-- an answer: a refusal by its completion code, or what follows the code 0
+pub data AnswerOf : Type 0 where
+  Refused : (code : ℕ) → AnswerOf
+  QueryDeviceIdentifiers : (descriptors : List DescriptorOf) → AnswerOf
+  GetFirmwareParameters : (components : List ParametersOf) → AnswerOf
+  RequestUpdate : AnswerOf
+  PassComponentTable : (response : TableResponse) → AnswerOf
+  UpdateComponent : (response : OfferResponse) → AnswerOf
+  RequestFirmwareData : (bytes : List ℕ) → AnswerOf
+  TransferComplete : AnswerOf
+  VerifyComplete : AnswerOf
+  ApplyComplete : AnswerOf
+  ActivateFirmware : (time : ℕ) → AnswerOf
+  GetStatus : (status : Status) → AnswerOf
+  CancelUpdateComponent : AnswerOf
+  CancelUpdate : AnswerOf

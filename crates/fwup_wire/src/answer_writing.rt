@@ -1,0 +1,79 @@
+//! Answers, written.
+
+ghost use Rattle.std.specs.Prelude.{Some, true, ◌≡◌, ℕ};
+ghost use Rattle.fwup_wire.specs.Answers.{IsAnswer, IsAnswerWritable, answer_bytes, answer_in, answers_command};
+ghost use Rattle.fwup_wire.specs.Lent.{answer_of};
+
+use crate::answer::{Answer, OfferResponse, Status};
+use crate::writer::{put_u16, put_u32};
+use pldm_base::Reply;
+use pldm_base::completion::SUCCESS;
+
+/// The capabilities of a device during an update: none beyond this profile.
+const NO_CAPABILITIES: [u8; 4] = [0; 4];
+
+/// The heads of the texts of the active and the pending component image set, which have type 0 and no bytes.
+const NO_SET_TEXTS: [u8; 4] = [0; 4];
+
+/// The bytes of RequestUpdate's answer after its code: no metadata, and no package data wanted.
+const NO_METADATA: [u8; 3] = [0; 3];
+
+/// The bytes of CancelUpdate's answer after its code: no component that doesn't work, and none of their bits.
+const ALL_COMPONENTS_WORK: [u8; 9] = [0; 9];
+
+/// Writes an answer (DSP0267 1.0): the completion code and what follows it, with its reserved bits 0.
+pub fn write_answer(answer: &Answer<'_>) -> Reply
+    requires { IsAnswerWritable (answer_of answer.now) }
+    ensures bytes { result.items ≡ answer_bytes (answer_of answer.now) }
+{
+    let mut out = Reply::new();
+    out.push(answer.code());
+    match answer {
+        Answer::QueryDeviceIdentifiers(descriptors) => {
+            put_u32(&mut out, descriptors.as_bytes().len() as u32);
+            out.push(descriptors.count());
+            let _ = out.try_extend_from_slice(descriptors.as_bytes());
+        }
+        Answer::GetFirmwareParameters(components) => {
+            let _ = out.try_extend_from_slice(&NO_CAPABILITIES);
+            put_u16(&mut out, components.count());
+            let _ = out.try_extend_from_slice(&NO_SET_TEXTS);
+            let _ = out.try_extend_from_slice(components.as_bytes());
+        }
+        Answer::RequestUpdate => {
+            let _ = out.try_extend_from_slice(&NO_METADATA);
+        }
+        Answer::PassComponentTable(response) => {
+            out.push(response.response);
+            out.push(response.code);
+        }
+        Answer::UpdateComponent(response) => {
+            out.push(response.compatibility);
+            out.push(response.code);
+            put_u32(&mut out, u32::from(response.force));
+            put_u16(&mut out, response.time);
+        }
+        Answer::RequestFirmwareData(bytes) => {
+            let _ = out.try_extend_from_slice(bytes);
+        }
+        Answer::ActivateFirmware { time } => put_u16(&mut out, *time),
+        Answer::GetStatus(status) => {
+            out.push(status.state);
+            out.push(status.previous);
+            out.push(status.aux);
+            out.push(status.aux_status);
+            out.push(status.progress);
+            out.push(status.reason);
+            put_u32(&mut out, u32::from(status.force));
+        }
+        Answer::CancelUpdate => {
+            let _ = out.try_extend_from_slice(&ALL_COMPONENTS_WORK);
+        }
+        Answer::Refused { .. }
+        | Answer::TransferComplete
+        | Answer::VerifyComplete
+        | Answer::ApplyComplete
+        | Answer::CancelUpdateComponent => {}
+    }
+    out
+}

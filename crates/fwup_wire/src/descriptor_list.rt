@@ -1,0 +1,82 @@
+//! Lists of descriptors, put together.
+
+ghost use Rattle.std.specs.Prelude.{[], ◌+◌, ◌++◌, ◌≡◌, ◌≤◌, ◌∷◌, length};
+ghost use Rattle.fwup_wire.specs.Descriptors.{HasDescriptorWidths, descriptor_bytes, descriptor_size, descriptors_bytes};
+ghost use Rattle.fwup_wire.specs.Lent.{descriptor_of};
+
+use crate::descriptors::Descriptors;
+use crate::values::Descriptor;
+use arrayvec::ArrayVec;
+use byteorder::{ByteOrder, LittleEndian};
+use std::marker::Model;
+
+/// The most bytes of descriptors that an answer to QueryDeviceIdentifiers has room for: what is left of the longest
+/// answer behind its code, their length and their number.
+pub const MAX_DESCRIPTOR_BYTES: usize = 246;
+
+/// The descriptors of a device, in the form in which they are sent.
+#[derive(Debug, Drop)]
+pub struct DescriptorList {
+    count: u8,
+    bytes: ArrayVec<u8, MAX_DESCRIPTOR_BYTES>,
+}
+
+impl Model for DescriptorList {
+    ghost use Rattle.std.specs.Prelude.{List, [], length, unwrap_or, ◌*◌, ◌≤◌};
+    ghost use Rattle.fwup_wire.specs.Descriptors.{HoldsDescriptors, descriptors_in};
+    ghost use Rattle.fwup_wire.specs.Values.{DescriptorOf};
+
+    ghost Value = { List DescriptorOf };
+
+    ghost view = { λ d. unwrap_or (descriptors_in d.count d.bytes.items) [] };
+
+    ghost invariant = { λ d. HoldsDescriptors d.count d.bytes.items (unwrap_or (descriptors_in d.count d.bytes.items) []) × (4 * d.count ≤ length d.bytes.items) };
+}
+
+impl DescriptorList {
+    /// No descriptors.
+    pub fn new() -> Self
+        ensures { result ≡ [] }
+    {
+        DescriptorList {
+            count: 0,
+            bytes: ArrayVec::new(),
+        }
+    }
+
+    /// How many bytes of descriptors there is room for.
+    pub fn room(&self) -> usize
+        ensures { result + length (descriptors_bytes self.now) ≡ 246 }
+    {
+        self.bytes.remaining_capacity()
+    }
+
+    /// Appends a descriptor.
+    pub fn push(&mut self, descriptor: &Descriptor<'_>)
+        requires { length (descriptors_bytes self.old) + descriptor_size (descriptor_of descriptor.now) ≤ 246 }
+        ensures { self.new ≡ self.old ++ descriptor_of descriptor.now ∷ [] }
+    {
+        put_descriptor(&mut self.bytes, descriptor);
+        self.count += 1;
+    }
+
+    /// The descriptors, lent.
+    pub fn lent(&self) -> Descriptors<'_>
+        ensures { result ≡ self.now }
+    {
+        Descriptors::known(self.count, self.bytes.as_slice())
+    }
+}
+
+/// Appends a descriptor as it is sent: its type, its length and its data.
+fn put_descriptor(out: &mut ArrayVec<u8, MAX_DESCRIPTOR_BYTES>, descriptor: &Descriptor<'_>)
+    requires { length out.old.items + descriptor_size (descriptor_of descriptor.now) ≤ 246 }
+    ensures bytes { out.new.items ≡ out.old.items ++ descriptor_bytes (descriptor_of descriptor.now) }
+    ensures widths { HasDescriptorWidths (descriptor_of descriptor.now) }
+{
+    let mut head = [0; 4];
+    LittleEndian::write_u16(&mut head, descriptor.kind);
+    LittleEndian::write_u16(&mut head[2..], descriptor.bytes.len() as u16);
+    let _ = out.try_extend_from_slice(&head);
+    let _ = out.try_extend_from_slice(descriptor.bytes);
+}

@@ -1,0 +1,113 @@
+//! Lists of descriptors as they are sent.
+
+ghost use Rattle.std.specs.Iterator.{YieldsFirstBy, item_count};
+ghost use Rattle.std.specs.Prelude.{IsTrue, List, [], drop, length, unwrap_or, ◌↔◌, ◌≡◌, ◌<◌, ℕ};
+ghost use Rattle.fwup_wire.specs.Lent.{descriptor_of};
+ghost use Rattle.fwup_wire.specs.Descriptors.{AreDescriptors, descriptors_bytes, descriptors_in};
+
+use crate::cursor::Cursor;
+use crate::values::Descriptor;
+use std::marker::Model;
+
+/// Descriptors, lent from the message that they stand in. It is also an iterator over them.
+#[derive(Debug, Drop)]
+pub struct Descriptors<'a> {
+    count: u8,
+    bytes: &'a [u8],
+}
+
+impl<'a> Model for Descriptors<'a> {
+    ghost use Rattle.std.specs.Prelude.{List, [], unwrap_or};
+    ghost use Rattle.fwup_wire.specs.Descriptors.{AreDescriptors, descriptors_in};
+    ghost use Rattle.fwup_wire.specs.Values.{DescriptorOf};
+
+    ghost Value = { List DescriptorOf };
+
+    ghost view = { λ d. unwrap_or (descriptors_in d.count d.bytes.now) [] };
+
+    ghost invariant = { λ d. AreDescriptors d.count d.bytes.now (unwrap_or (descriptors_in d.count d.bytes.now) []) };
+}
+
+impl<'a> Descriptors<'a> {
+    #[tactic(auto, using(crate::proofs::DescriptorLaws::are_descriptors))]
+    /// So many descriptors, if the bytes are them and nothing else.
+    pub(crate) fn read(count: u8, bytes: &'a [u8]) -> Option<Self>
+        ensures { result ≡ descriptors_in count bytes.now }
+    {
+        let mut cursor = Cursor::new(bytes);
+        for _ in 0..count {
+            let _ = cursor.descriptor()?;
+        }
+        if !cursor.is_at_end() {
+            return None;
+        }
+        Some(Descriptors { count, bytes })
+    }
+
+    /// So many descriptors, which the bytes are known to be.
+    pub(crate) fn known(count: u8, bytes: &'a [u8]) -> Self
+        requires { AreDescriptors count bytes.now (unwrap_or (descriptors_in count bytes.now) []) }
+        ensures { result ≡ unwrap_or (descriptors_in count bytes.now) [] }
+    {
+        Descriptors { count, bytes }
+    }
+
+    /// The descriptors one after the other, as they are sent.
+    pub fn as_bytes(&self) -> &'a [u8]
+        ensures { result.now ≡ descriptors_bytes self.now }
+    {
+        self.bytes
+    }
+
+    /// How many descriptors are left.
+    pub fn len(&self) -> usize
+        ensures { result ≡ length self.now }
+    {
+        usize::from(self.count)
+    }
+
+    /// The same as it is sent.
+    pub(crate) fn count(&self) -> u8
+        ensures { result ≡ length self.now }
+    {
+        self.count
+    }
+
+    /// Whether none is left.
+    pub fn is_empty(&self) -> bool
+        ensures { IsTrue result ↔ (self.now ≡ []) }
+    {
+        self.count == 0
+    }
+
+    /// An iterator over the descriptors.
+    pub fn iter(&self) -> Descriptors<'a>
+        ensures { result ≡ self.now }
+    {
+        Descriptors {
+            count: self.count,
+            bytes: self.bytes,
+        }
+    }
+}
+
+impl<'a> Iterator for Descriptors<'a> {
+    type Item = Descriptor<'a>;
+
+    ghost next_gives = { YieldsFirstBy descriptor_of (λ left. left) };
+
+    ghost remaining = { item_count (λ left. left) };
+
+    fn next(&mut self) -> Option<Descriptor<'a>> {
+        if self.count == 0 {
+            return None;
+        }
+        let mut cursor = Cursor::new(self.bytes);
+        let descriptor = cursor.descriptor()?;
+        *self = Descriptors {
+            count: self.count - 1,
+            bytes: cursor.rest(),
+        };
+        Some(descriptor)
+    }
+}

@@ -1,0 +1,36 @@
+//! The firmware update messages of PLDM (DSP0267 1.0, PLDM type 5): commands and their answers, read and written
+//! exactly. Reading lends texts and data from the message and copies none.
+#![tactic(auto)]
+
+mod answer;
+mod answer_reading;
+#[cfg(test)]
+mod answer_tests;
+mod answer_writing;
+pub mod code;
+mod command;
+mod command_reading;
+#[cfg(test)]
+mod command_tests;
+mod command_writing;
+mod cursor;
+mod descriptor_list;
+mod descriptors;
+mod laws;
+mod parameter_list;
+mod parameters;
+mod values;
+mod writer;
+
+pub use answer::{Answer, Malformed, OfferResponse, Status, TableResponse};
+pub use answer_reading::read_answer;
+pub use answer_writing::write_answer;
+pub use command::{Command, ComponentOffer, TableEntry, UpdateRequest};
+pub use command_reading::read;
+pub use command_writing::write;
+pub use descriptor_list::{DescriptorList, MAX_DESCRIPTOR_BYTES};
+pub use descriptors::Descriptors;
+pub use laws::{answers_read_back, commands_read_back};
+pub use parameter_list::{MAX_PARAMETER_BYTES, ParameterList};
+pub use parameters::Parameters;
+pub use values::{ComponentParameters, Descriptor, Key, Text, TransferFlag, Version};

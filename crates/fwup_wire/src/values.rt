@@ -1,0 +1,88 @@
+//! What several commands and answers hold.
+
+ghost use Rattle.std.specs.Prelude.{◌≡◌};
+ghost use Rattle.fwup_wire.specs.Fields.{flag_byte, flag_of};
+
+/// Names a component: what kind of component it is, and which of that kind.
+#[derive(Clone, Copy, Debug, PartialEq, Eq)]
+pub struct Key {
+    /// The component's classification.
+    pub classification: u16,
+    /// The component's identifier.
+    pub identifier: u16,
+}
+
+/// A text with its type, which isn't checked.
+#[derive(Clone, Copy, Debug, PartialEq, Eq)]
+pub struct Text<'a> {
+    /// How the text is encoded, as `code::text_type`.
+    pub text_type: u8,
+    /// The text's bytes.
+    pub bytes: &'a [u8],
+}
+
+/// One of the descriptors by which a package names the devices that it is for.
+#[derive(Clone, Copy, Debug, PartialEq, Eq)]
+pub struct Descriptor<'a> {
+    /// What the descriptor tells, as a PCI vendor ID.
+    pub kind: u16,
+    /// The descriptor's data.
+    pub bytes: &'a [u8],
+}
+
+/// What an image calls itself.
+#[derive(Clone, Copy, Debug, PartialEq, Eq)]
+pub struct Version<'a> {
+    /// The comparison stamp, by which a device tells older images from newer ones.
+    pub stamp: u32,
+    /// The version text.
+    pub text: Text<'a>,
+}
+
+/// What a device tells of one of its components: which it is, and which images of it there are.
+#[derive(Clone, Copy, Debug, PartialEq, Eq)]
+pub struct ComponentParameters<'a> {
+    /// The component.
+    pub key: Key,
+    /// Which of several components of this classification in the device.
+    pub index: u8,
+    /// The version of the image that runs.
+    pub active: Version<'a>,
+    /// The version of the image that was applied and isn't active yet; stamp 0, type 0 and no bytes where there is none.
+    pub pending: Version<'a>,
+}
+
+/// Where an entry stands in the component table.
+#[derive(Clone, Copy, Debug, PartialEq, Eq)]
+pub enum TransferFlag {
+    /// The first of several.
+    Start = 1,
+    /// Neither the first nor the last.
+    Middle = 2,
+    /// The last of several.
+    End = 4,
+    /// The only one.
+    StartAndEnd = 5,
+}
+
+impl TransferFlag {
+    /// The flag's byte in a message.
+    pub fn byte(self) -> u8
+        ensures { result ≡ flag_byte self }
+    {
+        self as u8
+    }
+
+    /// The flag of this byte. The other values name none.
+    pub fn from_byte(byte: u8) -> Option<Self>
+        ensures { result ≡ flag_of byte }
+    {
+        match byte {
+            1 => Some(TransferFlag::Start),
+            2 => Some(TransferFlag::Middle),
+            4 => Some(TransferFlag::End),
+            5 => Some(TransferFlag::StartAndEnd),
+            _ => None,
+        }
+    }
+}
