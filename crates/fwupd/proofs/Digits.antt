@@ -1,5 +1,5 @@
 -- Lemmas on hexadecimal digits.
-use Rattle.std.proofs.Common.{Result, Ok, Err, IsOk, OnOk, ◌≡◌, ◌<◌, ◌+◌, ◌∙◌, ◌==◌, ◌&&◌, ◌/◌, ◌%◌, ℕ, inl, inr, zero, suc, Bool, true, List, [], ◌∷◌, ◌++◌, length, take, get_or, refl, sym, ap, arith}
+use Rattle.std.proofs.Common.{Result, Ok, Err, IsOk, OnOk, ◌≡◌, ◌<◌, ◌+◌, ◌==◌, ◌&&◌, ◌/◌, ◌%◌, ℕ, inl, inr, zero, suc, Bool, true, List, [], ◌∷◌, ◌++◌, length, take, get_or, refl, arith}
 use Rattle.std.proofs.lemmas.List.{take_more}
 use Rattle.std.proofs.lemmas.Bool.{and_parts, cases_lt, eqb-true}
 use Rattle.std.specs.Prelude.{slice_index}

@@ -1,2 +1,3 @@
+mod Chains
 mod Digits
 mod Streams

@@ -1,18 +1,83 @@
--- What `fwupd inspect` prints of a package.
-use Rattle.std.specs.Prelude.{ℕ, ◌+◌, ◌/◌, ◌%◌, ◌^◌, ◌==◌, ◌||◌, nat_lt, if◌then◌else◌, List, [], ◌∷◌, ◌++◌, codes, decimal, length}
+-- What `fwupd inspect` prints of a package: a line for the package, its records with their descriptors, its components.
+use Rattle.std.specs.Prelude.{◌≡◌, ℕ, ◌+◌, ◌/◌, ◌%◌, ◌==◌, ◌&&◌, nat_le, not, Bool, if◌then◌else◌, List, [], ◌∷◌, ◌++◌, codes, decimal, length}
+use Rattle.std.specs.List.{flat_map}
 use Rattle.hex.specs.Hex.{encode_upper}
 use Rattle.fw_package.specs.Package.{ComponentOf, DescriptorOf, PackageText, RecordOf}
 
--- a number of two bytes in four digits
-abbrev pub hex4 : ℕ → List ℕ
-hex4 n = encode_upper (n / 256 ∷ n % 256 ∷ [])
+-- the new bytes are the old ones and a piece after them
+pub record Adds (old new piece : List ℕ) : Type 0 where
+  pub is : new ≡ old ++ piece
 
--- a number of four bytes in eight digits
-abbrev pub hex8 : ℕ → List ℕ
-hex8 n = encode_upper (n / 16777216 ∷ n / 65536 % 256 ∷ n / 256 % 256 ∷ n % 256 ∷ [])
+-- a word, and a number in decimal digits after it
+unfoldable pub numbered : List ℕ → ℕ → List ℕ
+numbered word n = word ++ decimal n
 
--- the first line
+-- a word, and a number of two bytes in four digits after it
+unfoldable pub in_four : List ℕ → ℕ → List ℕ
+in_four word n = word ++ encode_upper (n / 256 ∷ n % 256 ∷ [])
+
+-- a word, and a number of four bytes in eight digits after it
+unfoldable pub in_eight : List ℕ → ℕ → List ℕ
+in_eight word n = word ++ encode_upper (n / 16777216 ∷ n / 65536 % 256 ∷ n / 256 % 256 ∷ n % 256 ∷ [])
+
+-- a byte that is printed as it is: 0x20 to 0x7E, and neither a quote nor a backslash
+abbrev pub is_plain : ℕ → Bool
+is_plain b = (nat_le 0x20 b && nat_le b 0x7E) && (not (b == 0x22) && not (b == 0x5C))
+
+-- another byte is printed as \x and two digits
+abbrev pub escaped : ℕ → List ℕ
+escaped b = if is_plain b then b ∷ [] else codes "\\x" ++ encode_upper (b ∷ [])
+
+-- a word, and a text in quotes after it
+unfoldable pub quoted : List ℕ → List ℕ → List ℕ
+quoted word text = word ++ 0x22 ∷ flat_map escaped text ++ 0x22 ∷ []
+
+-- data in digits; no data is a dash
+abbrev pub data_text : List ℕ → List ℕ
+data_text [] = codes "-"
+data_text (b ∷ bytes) = encode_upper (b ∷ bytes)
+
+-- the numbers of the components that a record uses, from 1; none is a dash
+abbrev pub use_text : ℕ → List ℕ
+use_text n = numbered (codes " ") (n + 1)
+
+unfoldable pub uses_text : List ℕ → List ℕ
+uses_text [] = codes " -"
+uses_text (n ∷ ns) = flat_map use_text (n ∷ ns)
+
 abbrev pub package_line : PackageText → List ℕ
 package_line p =
-    codes "package header " ++ decimal p.header_size ++ codes " records " ++ decimal (length p.records)
-    ++ codes " components " ++ decimal (length p.components) ++ codes "\n"
+    numbered (codes "package header ") p.header_size ++ numbered (codes " records ") (length p.records)
+    ++ numbered (codes " components ") (length p.components) ++ codes "\n"
+
+unfoldable pub descriptor_line : DescriptorOf → List ℕ
+descriptor_line d = in_four (codes "descriptor ") d.kind ++ codes " " ++ data_text d.bytes ++ codes "\n"
+
+unfoldable pub record_line : ℕ → RecordOf → List ℕ
+record_line n r =
+    numbered (codes "record ") n ++ in_eight (codes " flags ") r.flags ++ quoted (codes " set ") r.set_text.bytes
+    ++ codes " uses" ++ uses_text r.uses ++ codes "\n"
+
+-- a record's line, and those of its descriptors
+unfoldable pub record_text : ℕ → RecordOf → List ℕ
+record_text n r = record_line n r ++ flat_map descriptor_line r.descriptors
+
+-- records from number n on
+abbrev pub records_text : ℕ → List RecordOf → List ℕ
+records_text n [] = []
+records_text n (r ∷ rs) = record_text n r ++ records_text (n + 1) rs
+
+unfoldable pub component_line : ℕ → ComponentOf → List ℕ
+component_line n c =
+    numbered (codes "component ") n ++ numbered (codes " class ") c.classification ++ numbered (codes " ident ") c.identifier
+    ++ in_eight (codes " stamp ") c.stamp ++ in_four (codes " options ") c.options ++ numbered (codes " offset ") c.offset
+    ++ numbered (codes " size ") (length c.image) ++ quoted (codes " version ") c.text.bytes ++ codes "\n"
+
+-- components from number n on
+abbrev pub components_text : ℕ → List ComponentOf → List ℕ
+components_text n [] = []
+components_text n (c ∷ cs) = component_line n c ++ components_text (n + 1) cs
+
+-- what is printed of a package
+abbrev pub inspect_of : PackageText → List ℕ
+inspect_of p = package_line p ++ records_text 1 p.records ++ components_text 1 p.components

@@ -1,48 +1,311 @@
 //! The text of `fwupd inspect`.
 
-ghost use Rattle.std.specs.Prelude.{◌≡◌, ◌++◌, IfOk, decimal};
+ghost use Rattle.std.specs.Prelude.{◌≡◌, ◌≢◌, ◌++◌, ◌+◌, ◌^◌, ◌<◌, length, slice_index_or, IfErr, IfOk, OnOk};
 ghost use Rattle.std.specs.List.{flat_map};
-ghost use Rattle.std.specs.String.{string_bytes};
-ghost use Rattle.fwupd.specs.Inspection.{hex8, package_line};
+ghost use Rattle.std.specs.Result.{result_map_both};
+ghost use Rattle.fw_package.specs.Choice.{component_at, no_descriptor, record_at};
+ghost use Rattle.fw_package.specs.Package.{descriptor_of};
+ghost use Rattle.fw_package.specs.Reading.{package_of};
+ghost use Rattle.fwupd.specs.Inspection.{Adds, component_line, components_text, descriptor_line, inspect_of, package_line, record_line, records_text, record_text, use_text, uses_text};
 
-use fw_package::Package;
+use crate::printing::{push_data, push_eight, push_four, push_number, push_quoted, push_words};
+use fw_package::{Descriptor, Package, PackageFault};
 use std::alloc::{AllocError, Global};
 
-/// A number of four bytes in eight digits.
-fn eight_digits(alloc: Global, number: u32) -> Result<String, AllocError>
-    ensures { IfOk result (λ t. string_bytes t ≡ hex8 number) }
+/// Appends the package's line.
+fn push_package(alloc: Global, text: &mut Vec<u8>, contents: &Package) -> Result<(), AllocError>
+    ensures { OnOk result (Adds text.old.items text.new.items (package_line contents.now)) }
 {
-    hex::encode_upper(alloc, number.to_be_bytes())
+    push_number(alloc, text, "package header ", contents.header_size())?;
+    push_number(alloc, text, " records ", contents.record_count())?;
+    push_number(alloc, text, " components ", contents.component_count())?;
+    push_words(text, "\n")?;
+    Ok(())
 }
 
-/// A number in decimal digits.
-fn number_text(alloc: Global, number: usize) -> Result<String, AllocError>
-    ensures { IfOk result (λ t. string_bytes t ≡ decimal number) }
+/// Appends a descriptor's line.
+fn push_descriptor(
+    alloc: Global,
+    text: &mut Vec<u8>,
+    descriptor: Descriptor<'_>,
+) -> Result<(), AllocError>
+    ensures { OnOk result (Adds text.old.items text.new.items (descriptor_line (descriptor_of descriptor.entry))) }
 {
-    number.to_string(alloc)
+    push_four(alloc, text, "descriptor ", descriptor.kind)?;
+    push_words(text, " ")?;
+    push_data(alloc, text, descriptor.bytes)?;
+    push_words(text, "\n")?;
+    Ok(())
 }
 
-/// These texts, one after the other.
-fn joined(alloc: Global, pieces: &[&str]) -> Result<String, AllocError>
-    ensures { IfOk result (λ t. string_bytes t ≡ flat_map (λ p. p.now) pieces.now) }
+/// Appends the number of each component that a record uses.
+fn push_each_use(
+    alloc: Global,
+    text: &mut Vec<u8>,
+    contents: &Package,
+    number: usize,
+) -> Result<(), AllocError>
+    requires there { number < length contents.now.records }
+    ensures { OnOk result (Adds text.old.items text.new.items (flat_map use_text (record_at contents.now number).uses)) }
 {
-    pieces.concat(alloc)
+    let components = contents.component_count();
+    for place in 0..contents.use_count(number) {
+        let component = contents.use_at(number, place);
+        prove!(component < components);
+        push_number(alloc, text, " ", component + 1)?;
+    }
+    Ok(())
 }
 
-fn package_line(alloc: Global, contents: &Package) -> Result<String, AllocError>
-    ensures { IfOk result (λ t. string_bytes t ≡ package_line contents.now) }
+/// Appends the numbers of the components that a record uses, or a dash.
+#[tactic(auto, using(crate::proofs::Chains::uses_none, crate::proofs::Chains::uses_some))]
+fn push_uses(
+    alloc: Global,
+    text: &mut Vec<u8>,
+    contents: &Package,
+    number: usize,
+) -> Result<(), AllocError>
+    requires there { number < length contents.now.records }
+    ensures { OnOk result (Adds text.old.items text.new.items (uses_text (record_at contents.now number).uses)) }
 {
-    let header = number_text(alloc, contents.header_size())?;
-    let records = number_text(alloc, contents.record_count())?;
-    let components = number_text(alloc, contents.component_count())?;
-    let pieces = [
-        "package header ",
-        header.as_str(),
-        " records ",
-        records.as_str(),
-        " components ",
-        components.as_str(),
-        "\n",
+    if contents.use_count(number) == 0 {
+        push_words(text, " -")?;
+        return Ok(());
+    }
+    push_each_use(alloc, text, contents, number)?;
+    Ok(())
+}
+
+/// Appends a record's line.
+fn push_record_line(
+    alloc: Global,
+    text: &mut Vec<u8>,
+    contents: &Package,
+    number: usize,
+) -> Result<(), AllocError>
+    requires there { number < length contents.now.records }
+    requires room { number + 1 < 2 ^ 64 }
+    ensures { OnOk result (Adds text.old.items text.new.items (record_line (number + 1) (record_at contents.now number))) }
+{
+    push_number(alloc, text, "record ", number + 1)?;
+    push_eight(alloc, text, " flags ", contents.flags(number))?;
+    push_quoted(alloc, text, " set ", contents.set_text(number).bytes)?;
+    push_words(text, " uses")?;
+    push_uses(alloc, text, contents, number)?;
+    push_words(text, "\n")?;
+    Ok(())
+}
+
+/// Appends a component's line.
+fn push_component(
+    alloc: Global,
+    text: &mut Vec<u8>,
+    contents: &Package,
+    component: usize,
+) -> Result<(), AllocError>
+    requires there { component < length contents.now.components }
+    requires room { component + 1 < 2 ^ 64 }
+    ensures { OnOk result (Adds text.old.items text.new.items (component_line (component + 1) (component_at contents.now component))) }
+{
+    push_number(alloc, text, "component ", component + 1)?;
+    push_number(
+        alloc,
+        text,
+        " class ",
+        usize::from(contents.classification(component)),
+    )?;
+    push_number(
+        alloc,
+        text,
+        " ident ",
+        usize::from(contents.identifier(component)),
+    )?;
+    push_eight(alloc, text, " stamp ", contents.stamp(component))?;
+    push_four(alloc, text, " options ", contents.options(component))?;
+    push_number(alloc, text, " offset ", contents.offset(component))?;
+    push_number(alloc, text, " size ", contents.size(component))?;
+    push_quoted(alloc, text, " version ", contents.text(component).bytes)?;
+    push_words(text, "\n")?;
+    Ok(())
+}
+
+/// Appends the lines of a record's descriptors.
+fn push_descriptors(
+    alloc: Global,
+    text: &mut Vec<u8>,
+    contents: &Package,
+    number: usize,
+) -> Result<(), AllocError>
+    requires there { number < length contents.now.records }
+    ensures { OnOk result (Adds text.old.items text.new.items (flat_map descriptor_line (record_at contents.now number).descriptors)) }
+{
+    for place in 0..contents.descriptor_count(number) {
+        push_descriptor(alloc, text, contents.descriptor(number, place))?;
+    }
+    Ok(())
+}
+
+/// Appends a record's line and those of its descriptors.
+fn push_record(
+    alloc: Global,
+    text: &mut Vec<u8>,
+    contents: &Package,
+    number: usize,
+) -> Result<(), AllocError>
+    requires there { number < length contents.now.records }
+    requires room { number + 1 < 2 ^ 64 }
+    ensures { OnOk result (Adds text.old.items text.new.items (record_text (number + 1) (record_at contents.now number))) }
+{
+    push_record_line(alloc, text, contents, number)?;
+    push_descriptors(alloc, text, contents, number)?;
+    Ok(())
+}
+
+/// Appends the lines of all records.
+fn push_records(alloc: Global, text: &mut Vec<u8>, contents: &Package) -> Result<(), AllocError>
+    ensures { OnOk result (Adds text.old.items text.new.items (records_text 1 contents.now.records)) }
+{
+    for number in 0..contents.record_count() {
+        push_record(alloc, text, contents, number)?;
+    }
+    Ok(())
+}
+
+/// Appends the lines of all components.
+fn push_components(alloc: Global, text: &mut Vec<u8>, contents: &Package) -> Result<(), AllocError>
+    ensures { OnOk result (Adds text.old.items text.new.items (components_text 1 contents.now.components)) }
+{
+    for component in 0..contents.component_count() {
+        push_component(alloc, text, contents, component)?;
+    }
+    Ok(())
+}
+
+/// What `fwupd inspect` prints of a package.
+///
+/// # Errors
+/// Memory was refused.
+fn inspection(alloc: Global, contents: &Package) -> Result<Vec<u8>, AllocError>
+    ensures { IfOk result (λ text. text.items ≡ inspect_of contents.now) }
+{
+    let mut text = Vec::new(alloc);
+    push_package(alloc, &mut text, contents)?;
+    push_records(alloc, &mut text, contents)?;
+    push_components(alloc, &mut text, contents)?;
+    Ok(text)
+}
+
+/// Inspects a firmware package: what its records name, and its components, a line each.
+///
+/// # Errors
+/// Bytes that are no package are refused by the first fault that holds; `Memory` only where memory was refused.
+pub fn inspect(alloc: Global, bytes: &[u8]) -> Result<Vec<u8>, PackageFault>
+    ensures text { IfOk result (λ text. result_map_both inspect_of (λ e. e) (package_of bytes.now) ≡ Ok text.items) }
+    ensures fault { IfErr result (λ e. e ≢ PackageFault.Memory → package_of bytes.now ≡ Err e) }
+{
+    let contents = Package::read(alloc, bytes)?;
+    let Ok(text) = inspection(alloc, &contents) else {
+        return Err(PackageFault::Memory);
+    };
+    Ok(text)
+}
+
+#[cfg(test)]
+mod tests {
+    use super::*;
+    use std::test::Fail;
+
+    /// The reflected CRC-32, bit by bit.
+    fn checksum(bytes: &[u8]) -> u32 {
+        let mut crc = u32::MAX;
+        for byte in bytes {
+            crc ^= u32::from(*byte);
+            for _ in 0..8 {
+                let low = crc & 1;
+                crc >>= 1;
+                if low == 1 {
+                    crc ^= 0xEDB8_8320;
+                }
+            }
+        }
+        crc ^ u32::MAX
+    }
+
+    /// A package whose record names no component and has one descriptor without data, and whose component's text is
+    /// this one; the record's own text is a quote.
+    fn package_of(rt: &HostRuntime, text: &[u8]) -> Result<Vec<u8>, Fail> {
+        let mut out = Vec::new(rt.alloc());
+        out.extend_from_slice(&[0xF0, 0x18, 0x87, 0x8C, 0xCB, 0x7D, 0x49, 0x43])?;
+        out.extend_from_slice(&[0x98, 0x00, 0xA0, 0x2F, 0x05, 0x9A, 0xCA, 0x02, 1])?;
+        let size = 82 + text.len() % 100;
+        out.extend_from_slice(&[size as u8, 0])?;
+        out.extend_from_slice(&[0; 13])?;
+        out.extend_from_slice(&[8, 0, 1, 0])?;
+        // One record of 17 bytes: length, descriptors, flags, text type and length, package data, bitmap, text, descriptor.
+        out.extend_from_slice(&[1, 17, 0, 1, 4, 3, 2, 1, 1, 1, 0, 0, 0, b'"'])?;
+        out.extend_from_slice(&[2, 0, 0, 0])?;
+        // One component of 22 bytes and its text, of size 0.
+        out.extend_from_slice(&[1, 0, 0xFF, 0xFF, 2, 0, 4, 3, 2, 1, 3, 0, 0, 0])?;
+        out.extend_from_slice(&[0, 0, 0, 0, 0, 0, 0, 0, 1, (text.len() % 100) as u8])?;
+        out.extend_from_slice(text)?;
+        let crc = checksum(&out);
+        out.extend_from_slice(&crc.to_le_bytes())?;
+        Ok(out)
+    }
+
+    #[test]
+    fn prints_a_package_line_by_line(rt: HostRuntime) -> Result<(), Fail> {
+        let package = package_of(&rt, b"a \"b\" \\ \x1F\x7F\xC3\xA9 ~")?;
+        let want = b"package header 96 records 1 components 1\n\
+            record 1 flags 01020304 set \"\\x22\" uses -\n\
+            descriptor 0002 -\n\
+            component 1 class 65535 ident 2 stamp 01020304 options 0003 offset 0 size 0 \
+            version \"a \\x22b\\x22 \\x5C \\x1F\\x7F\\xC3\\xA9 ~\"\n";
+        assert_eq!(rt; inspect(rt.alloc(), &package)?.as_slice(), want.as_slice());
+        Ok(())
+    }
+
+    #[test]
+    fn refuses_what_is_no_package(rt: HostRuntime) -> Result<(), Fail> {
+        let mut package = package_of(&rt, b"v")?;
+        let table: [(usize, PackageFault); 3] = [
+            (0, PackageFault::Short),
+            (35, PackageFault::Short),
+            (81, PackageFault::HeaderSize),
+        ];
+        for (size, fault) in table {
+            let cut = package.get(..size).unwrap_or(&[]);
+            match inspect(rt.alloc(), cut) {
+                Ok(_) => assert!(rt; false, "{size}"),
+                Err(e) => assert_eq!(rt; e, fault, "{size}"),
+            }
+        }
+        if let Some(byte) = package.get_mut(25) {
+            *byte = 1;
+        }
+        match inspect(rt.alloc(), &package) {
+            Ok(_) => assert!(rt; false),
+            Err(e) => assert_eq!(rt; e, PackageFault::Checksum),
+        }
+        Ok(())
+    }
+
+    /// The package with the text `v`, its checksum computed apart.
+    const PACKAGE: [u8; 83] = [
+        0xF0, 0x18, 0x87, 0x8C, 0xCB, 0x7D, 0x49, 0x43, 0x98, 0x00, 0xA0, 0x2F, 0x05, 0x9A, 0xCA,
+        0x02, 0x01, 0x53, 0x00, 0x00, 0x00, 0x00, 0x00, 0x00, 0x00, 0x00, 0x00, 0x00, 0x00, 0x00,
+        0x00, 0x00, 0x08, 0x00, 0x01, 0x00, 0x01, 0x11, 0x00, 0x01, 0x04, 0x03, 0x02, 0x01, 0x01,
+        0x01, 0x00, 0x00, 0x00, 0x22, 0x02, 0x00, 0x00, 0x00, 0x01, 0x00, 0xFF, 0xFF, 0x02, 0x00,
+        0x04, 0x03, 0x02, 0x01, 0x03, 0x00, 0x00, 0x00, 0x00, 0x00, 0x00, 0x00, 0x00, 0x00, 0x00,
+        0x00, 0x01, 0x01, 0x76, 0x09, 0x17, 0x67, 0x07,
     ];
-    joined(alloc, &pieces)
+
+    /// Holds whichever single allocation is refused.
+    #[test]
+    fn refused_memory_refuses_the_inspection(rt: HostRuntime) {
+        match inspect(rt.alloc(), &PACKAGE) {
+            Ok(text) => assert!(rt; text.ends_with(b"version \"v\"\n")),
+            Err(fault) => assert_eq!(rt; fault, PackageFault::Memory),
+        }
+    }
 }

@@ -4,6 +4,7 @@
 mod command_line;
 mod drops;
 mod inspection;
+mod printing;
 mod responder;
 mod stream;
 #[cfg(test)]
@@ -11,7 +12,9 @@ mod tests;
 mod text;
 
 use command_line::Job;
+use fw_package::PackageFault;
 use mctp_ctl::Endpoint;
+use std::fs;
 use std::io::{self, BufReader, BufWriter, Write};
 use std::process::ExitCode;
 use stream::AnswerFault;
@@ -38,17 +41,53 @@ fn answer(rt: &HostRuntime, endpoint: Endpoint) -> Result<(), AnswerFault> {
     answered
 }
 
-/// Does what the words ask for.
-fn run(rt: &HostRuntime, job: Job) -> io::Result<ExitCode> {
-    let outcome = match job {
-        Job::Answer(endpoint) => answer(rt, endpoint),
-    };
-    match outcome {
+/// Prints a fault, and gives the status that says so.
+fn failed(rt: &HostRuntime, fault: &str) -> io::Result<ExitCode> {
+    eprintln!(rt; "fwupd: {fault}")?;
+    Ok(ExitCode::FAILURE)
+}
+
+/// The status of a run of `answer`.
+fn run_answer(rt: &HostRuntime, endpoint: Endpoint) -> io::Result<ExitCode> {
+    match answer(rt, endpoint) {
         Ok(()) => Ok(ExitCode::SUCCESS),
+        Err(AnswerFault::Read) => failed(rt, "input"),
+        Err(AnswerFault::Write) => failed(rt, "output"),
+        Err(AnswerFault::Memory) => failed(rt, "memory"),
+    }
+}
+
+/// Prints what the package in a file holds.
+fn run_inspect(rt: &HostRuntime, path: &str) -> io::Result<ExitCode> {
+    let bytes = match fs::read(rt, path) {
+        Ok(bytes) => bytes,
+        Err(error) if error.kind() == io::ErrorKind::OutOfMemory => return failed(rt, "memory"),
+        Err(_) => {
+            eprintln!(rt; "fwupd: {path}: unreadable")?;
+            return Ok(ExitCode::FAILURE);
+        }
+    };
+    match inspection::inspect(rt.alloc(), &bytes) {
+        Ok(text) => {
+            let mut writer = io::writer(rt);
+            if writer.write_all(&text).is_err() {
+                return failed(rt, "output");
+            }
+            Ok(ExitCode::SUCCESS)
+        }
+        Err(PackageFault::Memory) => failed(rt, "memory"),
         Err(fault) => {
-            eprintln!(rt; "fwupd: {fault}")?;
+            eprintln!(rt; "fwupd: package: {fault}")?;
             Ok(ExitCode::FAILURE)
         }
+    }
+}
+
+/// Does what the words ask for.
+fn run(rt: &HostRuntime, job: &Job<'_>) -> io::Result<ExitCode> {
+    match job {
+        Job::Answer(endpoint) => run_answer(rt, *endpoint),
+        Job::Inspect(path) => run_inspect(rt, path),
     }
 }
 
@@ -59,7 +98,7 @@ fn main(rt: HostRuntime) -> io::Result<ExitCode> {
     };
     let words: Vec<String> = args.collect(alloc)?;
     match command_line::parse(alloc, words.as_slice()) {
-        Ok(job) => run(&rt, job),
+        Ok(job) => run(&rt, &job),
         Err(error) => {
             error.print(&rt)?;
             Ok(ExitCode::from(error.exit_code() as u8))

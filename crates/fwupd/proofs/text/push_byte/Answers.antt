@@ -1,4 +1,4 @@
-use Rattle.std.proofs.Common.{append_assoc, ap, refl, ◌∙◌, ◌++◌, ◌∷◌, [], List, ℕ}
+use Rattle.std.proofs.Common.{append_assoc, ap, refl, ◌++◌, List, ℕ}
 use Rattle.fwupd.proofs.Digits.{given_ok, upper_of_byte}
 use Rattle.fwupd.proofs.text.push_byte.Goals as goal
 
