@@ -29,8 +29,8 @@ impl<'a> Model for Descriptors<'a> {
 }
 
 impl<'a> Descriptors<'a> {
-    #[tactic(auto, using(crate::proofs::DescriptorLaws::are_descriptors))]
     /// So many descriptors, if the bytes are them and nothing else.
+    #[tactic(auto, using(crate::proofs::DescriptorLaws::are_descriptors))]
     pub(crate) fn read(count: u8, bytes: &'a [u8]) -> Option<Self>
         ensures { result ≡ descriptors_in count bytes.now }
     {

@@ -29,8 +29,8 @@ impl<'a> Model for Parameters<'a> {
 }
 
 impl<'a> Parameters<'a> {
-    #[tactic(auto, using(crate::proofs::ParameterLaws::are_parameters))]
     /// So many components, if the bytes are them and nothing else.
+    #[tactic(auto, using(crate::proofs::ParameterLaws::are_parameters))]
     pub(crate) fn read(count: u16, bytes: &'a [u8]) -> Option<Self>
         ensures { result ≡ parameters_in count bytes.now }
     {
