@@ -44,3 +44,7 @@ only_answer command (code ∷ fields) = by_code (code == 0) command code fields 
 pub found_answer_value : (command : ℕ) (bytes : List ℕ) (a : AnswerOf) → Some a ≡ answer_in command bytes → IsAnswer command bytes a
 found_answer_value command bytes a e =
     let h : IfSome (answer_in command bytes) (λ a. IsAnswer command bytes a) = only_answer command bytes in rw (sym e) at h
+
+-- the same, the other way round
+pub read_member : (command : ℕ) (bytes : List ℕ) (a : AnswerOf) → answer_in command bytes ≡ Some a → IsAnswer command bytes a
+read_member command bytes a e = found_answer_value command bytes a (sym e)

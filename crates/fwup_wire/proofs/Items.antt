@@ -142,3 +142,8 @@ pub items_kept : {A : Type 0} (first : List ℕ → Option A) (size : A → ℕ)
     (count : ℕ) (bytes : List ℕ) (items : List A) → HoldsItems first size spelling Fits count bytes items
     → HoldsItems first size spelling Fits count bytes (unwrap_or (items_in first size count bytes) [])
 items_kept first size spelling Fits count bytes items holds = let found = holds.are.found in rw found holds
+
+-- a list is found again by its own number of items
+pub items_counted : {A : Type 0} (first : List ℕ → Option A) (size : A → ℕ) (count : ℕ) (bytes : List ℕ) (items : List A)
+    → items_in first size count bytes ≡ Some items → items_in first size (length items) bytes ≡ Some items
+items_counted first size count bytes items e = rw (items_length first size count bytes items e) e

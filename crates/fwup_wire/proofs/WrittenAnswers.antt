@@ -5,11 +5,11 @@ use Rattle.byteorder.specs.Numbers.{little_number-reads_back}
 use Rattle.fwup_wire.proofs.DescriptorLaws.{descriptor_reads_back, descriptor_skips}
 use Rattle.fwup_wire.proofs.Items.{items_read_back}
 use Rattle.fwup_wire.proofs.ParameterLaws.{parameters_read_back, parameters_skip}
-use Rattle.fwup_wire.specs.Answers.{firmware_parameters_in, identifiers_in, success_bytes}
+use Rattle.fwup_wire.specs.Answers.{answer_bytes, answer_in, firmware_parameters_in, identifiers_in, success_bytes}
 use Rattle.fwup_wire.specs.Descriptors.{HasDescriptorWidths, descriptor_bytes, descriptor_size, descriptors_bytes, first_descriptor}
 use Rattle.fwup_wire.specs.Items.{EachItem}
 use Rattle.fwup_wire.specs.Laws.{WritesAnswers}
-use Rattle.fwup_wire.specs.Parameters.{HasParametersWidths, first_parameters, parameters_bytes, parameters_size}
+use Rattle.fwup_wire.specs.Parameters.{HasParametersWidths, all_parameters_bytes, first_parameters, parameters_bytes, parameters_in, parameters_size}
 use Rattle.fwup_wire.specs.Values.{AnswerOf, DescriptorOf, ParametersOf}
 
 identifiers_back : (ds : List DescriptorOf) → EachItem HasDescriptorWidths ds → length (descriptors_bytes ds) < 256 ^ 4
@@ -26,6 +26,13 @@ parameters_back ps each few =
     let count = little_number-reads_back 2 (length ps) [] few in
     let found = items_read_back first_parameters parameters_size parameters_bytes HasParametersWidths parameters_read_back parameters_skip ps each in
     rw (count, found) refl
+
+-- the same where the list is known to be found
+pub parameters_known : (ps : List ParametersOf) → length ps < 65536
+    → parameters_in (length ps) (all_parameters_bytes ps) ≡ Some ps
+    → answer_in 2 (answer_bytes (AnswerOf.GetFirmwareParameters ps)) ≡ Some (AnswerOf.GetFirmwareParameters ps)
+parameters_known ps few found =
+    let count = little_number-reads_back 2 (length ps) [] few in rw (count, found) refl
 
 pub writes_answers : WritesAnswers
 writes_answers command (AnswerOf.QueryDeviceIdentifiers ds) is fits writable =

@@ -1,10 +1,14 @@
 //! Answers, written.
 
-ghost use Rattle.std.specs.Prelude.{Some, true, ◌≡◌, ℕ};
+ghost use Rattle.std.specs.Prelude.{Some, length, true, ◌<◌, ◌≡◌, ℕ};
 ghost use Rattle.fwup_wire.specs.Answers.{IsAnswer, IsAnswerWritable, answer_bytes, answer_in, answers_command};
 ghost use Rattle.fwup_wire.specs.Lent.{answer_of};
+ghost use Rattle.fwup_wire.specs.Parameters.{all_parameters_bytes, parameters_in};
+ghost use Rattle.fwup_wire.specs.Values.{AnswerOf};
 
-use crate::answer::{Answer, OfferResponse, Status};
+use crate::answer::Answer;
+use crate::descriptors::Descriptors;
+use crate::parameters::Parameters;
 use crate::writer::{put_u16, put_u32};
 use pldm_base::Reply;
 use pldm_base::completion::SUCCESS;
@@ -22,24 +26,28 @@ const NO_METADATA: [u8; 3] = [0; 3];
 const ALL_COMPONENTS_WORK: [u8; 9] = [0; 9];
 
 /// Writes an answer (DSP0267 1.0): the completion code and what follows it, with its reserved bits 0.
+#[tactic(auto, using(crate::proofs::Found::read_member))]
 pub fn write_answer(answer: &Answer<'_>) -> Reply
     requires { IsAnswerWritable (answer_of answer.now) }
     ensures bytes { result.items ≡ answer_bytes (answer_of answer.now) }
+    ensures member { (command : ℕ) → answers_command command (answer_of answer.now) ≡ true → IsAnswer command result.items (answer_of answer.now) }
+    ensures reads_back { (command : ℕ) → answers_command command (answer_of answer.now) ≡ true → answer_in command result.items ≡ Some (answer_of answer.now) }
+{
+    written(answer)
+}
+
+/// The answer as it is written.
+#[tactic(auto, using(crate::proofs::WrittenAnswers::parameters_known))]
+fn written(answer: &Answer<'_>) -> Reply
+    requires { IsAnswerWritable (answer_of answer.now) }
+    ensures bytes { result.items ≡ answer_bytes (answer_of answer.now) }
+    ensures reads_back { (command : ℕ) → answers_command command (answer_of answer.now) ≡ true → answer_in command result.items ≡ Some (answer_of answer.now) }
 {
     let mut out = Reply::new();
     out.push(answer.code());
     match answer {
-        Answer::QueryDeviceIdentifiers(descriptors) => {
-            put_u32(&mut out, descriptors.as_bytes().len() as u32);
-            out.push(descriptors.count());
-            let _ = out.try_extend_from_slice(descriptors.as_bytes());
-        }
-        Answer::GetFirmwareParameters(components) => {
-            let _ = out.try_extend_from_slice(&NO_CAPABILITIES);
-            put_u16(&mut out, components.count());
-            let _ = out.try_extend_from_slice(&NO_SET_TEXTS);
-            let _ = out.try_extend_from_slice(components.as_bytes());
-        }
+        Answer::QueryDeviceIdentifiers(descriptors) => return query_device_identifiers(descriptors),
+        Answer::GetFirmwareParameters(components) => return get_firmware_parameters(components),
         Answer::RequestUpdate => {
             let _ = out.try_extend_from_slice(&NO_METADATA);
         }
@@ -75,5 +83,33 @@ pub fn write_answer(answer: &Answer<'_>) -> Reply
         | Answer::ApplyComplete
         | Answer::CancelUpdateComponent => {}
     }
+    out
+}
+
+fn query_device_identifiers(descriptors: &Descriptors<'_>) -> Reply
+    requires { IsAnswerWritable (AnswerOf.QueryDeviceIdentifiers descriptors.now) }
+    ensures bytes { result.items ≡ answer_bytes (AnswerOf.QueryDeviceIdentifiers descriptors.now) }
+    ensures reads_back { answer_in 0x01 result.items ≡ Some (AnswerOf.QueryDeviceIdentifiers descriptors.now) }
+{
+    let mut out = Reply::new();
+    out.push(SUCCESS);
+    put_u32(&mut out, descriptors.as_bytes().len() as u32);
+    out.push(descriptors.count());
+    let _ = out.try_extend_from_slice(descriptors.as_bytes());
+    out
+}
+
+fn get_firmware_parameters(components: &Parameters<'_>) -> Reply
+    requires { IsAnswerWritable (AnswerOf.GetFirmwareParameters components.now) }
+    ensures bytes { result.items ≡ answer_bytes (AnswerOf.GetFirmwareParameters components.now) }
+    ensures few { length components.now < 65536 }
+    ensures found { parameters_in (length components.now) (all_parameters_bytes components.now) ≡ Some components.now }
+{
+    let mut out = Reply::new();
+    out.push(SUCCESS);
+    let _ = out.try_extend_from_slice(&NO_CAPABILITIES);
+    put_u16(&mut out, components.count());
+    let _ = out.try_extend_from_slice(&NO_SET_TEXTS);
+    let _ = out.try_extend_from_slice(components.as_bytes());
     out
 }

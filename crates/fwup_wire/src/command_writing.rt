@@ -9,8 +9,8 @@ use crate::command::{Command, ComponentOffer, TableEntry, UpdateRequest};
 use crate::writer::{put_component, put_text, put_u16, put_u32};
 use pldm_base::Reply;
 
-#[tactic(auto, using(crate::proofs::Written::writes_member, crate::proofs::Written::writes_back))]
 /// Writes the request data of a command (DSP0267 1.0), with its reserved bits 0. The command's byte is `Command::code`.
+#[tactic(auto, using(crate::proofs::Written::writes_member, crate::proofs::Written::writes_back))]
 pub fn write(command: &Command<'_>) -> Reply
     requires { IsWritable (command_of command.now) }
     ensures bytes { result.items ≡ command_bytes (command_of command.now) }

@@ -111,8 +111,8 @@ impl<'a> Cursor<'a> {
         Some(Descriptor { kind, bytes })
     }
 
-    #[tactic(auto, using(crate::proofs::Parts::parameters_skipped))]
     /// The parameters of the next component. A text's bytes stand behind all other fields.
+    #[tactic(auto, using(crate::proofs::Parts::parameters_skipped))]
     pub fn parameters(&mut self) -> Option<ComponentParameters<'a>>
         ensures value { option_map parameters_of result ≡ first_parameters self.old }
         ensures rest { IfSome result (λ p. self.new ≡ drop (parameters_size (parameters_of p)) self.old) }

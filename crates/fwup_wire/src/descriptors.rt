@@ -1,7 +1,7 @@
 //! Lists of descriptors as they are sent.
 
 ghost use Rattle.std.specs.Iterator.{YieldsFirstBy, item_count};
-ghost use Rattle.std.specs.Prelude.{IsTrue, List, [], drop, length, unwrap_or, ◌↔◌, ◌≡◌, ◌<◌, ℕ};
+ghost use Rattle.std.specs.Prelude.{IsTrue, Some, List, [], drop, length, unwrap_or, ◌↔◌, ◌≡◌, ◌<◌, ℕ};
 ghost use Rattle.fwup_wire.specs.Lent.{descriptor_of};
 ghost use Rattle.fwup_wire.specs.Descriptors.{AreDescriptors, descriptors_bytes, descriptors_in};
 
@@ -29,8 +29,8 @@ impl<'a> Model for Descriptors<'a> {
 }
 
 impl<'a> Descriptors<'a> {
-    #[tactic(auto, using(crate::proofs::DescriptorLaws::are_descriptors))]
     /// So many descriptors, if the bytes are them and nothing else.
+    #[tactic(auto, using(crate::proofs::DescriptorLaws::are_descriptors))]
     pub(crate) fn read(count: u8, bytes: &'a [u8]) -> Option<Self>
         ensures { result ≡ descriptors_in count bytes.now }
     {
@@ -54,7 +54,8 @@ impl<'a> Descriptors<'a> {
 
     /// The descriptors one after the other, as they are sent.
     pub fn as_bytes(&self) -> &'a [u8]
-        ensures { result.now ≡ descriptors_bytes self.now }
+        ensures bytes { result.now ≡ descriptors_bytes self.now }
+        ensures found { descriptors_in (length self.now) result.now ≡ Some self.now }
     {
         self.bytes
     }

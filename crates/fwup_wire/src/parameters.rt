@@ -1,7 +1,7 @@
 //! Lists of components' parameters as they are sent.
 
 ghost use Rattle.std.specs.Iterator.{YieldsFirstBy, item_count};
-ghost use Rattle.std.specs.Prelude.{IsTrue, List, [], drop, length, unwrap_or, ◌↔◌, ◌≡◌, ◌<◌, ℕ};
+ghost use Rattle.std.specs.Prelude.{IsTrue, Some, List, [], drop, length, unwrap_or, ◌↔◌, ◌≡◌, ◌<◌, ℕ};
 ghost use Rattle.fwup_wire.specs.Lent.{parameters_of};
 ghost use Rattle.fwup_wire.specs.Parameters.{AreParameters, all_parameters_bytes, parameters_in};
 
@@ -29,8 +29,8 @@ impl<'a> Model for Parameters<'a> {
 }
 
 impl<'a> Parameters<'a> {
-    #[tactic(auto, using(crate::proofs::ParameterLaws::are_parameters))]
     /// So many components, if the bytes are them and nothing else.
+    #[tactic(auto, using(crate::proofs::ParameterLaws::are_parameters))]
     pub(crate) fn read(count: u16, bytes: &'a [u8]) -> Option<Self>
         ensures { result ≡ parameters_in count bytes.now }
     {
@@ -54,7 +54,8 @@ impl<'a> Parameters<'a> {
 
     /// The components one after the other, as they are sent.
     pub fn as_bytes(&self) -> &'a [u8]
-        ensures { result.now ≡ all_parameters_bytes self.now }
+        ensures bytes { result.now ≡ all_parameters_bytes self.now }
+        ensures found { parameters_in (length self.now) result.now ≡ Some self.now }
     {
         self.bytes
     }

@@ -1,6 +1,6 @@
 //! Writing the fields of a message one after the other.
 
-ghost use Rattle.std.specs.Prelude.{◌+◌, ◌++◌, ◌≡◌, ◌≤◌, length};
+ghost use Rattle.std.specs.Prelude.{◌+◌, ◌++◌, ◌<◌, ◌≡◌, ◌≤◌, length};
 ghost use Rattle.arrayvec.specs.ArrayVec.{array_vec_len};
 ghost use Rattle.byteorder.specs.Endian.{little_bytes};
 ghost use Rattle.fwup_wire.specs.Fields.{HasComponentWidths, component_bytes, text_bytes};
@@ -13,7 +13,8 @@ use pldm_base::Reply;
 /// Appends a number of two bytes.
 pub fn put_u16(out: &mut Reply, number: u16)
     requires { array_vec_len out.old + 2 ≤ 252 }
-    ensures { out.new.items ≡ out.old.items ++ little_bytes 2 number }
+    ensures bytes { out.new.items ≡ out.old.items ++ little_bytes 2 number }
+    ensures width { number < 65536 }
 {
     let mut bytes = [0; 2];
     LittleEndian::write_u16(&mut bytes, number);
