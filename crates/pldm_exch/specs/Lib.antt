@@ -1,0 +1,3 @@
+pub mod Places
+pub mod Rests
+pub mod Rows
