@@ -1,2 +1,3 @@
+mod Callers
 mod Resting
 mod Rows

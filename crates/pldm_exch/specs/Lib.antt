@@ -1,3 +1,4 @@
+pub mod Caller
 pub mod Places
 pub mod Rests
 pub mod Rows

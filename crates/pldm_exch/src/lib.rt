@@ -1,8 +1,9 @@
 //! Requests and kept answers.
 #![tactic(auto)]
 
+mod caller;
 mod dated;
 mod rests;
 mod times;
 
-pub use rests::Rests;
+pub use caller::{CallTick, Caller, ReplyIn};
