@@ -1,3 +1,4 @@
 mod Callers
+mod Keeping
 mod Resting
 mod Rows

@@ -1,4 +1,6 @@
+pub mod Answers
 pub mod Caller
+pub mod Kept
 pub mod Places
 pub mod Rests
 pub mod Rows
