@@ -32,10 +32,10 @@ all_set (r ∷ rs) (suc t) h = (h.0, all_set rs t h.1)
 pub rests_set : (rests : List ℕ) (t : ℕ) → AreRests rests → AreRests (slice_set rests t 40)
 rests_set rests t h = (length_set rests t 40 ∙ h.0, all_set rests t h.1)
 
-rest_set : (rests : List ℕ) (t : ℕ) → t < 8 → AreRests rests → get_or (slice_set rests t 40) t 0 ≡ 40
+pub rest_set : (rests : List ℕ) (t : ℕ) → t < 8 → AreRests rests → get_or (slice_set rests t 40) t 0 ≡ 40
 rest_set rests t lt h = let long : t < length rests = omega (arith, h.0, lt) in get_or-set_same rests t 40 0 long
 
-rest_fallen : (rests : List ℕ) (t : ℕ) → t < 8 → AreRests rests → get_or (fallen rests) t 0 ≡ get_or rests t 0 - 1
+pub rest_fallen : (rests : List ℕ) (t : ℕ) → t < 8 → AreRests rests → get_or (fallen rests) t 0 ≡ get_or rests t 0 - 1
 rest_fallen rests t lt h = let long : t < length rests = omega (arith, h.0, lt) in get_or-map (λ rest. rest - 1) rests t 0 0 long
 
 -- numbers
@@ -45,7 +45,7 @@ last_of n le = omega arith
 below_32 : (n : ℕ) → n % 32 ≤ 31
 below_32 n = omega arith
 
-below_8 : (n : ℕ) → n % 8 < 8
+pub below_8 : (n : ℕ) → n % 8 < 8
 below_8 n = omega arith
 
 pub fresh_is : (own peer : ℕ) → IsCaller (fresh own peer)
@@ -118,7 +118,7 @@ waits_is c o h open_is young waits =
     }
 
 -- a request that is sent again, waits on or is given up
-bool_cases : (b : Bool) → (b ≡ true) ⊎ (b ≡ false)
+pub bool_cases : (b : Bool) → (b ≡ true) ⊎ (b ≡ false)
 bool_cases true = inl refl
 bool_cases false = inr refl
 

@@ -1,11 +1,15 @@
 -- Lemmas on kept answers.
-use Rattle.std.proofs.Common.{◌≡◌, ◌≢◌, ◌∙◌, ◌+◌, ◌==◌, ◌≤◌, ◌<◌, nat_lt, ℕ, zero, suc, Bool, true, false, List, [], ◌∷◌, Option, Some, None, IfSome, length, map, replicate, get_or, slice_set, inl, inr, refl, sym, ap, arith}
+use Rattle.std.proofs.Common.{◌≡◌, ◌≢◌, ◌∙◌, ◌+◌, ◌==◌, ◌≤◌, ◌<◌, nat_lt, ℕ, zero, suc, Bool, true, false, List, [], ◌∷◌, Option, Some, None, IfSome, length, map, replicate, get_or, slice_set, if◌then◌else◌, nat_le, inl, inr, refl, sym, ap, arith}
 use Rattle.std.specs.Option.{option_map}
-use Rattle.std.proofs.lemmas.Bool.{cases_lt, lt-ltb, le-ltb}
-use Rattle.std.proofs.lemmas.List.{map-set, get_or-map}
+use Rattle.std.proofs.lemmas.Bool.{cases_lt, lt-ltb, le-ltb, le-leb, lt-leb}
+use Rattle.std.proofs.lemmas.Bool.Decides.{eqb_tells}
+use Rattle.std.proofs.lemmas.List.{map-set, get_or-set_same}
 use Rattle.mctp_reasm.specs.Pieces.{MessageOf}
 use Rattle.pldm_exch.specs.Answers.{kept_in}
-use Rattle.pldm_exch.specs.Kept.{AreKept, AreKeptFrom, IsKept, Kept, answerer_tick, identifier_of, kept_as, kept_tick, kept_with, none_kept}
+use Rattle.pldm_exch.specs.Kept.{AreKept, AreKeptFrom, IsKept, Kept, answerer_tick, asked_as, identifier_of, kept_as, kept_at, kept_tick, kept_with, none_kept}
+use Rattle.pldm_exch.specs.Laws.{AnswersAreKept, AnswersStayLawful, RepeatsAnswerTheRequest, kept_after}
+use Rattle.pldm_exch.specs.declared.answerer.Asked.{Asked}
+use Rattle.pldm_exch.specs.declared.answerer.Asked.TheVariants.{Again, New}
 use Rattle.pldm_exch.specs.Places.{Aged, aged_tick}
 use Rattle.pldm_exch.specs.declared.answerer.Answer.{Answer}
 
@@ -69,5 +73,63 @@ put_are kept m (Some identifier) e h =
 
 pub keep_are : (kept : List (Option Kept)) (m : MessageOf) → AreKept kept → AreKept (kept_with kept m)
 keep_are kept m h = put_are kept m (identifier_of m) refl h
+
+pub stay_lawful : AnswersStayLawful
+stay_lawful = record { first = none_are; keep = keep_are; tick = tick_are }
+
+-- what comes again
+answer_in : MessageOf → Asked → MessageOf
+answer_in m (Again answer) = answer
+answer_in m New = m
+
+again_as : (place : ℕ) (o : Option Kept) (identifier : Option ℕ) (answer : MessageOf) → IfSome o (IsKept place) → asked_as o identifier ≡ Again answer
+    → (answer.tag ≡ place) × (identifier_of answer ≡ identifier)
+unfolding answer_in
+again_as place None identifier answer h e = absurd (cc)
+again_as place (Some k) None answer h e = absurd (cc)
+again_as place (Some k) (Some identifier) answer h e = elim (eqb_tells k.identifier identifier) [
+  | inl same ↦
+      let again : asked_as (Some k) (Some identifier) ≡ Again k.reply = rw same.0 refl in
+      let is : answer ≡ k.reply = ap (answer_in answer) (sym e ∙ again) in
+      (ap (λ m. m.tag) is ∙ h.tag, ap identifier_of is ∙ (h.identifier ∙ ap Some same.1))
+  | inr other ↦ let no = rw other.0 at e in absurd (cc)
+]
+
+kept_from : (place t : ℕ) (kept : List (Option Kept)) → AreKeptFrom place kept → IfSome (get_or kept t None) (IsKept (place + t))
+kept_from place t [] h = tt
+kept_from place zero (k ∷ ks) h = let sum : place + 0 ≡ place = omega arith in rw sum h.0
+kept_from place (suc t) (k ∷ ks) h = let sum : place + suc t ≡ place + 1 + t = omega arith in rw sum (kept_from (place + 1) t ks h.1)
+
+pub repeats : RepeatsAnswerTheRequest
+repeats kept request answer h e =
+    let sum : 0 + request.tag ≡ request.tag = omega arith in
+    again_as request.tag (kept_at kept request.tag) (identifier_of request) answer (rw sum at (kept_from 0 request.tag kept h.each)) e
+
+-- how long an answer is kept
+tick_at : (kept : List (Option Kept)) (t : ℕ) → kept_at (answerer_tick kept) t ≡ kept_tick (kept_at kept t)
+tick_at [] t = refl
+tick_at (k ∷ ks) zero = refl
+tick_at (k ∷ ks) (suc t) = tick_at ks t
+
+kept_for : (kept : List (Option Kept)) (t identifier n : ℕ) (m : MessageOf) → kept_at kept t ≡ Some (record { identifier = identifier; reply = m; age = 0 })
+    → kept_at (kept_after n kept) t ≡ (if nat_le n 24 then Some (record { identifier = identifier; reply = m; age = n }) else None)
+kept_for kept t identifier zero m e = e
+kept_for kept t identifier (suc n) m e =
+    let before = kept_for kept t identifier n m e in
+    let next : n + 1 ≡ suc n = omega arith in
+    let ticked = tick_at (kept_after n kept) t ∙ ap kept_tick before in
+    ticked ∙ elim (cases_lt n 24) [
+      | inl lt ↦ rw (le-leb n 24 (omega (arith, lt)), le-leb (suc n) 24 (omega (arith, lt))) (rw next refl)
+      | inr ge ↦ elim (cases_lt n 25) [
+        | inl last ↦ rw (le-leb n 24 (omega (arith, last)), lt-leb (suc n) 24 (omega (arith, ge))) refl
+        | inr past ↦ rw (lt-leb n 24 (omega (arith, past)), lt-leb (suc n) 24 (omega (arith, past))) refl
+      ]
+    ]
+
+pub are_kept : AnswersAreKept
+are_kept kept m identifier n h low e =
+    let long : m.tag < length kept = omega (arith, h.places, low) in
+    kept_for (kept_with kept m) m.tag identifier n m
+    (ap (λ i. kept_at (kept_as kept m i) m.tag) e ∙ get_or-set_same kept m.tag (Some (record { identifier = identifier; reply = m; age = 0 })) None long)
 
 pub ruleset keeping = (keeping_put, keeping_tick, keeping_at, none_are, tick_are, keep_are)

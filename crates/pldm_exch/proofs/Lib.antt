@@ -1,3 +1,4 @@
+mod CallerLaws
 mod Callers
 mod Keeping
 mod Resting

@@ -1,6 +1,7 @@
 pub mod Answers
 pub mod Caller
 pub mod Kept
+pub mod Laws
 pub mod Places
 pub mod Rests
 pub mod Rows
