@@ -5,7 +5,7 @@ use Rattle.std.proofs.lemmas.Bool.{cases_lt, lt-ltb, le-ltb, le-leb, lt-leb}
 use Rattle.std.proofs.lemmas.Bool.Decides.{eqb_tells}
 use Rattle.std.proofs.lemmas.List.{map-set, get_or-set_same}
 use Rattle.mctp_reasm.specs.Pieces.{MessageOf}
-use Rattle.pldm_exch.specs.Answers.{kept_in}
+use Rattle.pldm_exch.specs.Fields.{kept_in}
 use Rattle.pldm_exch.specs.Kept.{AreKept, AreKeptFrom, IsKept, Kept, answerer_tick, asked_as, identifier_of, kept_as, kept_at, kept_tick, kept_with, none_kept}
 use Rattle.pldm_exch.specs.Laws.{AnswersAreKept, AnswersStayLawful, RepeatsAnswerTheRequest, kept_after}
 use Rattle.pldm_exch.specs.declared.answerer.Asked.{Asked}

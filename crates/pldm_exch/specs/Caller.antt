@@ -3,7 +3,7 @@
 -- request can be left.
 use Rattle.std.specs.Prelude.{◌≡◌, ◌≤◌, ℕ, ◌+◌, ◌%◌, ◌==◌, ◌&&◌, ◌||◌, not, Bool, true, false, if◌then◌else◌, List, drop, get_or, slice_set, Option, Some, None, IfSome, is_none, Result, Ok, Err}
 use Rattle.mctp_reasm.specs.Pieces.{MessageOf}
-use Rattle.pldm_base.specs.Header.{pldm_bytes, pldm_of}
+use Rattle.pldm_base.specs.Header.{IsPldm, pldm_bytes, pldm_of}
 use Rattle.pldm_base.specs.declared.header.PldmFault.{PldmFault}
 use Rattle.pldm_base.specs.declared.header.PldmHead.{PldmHead}
 use Rattle.pldm_exch.specs.Rests.{AreRests, fallen, no_rests}
@@ -109,6 +109,13 @@ answer_in o (Err fault) = None
 -- are a PLDM message with the head of an answer to it
 abbrev pub answer_body : Open → MessageOf → Option (List ℕ)
 answer_body o m = if not m.to && (m.tag == o.tag) then answer_in o (pldm_of m.bytes) else None
+
+-- the message is an answer to this request, with this body: TO and Rq are clear, and tag, identifier, type and command
+-- are the request's
+abbrev pub IsAnswerTo : Open → MessageOf → List ℕ → Type 0
+IsAnswerTo o m body =
+    (m.to ≡ false) × (m.tag ≡ o.tag)
+    × IsPldm m.bytes (record { rq = false; instance = o.identifier; pldm_type = o.pldm_type; command = o.command }) body
 
 -- a request is closed by its answer
 abbrev pub closed_by : CallerState → Open → Option (List ℕ) → CallerState × Option Heard

@@ -1,5 +1,5 @@
-pub mod Answers
 pub mod Caller
+pub mod Fields
 pub mod Kept
 pub mod Laws
 pub mod Places

@@ -48,7 +48,7 @@ pub struct Answerer {
 
 impl Model for Answerer {
     ghost use Rattle.std.specs.Prelude.{List, Option, map};
-    ghost use Rattle.pldm_exch.specs.Answers.{kept_in};
+    ghost use Rattle.pldm_exch.specs.Fields.{kept_in};
     ghost use Rattle.pldm_exch.specs.Kept.{AreKept, Kept};
 
     ghost Value = { List (Option Kept) };

@@ -1,7 +1,8 @@
 //! One direction's requests.
 
-ghost use Rattle.std.specs.Prelude.{◌≡◌, ◌≤◌, length, IfSome, option_map, is_some, true};
-ghost use Rattle.pldm_exch.specs.Caller.{IsCaller, abandoned, answer_body, answer_heard, begun, caller_tick, fresh, is_answer_head, is_quiet, may_begin, sends_at};
+ghost use Rattle.std.specs.Prelude.{◌≡◌, ◌≤◌, length, List, ℕ, IfSome, IsSome, IsSomeAnd, option_map, is_some, true};
+ghost use Rattle.pldm_exch.specs.Caller.{IsAnswerTo, IsCaller, abandoned, answer_body, answer_heard, begun, caller_tick, fresh, is_answer_head, is_quiet, may_begin, sends_at};
+ghost use Rattle.pldm_exch.specs.Fields.{open_of};
 
 use crate::rests::Rests;
 use crate::times::{GIVEN_UP, RETRY};
@@ -17,16 +18,18 @@ const TAGS: u8 = 8;
 
 /// A request that waits for its answer, and the ticks since it began.
 #[derive(Debug, Drop)]
-struct Open {
+struct OpenRequest {
     head: PldmHead,
     message: Message,
     age: u8,
 }
 
-impl Open {
+impl OpenRequest {
     /// The body of a message, where it is an answer to this request.
     fn answer_in<'m>(&self, message: &'m Message) -> Option<&'m [u8]>
-        ensures value { option_map (λ b. b.now) result ≡ answer_body (record { tag = self.now.message.tag; identifier = self.now.head.instance; pldm_type = self.now.head.pldm_type; command = self.now.head.command; message = self.now.message; age = self.now.age }) message.now }
+        ensures value { option_map (λ b. b.now) result ≡ answer_body (open_of self.now) message.now }
+        ensures found { IfSome result (λ b. IsAnswerTo (open_of self.now) message.now b.now) }
+        ensures only { (body : List ℕ) → IsAnswerTo (open_of self.now) message.now body → IsSome result }
         ensures short { IfSome result (λ b. length b.now ≤ 252) }
     {
         if message.to() || message.tag() != self.message.tag() {
@@ -51,7 +54,7 @@ impl Open {
 
     /// Whether the head of a message is that of an answer to this request.
     fn is_answered_by(&self, head: &PldmHead) -> bool
-        ensures { result ≡ is_answer_head (record { tag = self.now.message.tag; identifier = self.now.head.instance; pldm_type = self.now.head.pldm_type; command = self.now.head.command; message = self.now.message; age = self.now.age }) head.now }
+        ensures { result ≡ is_answer_head (open_of self.now) head.now }
     {
         !head.rq
             && head.instance == self.head.instance
@@ -87,19 +90,20 @@ pub struct Caller {
     peer: u8,
     number: u8,
     rests: Rests,
-    asked: Option<Open>,
+    asked: Option<OpenRequest>,
     answered: bool,
 }
 
 impl Model for Caller {
     ghost use Rattle.std.specs.Prelude.{option_map};
-    ghost use Rattle.pldm_exch.specs.Caller.{CallerState, IsCaller, Open};
+    ghost use Rattle.pldm_exch.specs.Caller.{CallerState, IsCaller};
+    ghost use Rattle.pldm_exch.specs.Fields.{open_of};
 
     ghost Value = { CallerState };
 
-    ghost view = { λ c. record { own = c.own; peer = c.peer; number = c.number; rests = c.rests; asked = option_map (λ o. record { tag = o.message.tag; identifier = o.head.instance; pldm_type = o.head.pldm_type; command = o.head.command; message = o.message; age = o.age }) c.asked; answered = c.answered } };
+    ghost view = { λ c. record { own = c.own; peer = c.peer; number = c.number; rests = c.rests; asked = option_map open_of c.asked; answered = c.answered } };
 
-    ghost invariant = { λ c. IsCaller (record { own = c.own; peer = c.peer; number = c.number; rests = c.rests; asked = option_map (λ o. record { tag = o.message.tag; identifier = o.head.instance; pldm_type = o.head.pldm_type; command = o.head.command; message = o.message; age = o.age }) c.asked; answered = c.answered }) };
+    ghost invariant = { λ c. IsCaller (record { own = c.own; peer = c.peer; number = c.number; rests = c.rests; asked = option_map open_of c.asked; answered = c.answered }) };
 }
 
 impl Caller {
@@ -170,7 +174,7 @@ impl Caller {
         self.rests.start(tag);
         self.number = (self.number + 1) % IDENTIFIERS;
         self.answered = false;
-        self.asked = Some(Open {
+        self.asked = Some(OpenRequest {
             head,
             message: again,
             age: 0,
@@ -184,6 +188,8 @@ impl Caller {
     pub fn on_answer(&mut self, message: &Message) -> Option<ReplyIn>
         ensures answer { option_map (λ r. record { command = r.command; reply = r.reply.items }) result ≡ (answer_heard self.old message.now).1 }
         ensures after { self.new ≡ (answer_heard self.old message.now).0 }
+        ensures found { IfSome result (λ r. IsSomeAnd self.old.asked (λ o. IsAnswerTo o message.now r.reply.items × (r.command ≡ o.command))) }
+        ensures only { (body : List ℕ) → IsSomeAnd self.old.asked (λ o. IsAnswerTo o message.now body) → IsSome result }
     {
         let Some(open) = &self.asked else {
             return None;

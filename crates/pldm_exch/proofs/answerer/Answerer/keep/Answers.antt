@@ -1,5 +1,5 @@
 use Rattle.std.proofs.Common.{Some, ap, map, sym}
-use Rattle.pldm_exch.specs.Answers.{kept_in}
+use Rattle.pldm_exch.specs.Fields.{kept_in}
 use Rattle.pldm_exch.specs.Kept.{identifier_in}
 use Rattle.pldm_exch.proofs.Keeping.{keeping_put, put_are}
 use Rattle.pldm_exch.proofs.answerer.Answerer.keep.Goals as goal
