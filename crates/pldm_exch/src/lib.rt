@@ -3,7 +3,11 @@
 #![tactic(auto)]
 
 mod answerer;
+#[cfg(test)]
+mod answerer_tests;
 mod caller;
+#[cfg(test)]
+mod caller_tests;
 mod dated;
 mod laws;
 mod rests;
