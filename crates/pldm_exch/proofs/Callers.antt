@@ -1,11 +1,11 @@
 -- What is true of each caller stays true.
-use Rattle.std.proofs.Common.{◌≡◌, ◌≢◌, ◌∙◌, ◌+◌, ◌-◌, ◌%◌, ◌==◌, ◌||◌, ◌≤◌, ◌<◌, if◌then◌else◌, ℕ, zero, suc, Bool, true, false, List, [], ◌∷◌, Option, Some, None, IfSome, length, map, get_or, slice_set, ◌⊎◌, inl, inr, true≢false, refl, sym, ap, arith}
+use Rattle.std.proofs.Common.{◌≡◌, ◌≢◌, ◌∙◌, ◌+◌, ◌-◌, ◌%◌, ◌≤◌, ◌<◌, ℕ, zero, suc, Bool, true, false, List, [], ◌∷◌, Option, Some, None, IfSome, length, get_or, slice_set, ◌⊎◌, inl, inr, true≢false, refl, sym, ap, arith}
 use Rattle.std.specs.List.{AllByRecursion}
 use Rattle.std.proofs.lemmas.Bool.Decides.{eqb_tells}
 use Rattle.std.proofs.lemmas.List.{get_or-map, get_or-set_same}
 use Rattle.mctp_reasm.specs.Pieces.{MessageOf}
 use Rattle.pldm_exch.specs.Rests.{AreRests, fallen}
-use Rattle.pldm_exch.specs.Caller.{CallerState, IsCaller, IsOpen, Open, abandoned, answer_body, answer_heard, begun, caller_tick, closed_by, fresh, heard_as, last_tag, older, sends_at, ticked}
+use Rattle.pldm_exch.specs.Caller.{CallerState, IsCaller, IsOpen, Open, abandoned, answer_body, answer_heard, begun, caller_tick, closed_by, fresh, heard_as, older, sends_at, ticked}
 
 -- rests
 length_fallen : (rests : List ℕ) → length (fallen rests) ≡ length rests

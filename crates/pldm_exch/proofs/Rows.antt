@@ -1,11 +1,11 @@
 -- Lemmas on rows of dates, and on the places that they stand for.
-use Rattle.std.proofs.Common.{◌≡◌, ◌≢◌, ◌∙◌, ◌+◌, ◌-◌, ◌==◌, ◌≤◌, ◌<◌, ◌⊎◌, inl, inr, ◌&&◌, ◌||◌, not, nat_lt, if◌then◌else◌, ℕ, zero, suc, Bool, true, false, List, [], ◌∷◌, ◌++◌, Option, Some, None, IfSome, length, map, get_or, slice_set, refl, sym, ap, arith}
+use Rattle.std.proofs.Common.{◌≡◌, ◌≢◌, ◌∙◌, ◌+◌, ◌-◌, ◌==◌, ◌≤◌, ◌<◌, inl, inr, ◌||◌, not, if◌then◌else◌, ℕ, zero, suc, Bool, true, false, List, [], ◌∷◌, ◌++◌, Some, None, IfSome, length, map, get_or, slice_set, refl, sym, ap, arith}
 use Rattle.std.specs.List.{AllByRecursion, IsDistinct, filter, list_any}
 use Rattle.std.proofs.lemmas.Bool.{cases_lt, lt-ltb, le-ltb, ne_eqb, eq-eqb}
 use Rattle.std.proofs.lemmas.Bool.Decides.{eqb_tells}
 use Rattle.std.proofs.lemmas.Map.Steps.{length-le_from_distinct_below}
 use Rattle.pldm_exch.specs.declared.dated.Row.{Row}
-use Rattle.pldm_exch.specs.Places.{Aged, ArePlaces, aged_tick}
+use Rattle.pldm_exch.specs.Places.{ArePlaces, aged_tick}
 use Rattle.pldm_exch.specs.Rows.{AreRows, AreSingle, has_row, held_in, is_held, lowered, places_of, values}
 
 -- lists of values

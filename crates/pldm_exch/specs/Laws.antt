@@ -1,7 +1,7 @@
 -- What layers above rely on: callers and answerers over any number of calls and ticks.
-use Rattle.std.specs.Prelude.{◌≡◌, ◌<◌, ◌≤◌, ℕ, zero, suc, ◌+◌, ◌-◌, ◌==◌, ◌&&◌, Bool, true, false, nat_le, if◌then◌else◌, List, [], ◌∷◌, length, Option, Some, None}
+use Rattle.std.specs.Prelude.{◌≡◌, ◌<◌, ◌≤◌, ℕ, zero, suc, ◌+◌, ◌==◌, true, nat_le, if◌then◌else◌, List, [], ◌∷◌, length, Option, Some, None}
 use Rattle.mctp_reasm.specs.Pieces.{MessageOf}
-use Rattle.pldm_exch.specs.Caller.{CallerState, IsCaller, Open, abandoned, answer_heard, begun, caller_tick, fresh, may_begin, next_tag, older, rest_at, sends_at}
+use Rattle.pldm_exch.specs.Caller.{CallerState, IsCaller, abandoned, answer_heard, begun, caller_tick, fresh, may_begin, rest_at}
 use Rattle.pldm_exch.specs.Kept.{AreKept, Kept, answerer_tick, identifier_of, kept_at, kept_with, none_kept, request_heard}
 use Rattle.pldm_exch.specs.declared.answerer.Asked.TheVariants as asks
 use Rattle.pldm_exch.specs.declared.caller.CallTick.{CallTick}

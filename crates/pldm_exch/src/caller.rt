@@ -210,7 +210,7 @@ impl Caller {
     pub fn abandon(&mut self)
         ensures { self.new ≡ abandoned self.old }
     {
-        self.asked = None;
+        let _ = self.asked.take();
     }
 
     /// A tick passes. The open request is sent again 6 and 12 ticks after it began, and given up after 18.

@@ -1,4 +1,4 @@
-use Rattle.std.proofs.Common.{◌∙◌, arith}
+use Rattle.std.proofs.Common.{arith}
 use Rattle.pldm_exch.proofs.Rows.{lawful_put, places_put, room}
 use Rattle.pldm_exch.proofs.rests.«Dated+unit+RETIRE».put.Goals as goal
 
