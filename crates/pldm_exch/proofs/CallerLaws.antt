@@ -1,13 +1,13 @@
 -- Laws on callers over any number of calls.
-use Rattle.std.proofs.Common.{◌≡◌, ◌∙◌, ◌+◌, ◌%◌, ◌≤◌, ◌<◌, ℕ, zero, suc, List, [], ◌∷◌, Option, Some, None, IfSome, length, get_or, slice_set, inl, inr, refl, sym, ap, arith}
+use Rattle.std.proofs.Common.{◌==◌, ◌-◌, if◌then◌else◌, ◌≡◌, ◌∙◌, ◌+◌, ◌%◌, ◌≤◌, ◌<◌, ℕ, zero, suc, List, [], ◌∷◌, Option, Some, None, IfSome, length, get_or, slice_set, inl, inr, refl, sym, ap, arith}
 use Rattle.std.specs.List.{AllByRecursion}
-use Rattle.std.proofs.lemmas.Bool.{ne_eqb}
+use Rattle.std.proofs.lemmas.Bool.{eq-eqb, ne_eqb}
 use Rattle.std.proofs.lemmas.Bool.Decides.{eqb_tells}
 use Rattle.std.proofs.lemmas.List.{get_or-set_other}
 use Rattle.mctp_reasm.specs.Pieces.{MessageOf}
 use Rattle.pldm_exch.specs.Rests.{AreRests, fallen, no_rests}
 use Rattle.pldm_exch.specs.Caller.{CallerState, IsCaller, IsOpen, Open, answer_body, answer_heard, begun, caller_tick, closed_by, fresh, heard_as, older, opened, request_message, rest_at, sends_at, ticked}
-use Rattle.pldm_exch.specs.Laws.{AreAnswered, CallerStep, CallersStayLawful, EightRequestsRest, Exchange, IsSending, OpenRequestsRepeat, RestsOutlastSendings, after_ticks, caller_after, caller_run, each_tick, exchanged, tick_at, ticks_in}
+use Rattle.pldm_exch.specs.Laws.{AreAnswered, CallerStep, CallersStayLawful, EightRequestsRest, Exchange, IsSending, OpenRequestsRepeat, RestsChange, RestsOutlastSendings, after_ticks, caller_after, caller_run, each_tick, exchanged, repeats_under, tick_at, ticks_in}
 use Rattle.pldm_exch.specs.Laws.{Abandon, Begin, Hear, Tick}
 use Rattle.pldm_exch.specs.declared.caller.CallTick.{CallTick}
 use Rattle.pldm_exch.specs.declared.caller.CallTick.TheVariants.{Send}
@@ -127,6 +127,36 @@ outlast c s m ss h e =
     let kept = run_keeps (caller_after c s) ss m.tag sent.0 (after_is c s h) in
     let rest = sent.1 in
     (sent.0, omega (arith, kept, rest))
+
+-- how each rest changes
+set_at : (rests : List ℕ) (t u : ℕ) → t < 8 → AreRests rests → get_or (slice_set rests t 40) u 0 ≡ (if u == t then 40 else get_or rests u 0)
+set_at rests t u lt h = elim (eqb_tells u t) [
+  | inl same ↦ rw same.0 (ap (λ v. get_or (slice_set rests t 40) v 0) same.1 ∙ rest_set rests t lt h)
+  | inr other ↦ rw other.0 (get_or-set_other rests t u 40 0 other.1)
+]
+
+ticked_at : (c : CallerState) (o : Option Open) (u : ℕ) → u < 8 → IsCaller c → IfSome o (IsOpen c) → rest_at (ticked c o).0 u ≡ (if repeats_under o u then 40 else rest_at c u - 1)
+ticked_at c None u low h open_is = rest_fallen c.rests u low h.rests
+ticked_at c (Some o) u low h open_is =
+    let fell = rest_fallen c.rests u low h.rests in
+    let lt : o.tag < 8 = rw open_is.tag (below_8 ((c.number + 31) % 32)) in
+    elim (bool_cases (sends_at (o.age + 1))) [
+      | inl due ↦ elim (eqb_tells o.tag u) [
+        | inl same ↦ rw (due, same.0) (set_at (fallen c.rests) o.tag u lt (rests_fall c.rests h.rests) ∙ (rw (eq-eqb u o.tag (sym same.1)) refl))
+        | inr other ↦ rw (due, other.0) (set_at (fallen c.rests) o.tag u lt (rests_fall c.rests h.rests) ∙ (rw (ne_eqb u o.tag (λ e. other.1 (sym e))) fell))
+      ]
+      | inr waits ↦ elim (eqb_tells o.tag u) [
+        | inl same ↦ elim (eqb_tells (o.age + 1) 18) [ inl last ↦ rw (waits, last.0, same.0) fell | inr more ↦ rw (waits, more.0, same.0) fell ]
+        | inr other ↦ elim (eqb_tells (o.age + 1) 18) [ inl last ↦ rw (waits, last.0, other.0) fell | inr more ↦ rw (waits, more.0, other.0) fell ]
+      ]
+    ]
+
+pub change : RestsChange
+change = record {
+  begin = λ c pldm_type command body u h. set_at c.rests (c.number % 8) u (below_8 c.number) h.rests;
+  hear = λ c m u. ap (λ rests. get_or rests u 0) (heard_rests c m);
+  tick = λ c u h low. ticked_at c c.asked u low h h.asked;
+}
 
 -- repeats
 tick_asked : (c : CallerState) (o : Open) → o.age + 1 ≤ 17 → (ticked c (Some o)).0.asked ≡ Some (older o)

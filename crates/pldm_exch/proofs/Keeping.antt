@@ -2,11 +2,11 @@
 use Rattle.std.proofs.Common.{◌≡◌, ◌∙◌, ◌+◌, ◌<◌, ℕ, zero, suc, List, [], ◌∷◌, Option, Some, None, IfSome, length, map, get_or, slice_set, if◌then◌else◌, nat_le, inl, inr, refl, sym, ap, arith}
 use Rattle.std.proofs.lemmas.Bool.{cases_lt, lt-ltb, le-ltb, le-leb, lt-leb}
 use Rattle.std.proofs.lemmas.Bool.Decides.{eqb_tells}
-use Rattle.std.proofs.lemmas.List.{map-set, get_or-set_same}
+use Rattle.std.proofs.lemmas.List.{map-set, get_or-set_same, get_or-set_other}
 use Rattle.mctp_reasm.specs.Pieces.{MessageOf}
 use Rattle.pldm_exch.specs.Fields.{kept_in}
 use Rattle.pldm_exch.specs.Kept.{AreKept, AreKeptFrom, IsKept, Kept, answerer_tick, asked_as, identifier_of, kept_as, kept_at, kept_tick, kept_with, none_kept}
-use Rattle.pldm_exch.specs.Laws.{AnswersAreKept, AnswersStayLawful, RepeatsAnswerTheRequest, kept_after}
+use Rattle.pldm_exch.specs.Laws.{AnswersAreKept, AnswersStayLawful, KeptChange, RepeatsAnswerTheRequest, kept_after}
 use Rattle.pldm_exch.specs.declared.answerer.Asked.{Asked}
 use Rattle.pldm_exch.specs.declared.answerer.Asked.TheVariants.{Again, New}
 use Rattle.pldm_exch.specs.Places.{Aged, aged_tick}
@@ -130,5 +130,18 @@ are_kept kept m identifier n h low e =
     let long : m.tag < length kept = omega (arith, h.places, low) in
     kept_for (kept_with kept m) m.tag identifier n m
     (ap (λ i. kept_at (kept_as kept m i) m.tag) e ∙ get_or-set_same kept m.tag (Some (record { identifier = identifier; reply = m; age = 0 })) None long)
+
+pub change : KeptChange
+change = record {
+  keep = λ kept m identifier t h low e.
+      let k : Option Kept = Some (record { identifier = identifier; reply = m; age = 0 }) in
+      let long : m.tag < length kept = omega (arith, h.places, low) in
+      ap (λ i. kept_at (kept_as kept m i) t) e
+      ∙ elim (eqb_tells t m.tag) [
+        | inl same ↦ rw same.0 (ap (λ u. kept_at (slice_set kept m.tag k) u) same.1 ∙ get_or-set_same kept m.tag k None long)
+        | inr other ↦ rw other.0 (get_or-set_other kept m.tag t k None other.1)
+      ];
+  tick = tick_at;
+}
 
 pub ruleset keeping = (keeping_put, keeping_tick, keeping_at, none_are, tick_are, keep_are)

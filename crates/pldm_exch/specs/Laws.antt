@@ -1,8 +1,8 @@
 -- What layers above rely on: callers and answerers over any number of calls and ticks.
-use Rattle.std.specs.Prelude.{◌≡◌, ◌<◌, ◌≤◌, ℕ, zero, suc, ◌+◌, ◌==◌, true, nat_le, if◌then◌else◌, List, [], ◌∷◌, length, Option, Some, None}
+use Rattle.std.specs.Prelude.{◌≡◌, ◌<◌, ◌≤◌, ℕ, zero, suc, ◌+◌, ◌-◌, ◌==◌, ◌&&◌, Bool, true, false, nat_le, if◌then◌else◌, List, [], ◌∷◌, length, Option, Some, None}
 use Rattle.mctp_reasm.specs.Pieces.{MessageOf}
-use Rattle.pldm_exch.specs.Caller.{CallerState, IsCaller, abandoned, answer_heard, begun, caller_tick, fresh, may_begin, rest_at}
-use Rattle.pldm_exch.specs.Kept.{AreKept, Kept, answerer_tick, identifier_of, kept_at, kept_with, none_kept, request_heard}
+use Rattle.pldm_exch.specs.Caller.{CallerState, IsCaller, Open, abandoned, answer_heard, begun, caller_tick, fresh, may_begin, next_tag, rest_at, sends_at}
+use Rattle.pldm_exch.specs.Kept.{AreKept, Kept, answerer_tick, identifier_of, kept_at, kept_tick, kept_with, none_kept, request_heard}
 use Rattle.pldm_exch.specs.declared.answerer.Asked.TheVariants as asks
 use Rattle.pldm_exch.specs.declared.caller.CallTick.{CallTick}
 use Rattle.pldm_exch.specs.declared.caller.CallTick.TheVariants as ticks
@@ -52,6 +52,20 @@ abbrev pub RestsOutlastSendings : Type 0
 RestsOutlastSendings =
     (c : CallerState) (s : CallerStep) (m : MessageOf) (ss : List CallerStep) → IsCaller c → IsSending c s m
     → (m.tag < 8) × (40 ≤ rest_at (caller_run (caller_after c s) ss) m.tag + ticks_in ss)
+
+-- a tick sends the open request again, and it is under this tag
+abbrev pub repeats_under : Option Open → ℕ → Bool
+repeats_under None tag = false
+repeats_under (Some o) tag = (o.tag == tag) && sends_at (o.age + 1)
+
+-- How each rest changes: a sending under a tag sets its rest to 40, a tick lowers each other rest by one, and nothing
+-- else changes one.
+pub record RestsChange : Type 0 where
+  pub begin : (c : CallerState) (pldm_type command : ℕ) (body : List ℕ) (tag : ℕ) → IsCaller c
+      → rest_at (begun c pldm_type command body).0 tag ≡ (if tag == next_tag c then 40 else rest_at c tag)
+  pub hear : (c : CallerState) (m : MessageOf) (tag : ℕ) → rest_at (answer_heard c m).0 tag ≡ rest_at c tag
+  pub tick : (c : CallerState) (tag : ℕ) → IsCaller c → tag < 8
+      → rest_at (caller_tick c).0 tag ≡ (if repeats_under c.asked tag then 40 else rest_at c tag - 1)
 
 -- so many ticks
 abbrev pub after_ticks : ℕ → CallerState → CallerState
@@ -124,3 +138,9 @@ abbrev pub AnswersAreKept : Type 0
 AnswersAreKept =
     (kept : List (Option Kept)) (m : MessageOf) (identifier n : ℕ) → AreKept kept → m.tag < 8 → identifier_of m ≡ Some identifier
     → kept_at (kept_after n (kept_with kept m)) m.tag ≡ (if nat_le n 24 then Some (record { identifier = identifier; reply = m; age = n }) else None)
+
+-- How what a tag keeps changes: an answer under it takes its place, and a tick ages it.
+pub record KeptChange : Type 0 where
+  pub keep : (kept : List (Option Kept)) (m : MessageOf) (identifier tag : ℕ) → AreKept kept → m.tag < 8 → identifier_of m ≡ Some identifier
+      → kept_at (kept_with kept m) tag ≡ (if tag == m.tag then Some (record { identifier = identifier; reply = m; age = 0 }) else kept_at kept tag)
+  pub tick : (kept : List (Option Kept)) (tag : ℕ) → kept_at (answerer_tick kept) tag ≡ kept_tick (kept_at kept tag)

@@ -16,7 +16,7 @@ mod times;
 pub use answerer::{Answerer, Asked};
 pub use caller::{CallTick, Caller, ReplyIn};
 pub use laws::{
-    answers_are_kept, answers_stay_lawful, callers_stay_lawful, eight_requests_rest,
-    open_requests_repeat, repeats_answer_the_request, rests_outlast_sendings,
+    answers_are_kept, answers_stay_lawful, callers_stay_lawful, eight_requests_rest, kept_change,
+    open_requests_repeat, repeats_answer_the_request, rests_change, rests_outlast_sendings,
 };
 pub use times::{GIVEN_UP, HOLD, RETIRE, RETRY};
