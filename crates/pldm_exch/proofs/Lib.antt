@@ -3,3 +3,5 @@ mod Callers
 mod Keeping
 mod Resting
 mod Rows
+mod SingleRows
+mod Values

@@ -8,8 +8,8 @@ ghost use Rattle.pldm_exch.specs.Rows.{is_held, lowered};
 use arrayvec::ArrayVec;
 use std::marker::Model;
 
-/// The tags of a direction: the tag field of a packet has three bits.
-pub(crate) const TAGS: usize = 8;
+/// The tags of a direction, and so the most rows: the tag of a message has three bits.
+pub(crate) const PLACES: usize = 8;
 
 /// The own count of ticks is lowered when it reaches this, so that it never runs out.
 const LOWERED_AT: u16 = 1000;
@@ -48,11 +48,12 @@ impl<T> Row<T> {
     }
 }
 
-/// At most one value for each of eight tags, which is forgotten `LIMIT` ticks after it was put there.
+/// At most one value for each of eight tags, which is forgotten `LIMIT` ticks after it was put there. How a value is put
+/// under a tag stands beside each kind of value: of a type that isn't known it can't be said that eight rows fit in memory.
 #[derive(Debug, Drop)]
 pub(crate) struct Dated<T, const LIMIT: u16> {
     pub(crate) count: u16,
-    pub(crate) rows: ArrayVec<Row<T>, TAGS>,
+    pub(crate) rows: ArrayVec<Row<T>, PLACES>,
 }
 
 impl<T, const LIMIT: u16> Model for Dated<T, LIMIT> {
@@ -104,21 +105,21 @@ impl<T: Default + Drop, const LIMIT: u16> Dated<T, LIMIT> {
 }
 
 /// Drops the rows past use.
-fn drop_past<T: Default + Drop>(rows: &mut ArrayVec<Row<T>, TAGS>, count: u16, limit: u16)
+fn drop_past<T: Default + Drop>(rows: &mut ArrayVec<Row<T>, PLACES>, count: u16, limit: u16)
     ensures { rows.new.items ≡ filter (is_held limit count) rows.old.items }
 {
     rows.retain(|row| row.is_held(count, limit));
 }
 
 /// Drops the row of a tag.
-pub(crate) fn drop_tag<T: Default + Drop>(rows: &mut ArrayVec<Row<T>, TAGS>, tag: u8)
+pub(crate) fn drop_tag<T: Default + Drop>(rows: &mut ArrayVec<Row<T>, PLACES>, tag: u8)
     ensures { rows.new.items ≡ filter (λ r. not (r.tag == tag)) rows.old.items }
 {
     rows.retain(|row| row.tag != tag);
 }
 
 /// Lowers the dates of all rows.
-fn lower_dates<T: Default + Drop>(rows: &mut ArrayVec<Row<T>, TAGS>)
+fn lower_dates<T: Default + Drop>(rows: &mut ArrayVec<Row<T>, PLACES>)
     ensures { rows.new.items ≡ map lowered rows.old.items }
 {
     lower(rows.as_mut_slice());

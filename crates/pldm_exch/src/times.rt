@@ -8,7 +8,8 @@ pub const RETRY: u8 = 6;
 /// An open request is given up so many ticks after it began: one more `RETRY` after its last sending.
 pub const GIVEN_UP: u8 = 3 * RETRY;
 
-/// An answer is kept so many ticks: longer than the 20 after which no copy of its request can arrive any more.
+/// An answer is kept so many ticks. No copy of its request arrives more than 20 ticks after that began, and so none more
+/// than 20 after the answer was given: each meets the kept answer.
 pub const HOLD: u16 = 24;
 
 /// A tag rests so many ticks after the last sending of a request under it. By then nothing of that request is left: a

@@ -1,5 +1,6 @@
 use Rattle.std.proofs.Common.{arith}
-use Rattle.pldm_exch.proofs.Rows.{lawful_put, places_put, room}
+use Rattle.pldm_exch.proofs.Rows.{places_put}
+use Rattle.pldm_exch.proofs.SingleRows.{lawful_put, room}
 use Rattle.pldm_exch.proofs.rests.«Dated+unit+RETIRE».put.Goals as goal
 
 pub push-requires : goal.push-requires
