@@ -3,7 +3,7 @@
 ghost use Rattle.std.specs.Prelude.{◌≡◌, ◌<◌, ◌≤◌, ◌==◌, ◌&&◌, not, None, get_or, map, option_map};
 ghost use Rattle.std.specs.List.{filter};
 ghost use Rattle.pldm_exch.specs.Places.{ArePlaces, aged_tick, empty_places};
-ghost use Rattle.pldm_exch.specs.Rows.{is_held, lowered};
+ghost use Rattle.pldm_exch.specs.Rows.{held_in, is_held, lowered};
 
 use arrayvec::ArrayVec;
 use std::marker::Model;
@@ -14,7 +14,7 @@ pub(crate) const PLACES: usize = 8;
 /// The own count of ticks is lowered when it reaches this, so that it never runs out.
 const LOWERED_AT: u16 = 1000;
 
-/// By so much the own count and all dates are lowered. What is left is more than any date has to be counted back.
+/// By so much the own count and all dates are lowered: the 100 ticks that are left hold every date that isn't past use.
 const LOWERED_BY: u16 = 900;
 
 /// A value under a tag, and the own count of ticks when it was put there.
@@ -136,7 +136,7 @@ fn lower<T>(rows: &mut [Row<T>])
 
 /// The value of a tag among rows.
 fn find<T>(rows: &[Row<T>], tag: u8, count: u16, limit: u16) -> Option<&T>
-    ensures { option_map (λ v. v.now) result ≡ option_map (λ a. a.value) (Rattle.pldm_exch.specs.Rows.held_in limit count tag rows.now) }
+    ensures { option_map (λ v. v.now) result ≡ option_map (λ a. a.value) (held_in limit count tag rows.now) }
 {
     for row in rows {
         if row.is_of(tag, count, limit) {
