@@ -1,0 +1,161 @@
+-- What is true of each caller stays true.
+use Rattle.std.proofs.Common.{◌≡◌, ◌≢◌, ◌∙◌, ◌+◌, ◌-◌, ◌%◌, ◌≤◌, ◌<◌, ℕ, zero, suc, Bool, true, false, List, [], ◌∷◌, Option, Some, None, IfSome, length, get_or, slice_set, ◌⊎◌, inl, inr, true≢false, refl, sym, ap, arith}
+use Rattle.std.specs.List.{AllByRecursion}
+use Rattle.std.proofs.lemmas.Bool.Decides.{eqb_tells}
+use Rattle.std.proofs.lemmas.List.{get_or-map, get_or-set_same}
+use Rattle.mctp_reasm.specs.Pieces.{MessageOf}
+use Rattle.pldm_exch.specs.Rests.{AreRests, fallen}
+use Rattle.pldm_exch.specs.Caller.{CallerState, IsCaller, IsOpen, Open, abandoned, answer_body, answer_heard, begun, caller_tick, closed_by, fresh, heard_as, older, sends_at, ticked}
+
+-- rests
+length_fallen : (rests : List ℕ) → length (fallen rests) ≡ length rests
+length_fallen [] = refl
+length_fallen (r ∷ rs) = ap suc (length_fallen rs)
+
+all_fallen : (rests : List ℕ) → AllByRecursion (λ rest. rest ≤ 40) rests → AllByRecursion (λ rest. rest ≤ 40) (fallen rests)
+all_fallen [] h = tt
+all_fallen (r ∷ rs) h = let most = h.0 in (omega arith, all_fallen rs h.1)
+
+pub rests_fall : (rests : List ℕ) → AreRests rests → AreRests (fallen rests)
+rests_fall rests h = (length_fallen rests ∙ h.0, all_fallen rests h.1)
+
+length_set : (rests : List ℕ) (t x : ℕ) → length (slice_set rests t x) ≡ length rests
+length_set [] t x = refl
+length_set (r ∷ rs) zero x = refl
+length_set (r ∷ rs) (suc t) x = ap suc (length_set rs t x)
+
+all_set : (rests : List ℕ) (t : ℕ) → AllByRecursion (λ rest. rest ≤ 40) rests → AllByRecursion (λ rest. rest ≤ 40) (slice_set rests t 40)
+all_set [] t h = tt
+all_set (r ∷ rs) zero h = (omega arith, h.1)
+all_set (r ∷ rs) (suc t) h = (h.0, all_set rs t h.1)
+
+pub rests_set : (rests : List ℕ) (t : ℕ) → AreRests rests → AreRests (slice_set rests t 40)
+rests_set rests t h = (length_set rests t 40 ∙ h.0, all_set rests t h.1)
+
+pub rest_set : (rests : List ℕ) (t : ℕ) → t < 8 → AreRests rests → get_or (slice_set rests t 40) t 0 ≡ 40
+rest_set rests t lt h = let long : t < length rests = omega (arith, h.0, lt) in get_or-set_same rests t 40 0 long
+
+pub rest_fallen : (rests : List ℕ) (t : ℕ) → t < 8 → AreRests rests → get_or (fallen rests) t 0 ≡ get_or rests t 0 - 1
+rest_fallen rests t lt h = let long : t < length rests = omega (arith, h.0, lt) in get_or-map (λ rest. rest - 1) rests t 0 0 long
+
+-- numbers
+last_of : (n : ℕ) → n ≤ 31 → ((n + 1) % 32 + 31) % 32 ≡ n
+last_of n le = omega arith
+
+below_32 : (n : ℕ) → n % 32 ≤ 31
+below_32 n = omega arith
+
+pub below_8 : (n : ℕ) → n % 8 < 8
+below_8 n = omega arith
+
+pub fresh_is : (own peer : ℕ) → IsCaller (fresh own peer)
+fresh_is own peer = record { number = omega arith; rests = (refl, (omega arith, (omega arith, (omega arith, (omega arith, (omega arith, (omega arith, (omega arith, (omega arith, tt))))))))); asked = tt }
+
+pub begun_is : (c : CallerState) (pldm_type command : ℕ) (body : List ℕ) → IsCaller c → IsCaller (begun c pldm_type command body).0
+begun_is c pldm_type command body h = record {
+  number = below_32 (c.number + 1);
+  rests = rests_set c.rests (c.number % 8) h.rests;
+  asked = record {
+    tag = ap (λ n. n % 8) (sym (last_of c.number h.number));
+    identifier = sym (last_of c.number h.number);
+    age = omega arith;
+    unanswered = refl;
+    message = refl;
+    rest = let set = rest_set c.rests (c.number % 8) (below_8 c.number) h.rests in omega (arith, set);
+  };
+}
+
+pub abandoned_is : (c : CallerState) → IsCaller c → IsCaller (abandoned c)
+abandoned_is c h = record { number = h.number; rests = h.rests; asked = tt }
+
+closed_is : (c : CallerState) (o : Open) (answer : Option (List ℕ)) → IsCaller c → IsCaller (closed_by c o answer).0
+closed_is c o None h = h
+closed_is c o (Some body) h = record { number = h.number; rests = h.rests; asked = tt }
+
+heard_as_is : (c : CallerState) (o : Option Open) (m : MessageOf) → IsCaller c → IsCaller (heard_as c o m).0
+heard_as_is c None m h = h
+heard_as_is c (Some o) m h = closed_is c o (answer_body o m) h
+
+pub heard_is : (c : CallerState) (m : MessageOf) → IsCaller c → IsCaller (answer_heard c m).0
+heard_is c m h = heard_as_is c c.asked m h
+
+-- an open request that is sent again
+sent_is : (c : CallerState) (o : Open) → IsCaller c → IsOpen c o → o.age + 1 ≤ 17 → (o.age + 1) % 6 ≡ 0
+    → IsCaller (record c { rests = slice_set (fallen c.rests) o.tag 40; asked = Some (older o) })
+sent_is c o h open_is young due =
+    let low : o.tag < 8 = rw open_is.tag (below_8 ((c.number + 31) % 32)) in
+    let set = rest_set (fallen c.rests) o.tag low (rests_fall c.rests h.rests) in
+    record {
+      number = h.number;
+      rests = rests_set (fallen c.rests) o.tag (rests_fall c.rests h.rests);
+      asked = record {
+        tag = open_is.tag;
+        identifier = open_is.identifier;
+        age = young;
+        unanswered = open_is.unanswered;
+        message = open_is.message;
+        rest = omega (arith, set, due);
+      };
+    }
+
+-- an open request that waits on
+waits_is : (c : CallerState) (o : Open) → IsCaller c → IsOpen c o → o.age + 1 ≤ 17 → (o.age + 1) % 6 ≡ o.age % 6 + 1 → IsCaller (record c { rests = fallen c.rests; asked = Some (older o) })
+waits_is c o h open_is young waits =
+    let low : o.tag < 8 = rw open_is.tag (below_8 ((c.number + 31) % 32)) in
+    let fell = rest_fallen c.rests o.tag low h.rests in
+    let rest = open_is.rest in
+    record {
+      number = h.number;
+      rests = rests_fall c.rests h.rests;
+      asked = record {
+        tag = open_is.tag;
+        identifier = open_is.identifier;
+        age = young;
+        unanswered = open_is.unanswered;
+        message = open_is.message;
+        rest = omega (arith, fell, waits, rest);
+      };
+    }
+
+-- a request that is sent again, waits on or is given up
+pub bool_cases : (b : Bool) → (b ≡ true) ⊎ (b ≡ false)
+bool_cases true = inl refl
+bool_cases false = inr refl
+
+pub due_is : (c : CallerState) (o : Open) → IsCaller c → IsOpen c o → sends_at (o.age + 1) ≡ true → IsCaller (record c { rests = slice_set (fallen c.rests) o.tag 40; asked = Some (older o) })
+due_is c o h open_is due = elim (eqb_tells (o.age + 1) 6) [
+  | inl first ↦ sent_is c o h open_is (omega (arith, first.1)) (omega (arith, first.1))
+  | inr other ↦ elim (eqb_tells (o.age + 1) 12) [
+    | inl second ↦ sent_is c o h open_is (omega (arith, second.1)) (omega (arith, second.1))
+    | inr neither ↦ absurd (true≢false (sym due ∙ rw (other.0, neither.0) refl))
+  ]
+]
+
+pub more_is : (c : CallerState) (o : Open) → IsCaller c → IsOpen c o → sends_at (o.age + 1) ≡ false → o.age + 1 ≢ 18 → IsCaller (record c { rests = fallen c.rests; asked = Some (older o) })
+more_is c o h open_is due more =
+    let age = open_is.age in
+    elim (eqb_tells (o.age + 1) 6) [
+      | inl first ↦ absurd (true≢false (sym (rw first.0 refl) ∙ due))
+      | inr other ↦ elim (eqb_tells (o.age + 1) 12) [
+        | inl second ↦ absurd (true≢false (sym (rw (other.0, second.0) refl) ∙ due))
+        | inr neither ↦ waits_is c o h open_is (omega (arith, age, more)) (omega (arith, age, other.1, neither.1, more))
+      ]
+    ]
+
+pub over_is : (c : CallerState) → IsCaller c → IsCaller (record c { rests = fallen c.rests; asked = None })
+over_is c h = record { number = h.number; rests = rests_fall c.rests h.rests; asked = tt }
+
+ticked_is : (c : CallerState) (o : Option Open) → c.asked ≡ o → IsCaller c → IfSome o (IsOpen c) → IsCaller (ticked c o).0
+ticked_is c None none h waits = record { number = h.number; rests = rests_fall c.rests h.rests; asked = rw none tt }
+ticked_is c (Some o) some h open_is = elim (bool_cases (sends_at (o.age + 1))) [
+  | inl due ↦ rw due (due_is c o h open_is due)
+  | inr other ↦ elim (eqb_tells (o.age + 1) 18) [
+    | inl last ↦ rw (other, last.0) (over_is c h)
+    | inr more ↦ rw (other, more.0) (more_is c o h open_is other more.1)
+  ]
+]
+
+pub tick_is : (c : CallerState) → IsCaller c → IsCaller (caller_tick c).0
+tick_is c h = ticked_is c c.asked refl h h.asked
+
+pub ruleset callers = (fresh_is, begun_is, abandoned_is, heard_is, tick_is)

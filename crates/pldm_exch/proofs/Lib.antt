@@ -1,0 +1,7 @@
+mod CallerLaws
+mod Callers
+mod Keeping
+mod Resting
+mod Rows
+mod SingleRows
+mod Values

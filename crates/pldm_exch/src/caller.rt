@@ -1,0 +1,238 @@
+//! One direction's requests.
+
+ghost use Rattle.std.specs.Prelude.{◌≡◌, ◌≤◌, length, List, ℕ, IfSome, IsSome, IsSomeAnd, option_map, is_some, true};
+ghost use Rattle.pldm_exch.specs.Caller.{IsAnswerTo, IsCaller, abandoned, answer_body, answer_heard, begun, caller_tick, fresh, is_answer_head, is_quiet, may_begin, sends_at};
+ghost use Rattle.pldm_exch.specs.Fields.{open_of};
+
+use crate::rests::Rests;
+use crate::times::{GIVEN_UP, RETRY};
+use mctp_reasm::Message;
+use pldm_base::{PldmHead, Reply};
+use std::marker::Model;
+
+/// Requests of a direction are numbered modulo this: an instance identifier has five bits (DSP0240).
+const IDENTIFIERS: u8 = 32;
+
+/// Tags of a direction: the tag of a message has three bits (DSP0236).
+const TAGS: u8 = 8;
+
+/// A request that waits for its answer, and the ticks since it began.
+#[derive(Debug, Drop)]
+struct OpenRequest {
+    head: PldmHead,
+    message: Message,
+    age: u8,
+}
+
+impl OpenRequest {
+    /// The body of a message, where it is an answer to this request.
+    fn answer_in<'m>(&self, message: &'m Message) -> Option<&'m [u8]>
+        ensures value { option_map (λ b. b.now) result ≡ answer_body (open_of self.now) message.now }
+        ensures found { IfSome result (λ b. IsAnswerTo (open_of self.now) message.now b.now) }
+        ensures only { (body : List ℕ) → IsAnswerTo (open_of self.now) message.now body → IsSome result }
+        ensures short { IfSome result (λ b. length b.now ≤ 252) }
+    {
+        if message.to() || message.tag() != self.message.tag() {
+            return None;
+        }
+        let Ok((head, body)) = pldm_base::decode(message.bytes()) else {
+            return None;
+        };
+        if self.is_answered_by(&head) {
+            Some(body)
+        } else {
+            None
+        }
+    }
+
+    /// Whether the request is sent again at this age.
+    fn is_due(&self) -> bool
+        ensures { result ≡ sends_at self.now.age }
+    {
+        self.age == RETRY || self.age == 2 * RETRY
+    }
+
+    /// Whether the head of a message is that of an answer to this request.
+    fn is_answered_by(&self, head: &PldmHead) -> bool
+        ensures { result ≡ is_answer_head (open_of self.now) head.now }
+    {
+        !head.rq
+            && head.instance == self.head.instance
+            && head.pldm_type == self.head.pldm_type
+            && head.command == self.head.command
+    }
+}
+
+/// What an answer brings.
+#[derive(Debug, Drop)]
+pub struct ReplyIn {
+    /// The command that it answers.
+    pub command: u8,
+    /// What follows the header: the completion code and the fields.
+    pub reply: Reply,
+}
+
+/// What a tick asks of the node.
+#[derive(Debug, Drop)]
+pub enum CallTick {
+    /// Nothing is to be sent.
+    Nothing,
+    /// The open request is sent again: this message.
+    Send(Message),
+    /// The open request was given up without an answer.
+    GaveUp,
+}
+
+/// The requests of one direction: at most one is open.
+#[derive(Debug, Drop)]
+pub struct Caller {
+    own: u8,
+    peer: u8,
+    number: u8,
+    rests: Rests,
+    asked: Option<OpenRequest>,
+    answered: bool,
+}
+
+impl Model for Caller {
+    ghost use Rattle.std.specs.Prelude.{option_map};
+    ghost use Rattle.pldm_exch.specs.Caller.{CallerState, IsCaller};
+    ghost use Rattle.pldm_exch.specs.Fields.{open_of};
+
+    ghost Value = { CallerState };
+
+    ghost view = { λ c. record { own = c.own; peer = c.peer; number = c.number; rests = c.rests; asked = option_map open_of c.asked; answered = c.answered } };
+
+    ghost invariant = { λ c. IsCaller (record { own = c.own; peer = c.peer; number = c.number; rests = c.rests; asked = option_map open_of c.asked; answered = c.answered }) };
+}
+
+impl Caller {
+    /// The requests of the node `own` to the node `peer`, before the first.
+    #[tactic(auto, using(crate::proofs::Callers::callers))]
+    pub fn new(own: u8, peer: u8) -> Caller
+        ensures { result ≡ fresh own peer }
+    {
+        Caller {
+            own,
+            peer,
+            number: 0,
+            rests: Rests::new(),
+            asked: None,
+            answered: true,
+        }
+    }
+
+    /// Whether a request is open: it waits for its answer.
+    pub fn is_open(&self) -> bool
+        ensures value { result ≡ is_some self.now.asked }
+        ensures lawful { IsCaller self.now }
+    {
+        self.asked.is_some()
+    }
+
+    /// Whether nothing of the last request can come any more: no request is open, and the last one was answered, or its
+    /// tag has rested.
+    pub fn quiet(&self) -> bool
+        ensures value { result ≡ is_quiet self.now }
+        ensures lawful { IsCaller self.now }
+    {
+        let last = (self.number + (IDENTIFIERS - 1)) % IDENTIFIERS;
+        self.asked.is_none() && (self.answered || self.rests.is_rested(last % TAGS))
+    }
+
+    /// Whether a request may begin: it is quiet, and the next tag has rested.
+    pub fn can_begin(&self) -> bool
+        ensures value { result ≡ may_begin self.now }
+        ensures lawful { IsCaller self.now }
+    {
+        self.quiet() && self.rests.is_rested(self.number % TAGS)
+    }
+
+    /// Begins a request of a PLDM type and a command, and gives out the message to send: request n (from 0) carries tag
+    /// n modulo 8 and identifier n modulo 32. It asks that a request may begin (`can_begin`), a type of at most 63 and a
+    /// body of at most 252 bytes.
+    #[tactic(auto, using(crate::proofs::Callers::callers))]
+    pub fn begin(&mut self, pldm_type: u8, command: u8, body: &[u8]) -> Message
+        requires may { may_begin self.old ≡ true }
+        requires pldm_type { pldm_type ≤ 63 }
+        requires body { length body.now ≤ 252 }
+        ensures request { result ≡ (begun self.old pldm_type command body.now).1 }
+        ensures after { self.new ≡ (begun self.old pldm_type command body.now).0 }
+    {
+        let tag = self.number % TAGS;
+        let head = PldmHead {
+            rq: true,
+            instance: self.number,
+            pldm_type,
+            command,
+        };
+        let bytes = pldm_base::encode(&head, body);
+        let Ok(message) = Message::new(self.peer, self.own, true, tag, bytes.as_slice()) else {
+            unreachable!()
+        };
+        let again = message.again();
+        self.rests.start(tag);
+        self.number = (self.number + 1) % IDENTIFIERS;
+        self.answered = false;
+        self.asked = Some(OpenRequest {
+            head,
+            message: again,
+            age: 0,
+        });
+        message
+    }
+
+    /// Hears a message. Where it is an answer to the open request it closes that, and what it brings is given out: TO
+    /// and Rq are clear, and tag, identifier, type and command are the request's. Any other message changes nothing.
+    #[tactic(auto, using(crate::proofs::Callers::callers))]
+    pub fn on_answer(&mut self, message: &Message) -> Option<ReplyIn>
+        ensures answer { option_map (λ r. record { command = r.command; reply = r.reply.items }) result ≡ (answer_heard self.old message.now).1 }
+        ensures after { self.new ≡ (answer_heard self.old message.now).0 }
+        ensures found { IfSome result (λ r. IsSomeAnd self.old.asked (λ o. IsAnswerTo o message.now r.reply.items × (r.command ≡ o.command))) }
+        ensures only { (body : List ℕ) → IsSomeAnd self.old.asked (λ o. IsAnswerTo o message.now body) → IsSome result }
+    {
+        let Some(open) = &self.asked else {
+            return None;
+        };
+        let Some(body) = open.answer_in(message) else {
+            return None;
+        };
+        let mut reply = Reply::new();
+        let _ = reply.try_extend_from_slice(body);
+        let command = open.head.command;
+        self.asked = None;
+        self.answered = true;
+        Some(ReplyIn { command, reply })
+    }
+
+    /// Gives the open request up, if there is one: it isn't sent again, and its answer is dropped.
+    #[tactic(auto, using(crate::proofs::Callers::callers))]
+    pub fn abandon(&mut self)
+        ensures { self.new ≡ abandoned self.old }
+    {
+        let _ = self.asked.take();
+    }
+
+    /// A tick passes. The open request is sent again 6 and 12 ticks after it began, and given up after 18.
+    #[tactic(auto, using(crate::proofs::Callers::callers))]
+    pub fn tick(&mut self) -> CallTick
+        ensures answer { result ≡ (caller_tick self.old).1 }
+        ensures after { self.new ≡ (caller_tick self.old).0 }
+    {
+        self.rests.tick();
+        let Some(open) = &mut self.asked else {
+            return CallTick::Nothing;
+        };
+        open.age += 1;
+        if open.is_due() {
+            let message = open.message.again();
+            self.rests.start(message.tag());
+            return CallTick::Send(message);
+        }
+        if open.age == GIVEN_UP {
+            self.asked = None;
+            return CallTick::GaveUp;
+        }
+        CallTick::Nothing
+    }
+}

@@ -1,0 +1,22 @@
+//! Exchanges of PLDM messages (DSP0240) between two nodes: the requests of one direction, which are repeated until they
+//! are answered, and the answers of the other, which are kept for requests that come again.
+#![tactic(auto)]
+
+mod answerer;
+#[cfg(test)]
+mod answerer_tests;
+mod caller;
+#[cfg(test)]
+mod caller_tests;
+mod dated;
+mod laws;
+mod rests;
+mod times;
+
+pub use answerer::{Answerer, Asked};
+pub use caller::{CallTick, Caller, ReplyIn};
+pub use laws::{
+    answers_are_kept, answers_stay_lawful, callers_stay_lawful, eight_requests_rest, kept_change,
+    open_requests_repeat, repeats_answer_the_request, rests_change, rests_outlast_sendings,
+};
+pub use times::{GIVEN_UP, HOLD, RETIRE, RETRY};
