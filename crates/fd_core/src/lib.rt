@@ -1,0 +1,15 @@
+//! A firmware device under update (DSP0267 1.0): the banks that it keeps its images in, and its state machine.
+#![tactic(auto)]
+
+mod bank;
+mod device;
+mod labels;
+mod parts;
+mod states;
+
+pub use bank::{Bank, BankFault};
+pub use device::Device;
+pub use fwup_wire::Key;
+pub use labels::{Label, MAX_TEXT};
+pub use parts::{Component, MAX_COMPONENTS, MAX_IMAGE};
+pub use states::{NotNow, Progress, Reason, State, Verdict};
