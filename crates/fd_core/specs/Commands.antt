@@ -144,8 +144,8 @@ abbrev pub offer_rule : Option RowOf → OfferOf → ℕ
 offer_rule None o = not_supported
 offer_rule (Some row) o = if o.force then no_restriction else stamp_rule o.version.stamp row.active.label.stamp
 
-abbrev pub offer_restriction : List RowOf → UpdateOf → OfferOf → ℕ
-offer_restriction rows u o = if in_table u.table o.key then offer_rule (row_of rows o.key) o else not_supported
+abbrev pub offer_restriction : List RowOf → List Listed → OfferOf → ℕ
+offer_restriction rows table o = if in_table table o.key then offer_rule (row_of rows o.key) o else not_supported
 
 abbrev pub offer_under : UpdateOf → ℕ → Bool → OfferRow
 offer_under u code works =
@@ -158,7 +158,7 @@ offer_row rows Phase.Idle o quiet works = OfferRow.RefuseOffer not_in_update_mod
 offer_row rows (Phase.Ready u) o false works = OfferRow.RefuseOffer not_ready
 offer_row rows (Phase.Ready u) o true works =
     if nat_lt longest_image o.size then OfferRow.RefuseOffer invalid_data
-    else offer_under u (offer_restriction rows u o) works
+    else offer_under u (offer_restriction rows u.table o) works
 offer_row rows p o quiet works = OfferRow.RefuseOffer invalid_state_for_command
 
 abbrev pub work_begun : OfferOf → WorkOf

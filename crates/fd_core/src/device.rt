@@ -2,7 +2,7 @@
 
 ghost use Rattle.std.specs.Prelude.{◌≡◌, ◌≤◌, ◌<◌, ◌==◌, map, not, length, option_map, true, false};
 ghost use Rattle.fd_core.specs.Commands.{Rose, bytes_work, device_after, device_answer, idle_after};
-ghost use Rattle.fd_core.specs.States.{DeviceOf, new_device, progress_of, staged_of, state_of};
+ghost use Rattle.fd_core.specs.States.{DeviceOf, new_device, progress_of, reset, staged_of, state_of};
 ghost use Rattle.fwup_wire.specs.Answers.{answer_bytes};
 ghost use Rattle.fwup_wire.specs.Lent.{command_of};
 ghost use Rattle.fd_core.specs.Images.{key_of};
@@ -16,6 +16,7 @@ use fwup_wire::{DescriptorList, Key, Text, Version};
 use std::marker::Model;
 
 mod commands;
+mod restrictions;
 
 /// A device under update over its bank.
 #[derive(Drop)]
@@ -110,6 +111,17 @@ impl<B: Bank> Device<B> {
             State::Download | State::Verify | State::Apply => Some((self.work.key, self.work.size)),
             _ => None,
         }
+    }
+
+    /// Ends the update: what is applied is dropped, and the device is idle.
+    fn end(&mut self, reason: Reason)
+        ensures device { self.new.device ≡ reset self.old.device reason }
+        ensures idle { self.new.idle ≡ 0 }
+        ensures faults { self.new.faults ≡ self.old.faults }
+    {
+        self.bank.drop_pending();
+        self.course.reason = reason;
+        self.course.go(State::Idle);
     }
 
     /// The bank.
