@@ -147,7 +147,7 @@ impl<B: Bank> Device<B> {
     {
         match command {
             Command::QueryDeviceIdentifiers => {
-                write_answer(&Answer::QueryDeviceIdentifiers(self.descriptors.lent()))
+                write_answer(&Answer::QueryDeviceIdentifiers(self.identifiers()))
             }
             Command::GetFirmwareParameters => {
                 let list = parameters(&self.bank, &self.components);

@@ -3,6 +3,8 @@
 ghost use Rattle.std.specs.Prelude.{◌≡◌, ◌≤◌, length, option_map};
 ghost use Rattle.fd_core.specs.Commands.{all_parameters, failure_or_none, progress_number, status_of};
 ghost use Rattle.fd_core.specs.Images.{version_at};
+ghost use Rattle.fwup_wire.specs.Descriptors.{descriptors_bytes};
+ghost use Rattle.fwup_wire.specs.Parameters.{all_parameters_bytes};
 ghost use Rattle.fwup_wire.specs.Lent.{version_of};
 
 use crate::bank::Bank;
@@ -11,7 +13,7 @@ use crate::labels::Label;
 use crate::parts::Component;
 use crate::states::{Progress, State};
 use fwup_wire::code::text_type;
-use fwup_wire::{ComponentParameters, ParameterList, Status, Text, Version};
+use fwup_wire::{ComponentParameters, Descriptors, ParameterList, Status, Text, Version};
 
 /// The aux state of a state that has no work to do.
 const NO_WORK: u8 = 3;
@@ -29,6 +31,16 @@ pub(super) const VERIFICATION_FAILED: u8 = 0x90;
 pub(super) const APPLICATION_FAILED: u8 = 0xB0;
 
 impl<B: Bank> Device<B> {
+    /// The device's descriptors.
+    pub(super) fn identifiers(&self) -> Descriptors<'_>
+        ensures value { result ≡ self.now.device.descriptors }
+        ensures fits { length (descriptors_bytes result) ≤ 246 }
+    {
+        // The room that is left shows the proof that the descriptors fit an answer.
+        let _room = self.descriptors.room();
+        self.descriptors.lent()
+    }
+
     /// What the device tells in answer to GetStatus.
     pub(super) fn status(&self) -> Status
         ensures { result ≡ status_of self.now.device }
@@ -68,8 +80,11 @@ fn aux(progress: Progress, failure: u8) -> (u8, u8)
 }
 
 /// The parameters of a bank's components, in this order.
+#[tactic(auto, using(crate::proofs::Parameters::one_longer))]
 pub(super) fn parameters<B: Bank>(bank: &B, components: &[Component]) -> ParameterList
-    ensures { result ≡ all_parameters (B.rows bank.now) components.now }
+    requires { length components.now ≤ 3 }
+    ensures value { result ≡ all_parameters (B.rows bank.now) components.now }
+    ensures fits { length (all_parameters_bytes result) ≤ 241 }
 {
     let mut list = ParameterList::new();
     for component in components {
