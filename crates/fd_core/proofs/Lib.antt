@@ -1,1 +1,2 @@
 mod Parameters
+mod Rows

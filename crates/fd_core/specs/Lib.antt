@@ -1,3 +1,4 @@
+pub mod Banks
 pub mod Codes
 pub mod Commands
 pub mod Images

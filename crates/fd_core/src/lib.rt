@@ -4,6 +4,7 @@
 mod bank;
 mod device;
 mod labels;
+mod memory;
 mod parts;
 mod states;
 
@@ -11,5 +12,6 @@ pub use bank::{Bank, BankFault};
 pub use device::Device;
 pub use fwup_wire::Key;
 pub use labels::{Label, MAX_TEXT};
+pub use memory::MemBank;
 pub use parts::{Component, MAX_COMPONENTS, MAX_IMAGE};
 pub use states::{NotNow, Progress, Reason, State, Verdict};
