@@ -41,8 +41,8 @@ has_row (row ∷ rows) key = here_or (same_key row.key key) row (row_of rows key
 equal_both : (a b : ℕ) → (a == b) ≡ (b == a)
 equal_both a b =
     elim (eqb_tells a b) [
-      inl same ↦ rw same.1 refl
-    | inr other ↦ rw (other.0, ne_eqb b a (λ e. other.1 (sym e))) refl
+      | inl same ↦ rw same.1 refl
+      | inr other ↦ rw (other.0, ne_eqb b a (λ e. other.1 (sym e))) refl
     ]
 
 same_both : (a b : Key) → same_key a b ≡ same_key b a
@@ -55,7 +55,7 @@ same_means a b e =
     let identifier : a.identifier ≡ b.identifier = eqb-true a.identifier b.identifier parts.1 in
     let P : Key → Key = λ k. k in
     let here : P (record { classification = a.classification; identifier = a.identifier }) ≡ P (record { classification = b.classification; identifier = b.identifier }) =
-      rw (classification, identifier) refl in
+    rw (classification, identifier) refl in
     here
 
 -- one more key keeps them apart

@@ -2,11 +2,19 @@
 #![tactic(auto)]
 
 mod bank;
+#[cfg(test)]
+mod bank_tests;
 mod device;
+#[cfg(test)]
+mod fixtures;
 mod labels;
 mod memory;
 mod parts;
 mod states;
+#[cfg(test)]
+mod tests;
+#[cfg(test)]
+mod update_tests;
 
 pub use bank::{Bank, BankFault};
 pub use device::Device;

@@ -1,12 +1,12 @@
 //! What a device keeps of its configuration and of an update.
 
+ghost use Rattle.std.specs.Prelude.{◌≡◌};
+ghost use Rattle.fd_core.specs.declared.states.Progress.TheVariants.{InProgress};
+
 use crate::labels::Label;
 use crate::states::{Progress, Reason, State};
 use arrayvec::ArrayVec;
 use fwup_wire::Key;
-
-ghost use Rattle.std.specs.Prelude.{◌≡◌};
-ghost use Rattle.fd_core.specs.declared.states.Progress.TheVariants.{InProgress};
 
 /// The most components of a device: their parameters fit one answer.
 pub const MAX_COMPONENTS: usize = 3;

@@ -16,12 +16,8 @@ use crate::parts::{Listed, MAX_IMAGE, MAX_TABLE, Update, Work};
 use crate::states::{Progress, Reason, State};
 use arrayvec::ArrayVec;
 use fwup_wire::code::completion;
-use fwup_wire::code::response::{
-    CAN_BE_UPDATED, CANNOT_BE_UPDATED, NO_RESTRICTION,
-};
-use fwup_wire::{
-    Answer, ComponentOffer, OfferResponse, TableEntry, TableResponse, UpdateRequest,
-};
+use fwup_wire::code::response::{CAN_BE_UPDATED, CANNOT_BE_UPDATED, NO_RESTRICTION};
+use fwup_wire::{Answer, ComponentOffer, OfferResponse, TableEntry, TableResponse, UpdateRequest};
 use pldm_base::completion::{ERROR, ERROR_INVALID_DATA, ERROR_NOT_READY};
 
 /// The fewest bytes that an agent may give at once.
