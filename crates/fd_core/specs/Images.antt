@@ -1,5 +1,5 @@
 -- Images, and what a bank of them stands for.
-use Rattle.std.specs.Prelude.{[], ◌&&◌, ◌++◌, ◌==◌, ◌∷◌, nat_lt, Bool, List, None, Option, Some, false, if◌then◌else◌, is_some, map, take, true, ℕ}
+use Rattle.std.specs.Prelude.{[], ◌&&◌, ◌++◌, ◌==◌, ◌∷◌, nat_lt, Bool, List, None, Option, Some, false, if◌then◌else◌, map, take, true, ℕ}
 use Rattle.fd_core.specs.Codes.{kept_text}
 use Rattle.fwup_wire.specs.Values.{VersionOf}
 use Rattle.fwup_wire.specs.declared.values.Key.{Key}

@@ -228,6 +228,14 @@ fn reports_a_failed_verdict_once(rt: HostRuntime) -> Result<(), Fail> {
     Ok(())
 }
 
+/// One byte less than the device asks for.
+const SHORT: [u8; 239] = [0; 239];
+
+/// Gives an answer.
+fn hear(device: &mut Device<MemBank>, answer: &Answer<'_>) {
+    device.learn(Ok(answer));
+}
+
 #[test]
 fn keeps_its_wish_at_other_answers(rt: HostRuntime) -> Result<(), Fail> {
     let places = [DOWNLOAD, DOWNLOADED, VERIFIED, APPLIED];
@@ -237,9 +245,9 @@ fn keeps_its_wish_at_other_answers(rt: HostRuntime) -> Result<(), Fail> {
         let wish = device.wish();
         assert!(rt; wish.is_some());
         device.learn(Err(Malformed));
-        device.learn(Ok(&Answer::Refused { code: 0x89 }));
-        device.learn(Ok(&Answer::RequestFirmwareData(&[0; 239])));
-        device.learn(Ok(&Answer::CancelUpdate));
+        hear(&mut device, &Answer::Refused { code: 0x89 });
+        hear(&mut device, &Answer::CancelUpdate);
+        hear(&mut device, &Answer::RequestFirmwareData(&SHORT));
         assert!(rt; device.wish() == wish);
     }
     Ok(())
