@@ -1,0 +1,2 @@
+mod Parameters
+mod Rows

@@ -1,0 +1,19 @@
+-- What a bank in memory stands for.
+use Rattle.std.specs.Prelude.{[], ◌||◌, ◌∷◌, ◌≡◌, Bool, List, Option, false, ℕ}
+use Rattle.fd_core.specs.Images.{RowOf, StageOf, same_key}
+use Rattle.fwup_wire.specs.declared.values.Key.{Key}
+
+-- its components, its stage, and how often it failed
+pub record BankOf : Type 0 where
+  pub rows : List RowOf
+  pub stage : Option StageOf
+  pub faults : ℕ
+
+abbrev pub has_key : List Key → Key → Bool
+has_key [] key = false
+has_key (k ∷ ks) key = same_key k key || has_key ks key
+
+-- no key stands twice
+abbrev pub AreApart : List Key → Type 0
+AreApart [] = Unit {0}
+AreApart (k ∷ ks) = (has_key ks k ≡ false) × AreApart ks

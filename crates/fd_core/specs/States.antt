@@ -1,0 +1,100 @@
+-- What a device stands for (DSP0267 1.0, "Firmware device state machine").
+use Rattle.std.specs.Prelude.{[], Bool, List, Option, None, Some, if◌then◌else◌, ℕ}
+use Rattle.fd_core.specs.Images.{LabelOf, RowOf, dropped}
+use Rattle.fd_core.specs.declared.parts.Component.{Component}
+use Rattle.fd_core.specs.declared.parts.Listed.{Listed}
+use Rattle.fd_core.specs.declared.states.Progress.{Progress}
+use Rattle.fd_core.specs.declared.states.Reason.{Reason}
+use Rattle.fd_core.specs.declared.states.Reason.TheVariants as reasons
+use Rattle.fd_core.specs.declared.states.State.{State}
+use Rattle.fd_core.specs.declared.states.State.TheVariants as states
+use Rattle.fwup_wire.specs.Values.{DescriptorOf}
+use Rattle.fwup_wire.specs.declared.values.Key.{Key}
+
+-- what stands from LEARN COMPONENTS to APPLY: what RequestUpdate said, and the components passed so far
+pub record UpdateOf : Type 0 where
+  pub transfer_size : ℕ
+  pub components : ℕ
+  pub table : List Listed
+
+-- what stands from DOWNLOAD to APPLY: what UpdateComponent said
+pub record WorkOf : Type 0 where
+  pub key : Key
+  pub size : ℕ
+  pub label : LabelOf
+  pub force : Bool
+
+-- where a device is in an update
+pub data Phase : Type 0 where
+  Idle : Phase
+  Learn : (u : UpdateOf) → Phase
+  Ready : (u : UpdateOf) → Phase
+  Download : (u : UpdateOf) (w : WorkOf) (p : Progress) → Phase
+  Verify : (u : UpdateOf) (w : WorkOf) (p : Progress) → Phase
+  Apply : (u : UpdateOf) (w : WorkOf) (p : Progress) → Phase
+  Activated : Phase
+
+-- A device: what it is configured with, its images, the bytes of the image that is being written, and where it is.
+pub record DeviceState : Type 0 where
+  pub descriptors : List DescriptorOf
+  pub components : List Component
+  pub rows : List RowOf
+  pub stage : List ℕ
+  pub phase : Phase
+  pub previous : State
+  pub reason : Reason
+
+-- The same with what stands apart: the ticks without a change, and how often the bank failed.
+pub record DeviceOf : Type 0 where
+  pub device : DeviceState
+  pub idle : ℕ
+  pub faults : ℕ
+
+-- the state's name
+abbrev pub state_of : Phase → State
+state_of Phase.Idle = states.Idle
+state_of (Phase.Learn u) = states.Learn
+state_of (Phase.Ready u) = states.Ready
+state_of (Phase.Download u w p) = states.Download
+state_of (Phase.Verify u w p) = states.Verify
+state_of (Phase.Apply u w p) = states.Apply
+state_of Phase.Activated = states.Activate
+
+-- how far the state is, in those that have work to do
+abbrev pub progress_of : Phase → Option Progress
+progress_of (Phase.Download u w p) = Some p
+progress_of (Phase.Verify u w p) = Some p
+progress_of (Phase.Apply u w p) = Some p
+progress_of p = None
+
+-- the component that is being updated, and its size
+abbrev pub staged_of : Phase → Option (Key × ℕ)
+staged_of (Phase.Download u w p) = Some (w.key, w.size)
+staged_of (Phase.Verify u w p) = Some (w.key, w.size)
+staged_of (Phase.Apply u w p) = Some (w.key, w.size)
+staged_of p = None
+
+-- a device in another state
+abbrev pub moved : DeviceState → Phase → DeviceState
+moved v p = record v { phase = p; previous = state_of v.phase }
+
+-- a device that is idle again: what was applied is dropped
+abbrev pub reset : DeviceState → Reason → DeviceState
+reset v why = record (moved v Phase.Idle) { reason = why; rows = dropped v.rows; stage = [] }
+
+-- the count of ticks after something that sets it to 0, or doesn't
+abbrev pub rested : ℕ → Bool → ℕ
+rested idle stirs = if stirs then 0 else idle
+
+-- a device as it is configured
+abbrev pub new_device : List DescriptorOf → List Component → List RowOf → DeviceState
+new_device descriptors components rows =
+    record {
+      descriptors = descriptors;
+      components = components;
+      rows = rows;
+      stage = [];
+      phase = Phase.Idle;
+      previous = states.Idle;
+      reason = reasons.Initialization;
+    }

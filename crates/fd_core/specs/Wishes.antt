@@ -1,0 +1,136 @@
+-- What a device asks of the agent, and what it learns from the answers (DSP0267 1.0).
+use Rattle.std.specs.Prelude.{[], ◌++◌, ◌-◌, ◌==◌, Bool, List, None, Option, Some, false, if◌then◌else◌, length, max, min, take, true, ℕ}
+use Rattle.fd_core.specs.Codes.{application_failed, greatest_length, least_length, succeeded, transfer_failed, verification_failed}
+use Rattle.fd_core.specs.Commands.{download_progress}
+use Rattle.fd_core.specs.States.{DeviceState, Phase, UpdateOf, WorkOf, moved, rested}
+use Rattle.fd_core.specs.declared.states.Progress.{Progress}
+use Rattle.fd_core.specs.declared.states.Progress.TheVariants as progress
+use Rattle.fwup_wire.specs.Values.{AnswerOf, CommandOf}
+
+-- How many bytes it asks for at once: what is missing, at most as many as the agent gives and as fit a message, and never
+-- fewer than the least length. What is then too much is padding.
+abbrev pub asked_length : UpdateOf → WorkOf → ℕ → ℕ
+asked_length u w have = max least_length (min greatest_length (min u.transfer_size (w.size - have)))
+
+-- the result that is to be reported: success, or the state's own failure until it is reported
+abbrev pub report_of : Progress → ℕ → Option ℕ
+report_of progress.InProgress failure = None
+report_of progress.Succeeded failure = Some succeeded
+report_of (progress.Failed true) failure = None
+report_of (progress.Failed false) failure = Some failure
+
+abbrev pub reports : (ℕ → CommandOf) → Option ℕ → Option CommandOf
+reports command None = None
+reports command (Some result) = Some (command result)
+
+abbrev pub download_wish : UpdateOf → WorkOf → Progress → ℕ → Option CommandOf
+download_wish u w progress.InProgress have = Some (CommandOf.RequestFirmwareData have (asked_length u w have))
+download_wish u w p have = reports CommandOf.TransferComplete (report_of p transfer_failed)
+
+abbrev pub apply_report : ℕ → CommandOf
+apply_report result = CommandOf.ApplyComplete result 0
+
+-- what it wishes in a state, with so many bytes of the image
+abbrev pub wish_at : Phase → ℕ → Option CommandOf
+wish_at (Phase.Download u w p) have = download_wish u w p have
+wish_at (Phase.Verify u w p) have = reports CommandOf.VerifyComplete (report_of p verification_failed)
+wish_at (Phase.Apply u w p) have = reports apply_report (report_of p application_failed)
+wish_at p have = None
+
+abbrev pub device_wish : DeviceState → Option CommandOf
+device_wish v = wish_at v.phase (length v.stage)
+
+-- Which row of learning it is. A malformed answer is None.
+pub data LearnRow : Type 0 where
+  Stay : LearnRow
+  PutPiece : (bytes : List ℕ) → LearnRow
+  PutFails : LearnRow
+  NextState : LearnRow
+  Reported : LearnRow
+
+-- a download that misses bytes: those of an answer of exactly the length that was asked for are put
+abbrev pub piece_row : ℕ → Option AnswerOf → Bool → LearnRow
+piece_row asked (Some (AnswerOf.RequestFirmwareData bytes)) works =
+    if length bytes == asked then (if works then LearnRow.PutPiece bytes else LearnRow.PutFails) else LearnRow.Stay
+piece_row asked a works = LearnRow.Stay
+
+-- success that is to be reported: the answer to the report leads on
+abbrev pub transferred_row : Option AnswerOf → LearnRow
+transferred_row (Some AnswerOf.TransferComplete) = LearnRow.NextState
+transferred_row a = LearnRow.Stay
+
+abbrev pub verified_row : Option AnswerOf → LearnRow
+verified_row (Some AnswerOf.VerifyComplete) = LearnRow.NextState
+verified_row a = LearnRow.Stay
+
+abbrev pub applied_row : Option AnswerOf → LearnRow
+applied_row (Some AnswerOf.ApplyComplete) = LearnRow.NextState
+applied_row a = LearnRow.Stay
+
+-- a report of a failure: any answer will do
+abbrev pub report_row : Progress → LearnRow → LearnRow
+report_row progress.InProgress row = LearnRow.Stay
+report_row progress.Succeeded row = row
+report_row (progress.Failed reported) row = LearnRow.Reported
+
+abbrev pub download_row : Progress → ℕ → Option AnswerOf → Bool → LearnRow
+download_row progress.InProgress asked a works = piece_row asked a works
+download_row p asked a works = report_row p (transferred_row a)
+
+-- What an answer does: the device after it, and whether the count of ticks without a change begins anew.
+pub record Learnt : Type 0 where
+  pub after : DeviceState
+  pub stirs : Bool
+
+abbrev pub stays : DeviceState → Learnt
+stays v = record { after = v; stirs = false }
+
+abbrev pub goes_on : DeviceState → Learnt
+goes_on v = record { after = v; stirs = true }
+
+-- the bytes within the size are stored
+abbrev pub stage_with : DeviceState → WorkOf → List ℕ → List ℕ
+stage_with v w bytes = v.stage ++ take (w.size - length v.stage) bytes
+
+abbrev pub piece_put : DeviceState → UpdateOf → WorkOf → List ℕ → DeviceState
+piece_put v u w stage = record v { stage = stage; phase = Phase.Download u w (download_progress (length stage) w.size) }
+
+abbrev pub download_by : DeviceState → UpdateOf → WorkOf → LearnRow → Learnt
+download_by v u w LearnRow.Stay = stays v
+download_by v u w (LearnRow.PutPiece bytes) = goes_on (piece_put v u w (stage_with v w bytes))
+download_by v u w LearnRow.PutFails = stays (record v { phase = Phase.Download u w (progress.Failed false) })
+download_by v u w LearnRow.NextState = goes_on (moved v (Phase.Verify u w progress.InProgress))
+download_by v u w LearnRow.Reported = stays (record v { phase = Phase.Download u w (progress.Failed true) })
+
+abbrev pub verify_by : DeviceState → UpdateOf → WorkOf → LearnRow → Learnt
+verify_by v u w LearnRow.NextState = goes_on (moved v (Phase.Apply u w progress.InProgress))
+verify_by v u w LearnRow.Reported = stays (record v { phase = Phase.Verify u w (progress.Failed true) })
+verify_by v u w row = stays v
+
+abbrev pub apply_by : DeviceState → UpdateOf → WorkOf → LearnRow → Learnt
+apply_by v u w LearnRow.NextState = goes_on (moved (record v { stage = [] }) (Phase.Ready u))
+apply_by v u w LearnRow.Reported = stays (record v { phase = Phase.Apply u w (progress.Failed true) })
+apply_by v u w row = stays v
+
+abbrev pub learn_at : DeviceState → Phase → Option AnswerOf → Bool → Learnt
+learn_at v (Phase.Download u w p) a works = download_by v u w (download_row p (asked_length u w (length v.stage)) a works)
+learn_at v (Phase.Verify u w p) a works = verify_by v u w (report_row p (verified_row a))
+learn_at v (Phase.Apply u w p) a works = apply_by v u w (report_row p (applied_row a))
+learn_at v p a works = stays v
+
+abbrev pub device_learn : DeviceState → Option AnswerOf → Bool → DeviceState
+device_learn v a works = (learn_at v v.phase a works).after
+
+abbrev pub idle_learnt : ℕ → DeviceState → Option AnswerOf → Bool → ℕ
+idle_learnt idle v a works = rested idle (learn_at v v.phase a works).stirs
+
+-- whether the state's work failed
+abbrev pub is_failure : Progress → Bool
+is_failure (progress.Failed reported) = true
+is_failure p = false
+
+abbrev pub has_failed : Phase → Bool
+has_failed (Phase.Download u w p) = is_failure p
+has_failed (Phase.Verify u w p) = is_failure p
+has_failed (Phase.Apply u w p) = is_failure p
+has_failed p = false

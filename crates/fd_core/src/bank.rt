@@ -1,0 +1,88 @@
+//! Where a device keeps its images.
+
+ghost use Rattle.std.specs.Prelude.{◌≡◌, ◌+◌, ◌^◌, ◌-◌, ◌<◌, ◌≤◌, ◌⊎◌, [], List, None, ℕ, length, Option, Some, IsSome, IsSomeAnd, OnOk, OnErr, is_some};
+ghost use Rattle.std.specs.Prelude.{option_map};
+ghost use Rattle.fd_core.specs.Images.{RowOf, StageOf, active_of, applied_of, dropped, row_of, sealed_by, staged_with, switched};
+
+use crate::labels::Label;
+use fwup_wire::Key;
+use thiserror::Error;
+
+/// Why a call of a bank failed.
+#[derive(Clone, Copy, Debug, PartialEq, Eq, Error)]
+pub enum BankFault {
+    /// The memory device failed.
+    #[error("Device")]
+    Device,
+    /// Memory was refused.
+    #[error("Memory")]
+    Memory,
+}
+
+/// A bank of images. For each component, in the order in which the device is configured, it has the image that runs
+/// and at most one that was applied and runs next; and at most one stage, an image that is being written. Its
+/// components never change.
+///
+/// A fault changes neither images nor stage, and is answered only where `failures` rose in that call or stands at its
+/// last value, 2^64 - 1.
+pub trait Bank {
+    ghost rows: { Self → List RowOf };
+
+    ghost stage: { Self → Option StageOf };
+
+    ghost faults: { Self → ℕ };
+
+    /// The image that runs, if the component is there.
+    fn active(&self, key: Key) -> Option<(&Label, &[u8])>
+        ensures found { is_some result ≡ is_some (active_of (row_of (rows self.now) key)) }
+        ensures image { option_map (λ r. record { label = r.0.now; bytes = r.1.now }) result ≡ active_of (row_of (rows self.now) key) };
+
+    /// The image that was applied, if there is one.
+    fn applied(&self, key: Key) -> Option<(&Label, &[u8])>
+        ensures found { is_some result ≡ is_some (applied_of (row_of (rows self.now) key)) }
+        ensures image { option_map (λ r. record { label = r.0.now; bytes = r.1.now }) result ≡ applied_of (row_of (rows self.now) key) };
+
+    /// A new stage, which is empty, for an image of `size` bytes, at most `MAX_IMAGE`.
+    fn begin(&mut self, key: Key, size: u32, label: &Label) -> Result<(), BankFault>
+        requires known { IsSome (row_of (rows self.old) key) }
+        requires size { size ≤ 1048576 }
+        ensures rows { rows self.new ≡ rows self.old }
+        ensures ok { OnOk result (stage self.new ≡ Some (record { key = key; size = size; label = label.now; bytes = [] })) }
+        ensures kept { OnErr result (stage self.new ≡ stage self.old) }
+        ensures err { OnErr result ((faults self.old < faults self.new) ⊎ (faults self.new ≡ 2 ^ 64 - 1)) }
+        ensures rise { faults self.old ≤ faults self.new };
+
+    /// Appends to the stage.
+    fn put(&mut self, piece: &[u8]) -> Result<(), BankFault>
+        requires { IsSomeAnd (stage self.old) (λ s. length s.bytes + length piece.now ≤ s.size) }
+        ensures rows { rows self.new ≡ rows self.old }
+        ensures ok { OnOk result (stage self.new ≡ staged_with (stage self.old) piece.now) }
+        ensures kept { OnErr result (stage self.new ≡ stage self.old) }
+        ensures err { OnErr result ((faults self.old < faults self.new) ⊎ (faults self.new ≡ 2 ^ 64 - 1)) }
+        ensures rise { faults self.old ≤ faults self.new };
+
+    /// The full stage becomes the image that is applied for its component.
+    fn seal(&mut self) -> Result<(), BankFault>
+        requires { IsSomeAnd (stage self.old) (λ s. length s.bytes ≡ s.size) }
+        ensures ok { OnOk result ((rows self.new ≡ sealed_by (rows self.old) (stage self.old)) × (stage self.new ≡ None)) }
+        ensures kept { OnErr result ((rows self.new ≡ rows self.old) × (stage self.new ≡ stage self.old)) }
+        ensures err { OnErr result ((faults self.old < faults self.new) ⊎ (faults self.new ≡ 2 ^ 64 - 1)) }
+        ensures rise { faults self.old ≤ faults self.new };
+
+    /// All applied images run, and nothing is applied or staged: wholly or not at all.
+    fn switch(&mut self) -> Result<(), BankFault>
+        ensures ok { OnOk result ((rows self.new ≡ switched (rows self.old)) × (stage self.new ≡ None)) }
+        ensures kept { OnErr result ((rows self.new ≡ rows self.old) × (stage self.new ≡ stage self.old)) }
+        ensures err { OnErr result ((faults self.old < faults self.new) ⊎ (faults self.new ≡ 2 ^ 64 - 1)) }
+        ensures rise { faults self.old ≤ faults self.new };
+
+    /// Nothing is applied or staged.
+    fn drop_pending(&mut self)
+        ensures rows { rows self.new ≡ dropped (rows self.old) }
+        ensures stage { stage self.new ≡ None }
+        ensures faults { faults self.new ≡ faults self.old };
+
+    /// How many calls failed so far. The count stops at its last value.
+    fn failures(&self) -> u64
+        ensures { result ≡ faults self.now };
+}

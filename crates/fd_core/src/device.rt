@@ -1,0 +1,270 @@
+//! A device over a bank.
+
+ghost use Rattle.std.specs.Prelude.{◌≡◌, ◌≤◌, ◌<◌, OnOk, is_ok, is_some, map, not, length, true, false};
+ghost use Rattle.fd_core.specs.Commands.{Rose, bytes_work, device_after, device_answer, idle_after};
+ghost use Rattle.fd_core.specs.States.{DeviceOf, new_device, progress_of, reset, rested, staged_of, state_of};
+ghost use Rattle.fd_core.specs.Steps.{device_restart, device_tick, device_verdict, verdict_after};
+ghost use Rattle.fd_core.specs.Wishes.{has_failed};
+ghost use Rattle.fd_core.specs.declared.states.Verdict.TheVariants.{ApplyOk};
+ghost use Rattle.fwup_wire.specs.Answers.{answer_bytes};
+ghost use Rattle.fwup_wire.specs.Lent.{command_of};
+ghost use Rattle.fd_core.specs.Images.{key_of};
+
+use crate::bank::Bank;
+use crate::labels::Label;
+use crate::parts::{Component, Course, MAX_COMPONENTS, NO_KEY, Update, Work};
+use crate::states::{NotNow, Progress, Reason, State, Verdict};
+use arrayvec::ArrayVec;
+use fwup_wire::{Answer, Command, DescriptorList, Key, Text, Version, write_answer};
+use pldm_base::Reply;
+use pldm_base::completion::ERROR_UNSUPPORTED_PLDM_CMD;
+use std::marker::Model;
+
+mod commands;
+mod learning;
+mod reports;
+mod restrictions;
+mod wishes;
+
+use commands::refused;
+use reports::parameters;
+
+/// The ticks without a change after which an update ends.
+const PATIENCE: u8 = 240;
+
+/// A device under update over its bank.
+#[derive(Drop)]
+pub struct Device<B: Bank> {
+    descriptors: DescriptorList,
+    components: ArrayVec<Component, MAX_COMPONENTS>,
+    bank: B,
+    course: Course,
+    update: Update,
+    work: Work,
+}
+
+impl<B: Bank> Model for Device<B> {
+    ghost use Rattle.std.specs.Prelude.{◌<◌};
+    ghost use Rattle.fd_core.specs.States.{DeviceOf};
+    ghost use Rattle.fd_core.specs.Views.{HasStage, HasTable, phase_of, stage_now};
+
+    ghost Value = { DeviceOf };
+
+    ghost view = { λ d. record {
+      device = record {
+        descriptors = d.descriptors;
+        components = d.components.items;
+        rows = B.rows d.bank;
+        stage = stage_now d.course.state (B.stage d.bank);
+        phase = phase_of d.course.state d.course.progress d.update d.work;
+        previous = d.course.previous;
+        reason = d.course.reason;
+      };
+      idle = d.course.idle;
+      faults = B.faults d.bank;
+    } };
+
+    ghost invariant = { λ d. HasStage d.course.state d.course.progress d.work (B.stage d.bank) × HasTable d.course.state d.update
+        × (d.course.idle < 240) };
+}
+
+impl<B: Bank> Device<B> {
+    /// A device that is idle. Its bank has its components, in the same order.
+    pub fn new(
+        descriptors: DescriptorList,
+        components: ArrayVec<Component, MAX_COMPONENTS>,
+        bank: B,
+    ) -> Device<B>
+        requires { map key_of (B.rows bank) ≡ map (λ c. c.key) components.items }
+        ensures device { result.device ≡ new_device descriptors components.items (B.rows bank) }
+        ensures idle { result.idle ≡ 0 }
+        ensures faults { result.faults ≡ B.faults bank }
+    {
+        Device {
+            descriptors,
+            components,
+            bank,
+            course: Course {
+                state: State::Idle,
+                progress: Progress::InProgress,
+                previous: State::Idle,
+                reason: Reason::Initialization,
+                idle: 0,
+            },
+            update: Update {
+                transfer_size: 0,
+                components: 0,
+                table: ArrayVec::new(),
+            },
+            work: no_work(),
+        }
+    }
+
+    /// The state.
+    pub fn state(&self) -> State
+        ensures { result ≡ state_of self.now.device.phase }
+    {
+        self.course.state
+    }
+
+    /// How far the work of DOWNLOAD, VERIFY or APPLY is.
+    pub fn progress(&self) -> Option<Progress>
+        ensures { result ≡ progress_of self.now.device.phase }
+    {
+        match self.course.state {
+            State::Download | State::Verify | State::Apply => Some(self.course.progress),
+            _ => None,
+        }
+    }
+
+    /// The component that is being updated and its image's bytes, from DOWNLOAD to APPLY.
+    pub fn staged(&self) -> Option<(Key, u32)>
+        ensures { result ≡ staged_of self.now.device.phase }
+    {
+        match self.course.state {
+            State::Download | State::Verify | State::Apply => Some((self.work.key, self.work.size)),
+            _ => None,
+        }
+    }
+
+    /// The keys of the device's components, in configured order, each with its index.
+    pub fn keys(&self) -> &[Component]
+        ensures { result.now ≡ self.now.device.components }
+    {
+        self.components.as_slice()
+    }
+
+    /// Takes a command of the agent, and gives the reply: a completion code, and the fields after code 0. `quiet` says
+    /// that the device has no request of its own under way. A refused command changes nothing.
+    ///
+    /// Code 1 answers UpdateComponent and ActivateFirmware where the bank failed, and only there.
+    pub fn take(&mut self, command: &Command<'_>, quiet: bool) -> Reply
+        ensures answer { result.items ≡ answer_bytes (device_answer self.old.device (command_of command.now) quiet (bytes_work result.items)) }
+        ensures after { self.new.device ≡ device_after self.old.device (command_of command.now) quiet (bytes_work result.items) }
+        ensures idle { self.new.idle ≡ idle_after self.old.idle self.old.device (command_of command.now) quiet (bytes_work result.items) }
+        ensures failed { bytes_work result.items ≡ false → Rose self.old self.new }
+        ensures faults { self.old.faults ≤ self.new.faults }
+    {
+        match command {
+            Command::QueryDeviceIdentifiers => {
+                write_answer(&Answer::QueryDeviceIdentifiers(self.identifiers()))
+            }
+            Command::GetFirmwareParameters => {
+                let list = parameters(&self.bank, &self.components);
+                write_answer(&Answer::GetFirmwareParameters(list.lent()))
+            }
+            Command::GetStatus => write_answer(&Answer::GetStatus(self.status())),
+            Command::RequestUpdate(request) => write_answer(&self.request_update(request, quiet)),
+            Command::PassComponentTable(entry) => write_answer(&self.pass_component_table(entry)),
+            Command::UpdateComponent(offer) => write_answer(&self.update_component(offer, quiet)),
+            Command::CancelUpdateComponent => write_answer(&self.cancel_update_component()),
+            Command::ActivateFirmware { .. } => write_answer(&self.activate_firmware()),
+            Command::CancelUpdate => write_answer(&self.cancel_update()),
+            Command::RequestFirmwareData { .. }
+            | Command::TransferComplete { .. }
+            | Command::VerifyComplete { .. }
+            | Command::ApplyComplete { .. } => write_answer(&refused(ERROR_UNSUPPORTED_PLDM_CMD)),
+        }
+    }
+
+    /// A verdict on the image that was written: VERIFY and APPLY wait for one each while they are in progress. ApplyOk
+    /// is the moment of application: the image is applied for its component, unless the bank fails.
+    ///
+    /// # Errors
+    /// `NotNow` where no such verdict is waited for. Then nothing changes.
+    pub fn verdict(&mut self, verdict: Verdict) -> Result<(), NotNow>
+        ensures counts { is_ok result ≡ is_some (device_verdict self.old.device verdict (not (has_failed self.new.device.phase))) }
+        ensures after { self.new.device ≡ verdict_after self.old.device verdict (not (has_failed self.new.device.phase)) }
+        ensures idle { self.new.idle ≡ rested self.old.idle (is_ok result) }
+        ensures failed { OnOk result (verdict ≡ ApplyOk → has_failed self.new.device.phase ≡ true → Rose self.old self.new) }
+        ensures faults { self.old.faults ≤ self.new.faults }
+    {
+        match (self.course.state, self.course.progress, verdict) {
+            (State::Verify, Progress::InProgress, Verdict::VerifyOk) => {
+                self.course.progress = Progress::Succeeded;
+            }
+            (State::Verify, Progress::InProgress, Verdict::VerifyFail)
+            | (State::Apply, Progress::InProgress, Verdict::ApplyFail) => {
+                self.course.progress = Progress::Failed { reported: false };
+            }
+            (State::Apply, Progress::InProgress, Verdict::ApplyOk) => {
+                self.course.progress = match self.bank.seal() {
+                    Ok(()) => Progress::Succeeded,
+                    Err(_) => Progress::Failed { reported: false },
+                };
+            }
+            _ => return Err(NotNow),
+        }
+        self.course.idle = 0;
+        Ok(())
+    }
+
+    /// One tick passes. After an activation the device is idle again; elsewhere an update ends in the 240th tick without
+    /// a change.
+    pub fn idle_tick(&mut self)
+        ensures device { self.new.device ≡ (device_tick self.old.device self.old.idle).0 }
+        ensures idle { self.new.idle ≡ (device_tick self.old.device self.old.idle).1 }
+        ensures faults { self.new.faults ≡ self.old.faults }
+    {
+        let reason = match self.course.state {
+            State::Idle => return,
+            State::Activate => return self.end(Reason::Activation),
+            State::Learn => Reason::TimeOutInLearn,
+            State::Ready => Reason::TimeOutInReady,
+            State::Download => Reason::TimeOutInDownload,
+            State::Verify => Reason::TimeOutInVerify,
+            State::Apply => Reason::TimeOutInApply,
+        };
+        if self.course.idle + 1 < PATIENCE {
+            self.course.idle += 1;
+        } else {
+            self.end(reason);
+        }
+    }
+
+    /// The device starts anew: what was applied is dropped, and the images that run stay.
+    pub fn restart(&mut self)
+        ensures device { self.new.device ≡ device_restart self.old.device }
+        ensures idle { self.new.idle ≡ 0 }
+        ensures faults { self.new.faults ≡ self.old.faults }
+    {
+        self.end(Reason::Initialization);
+        self.course.previous = State::Idle;
+    }
+
+    /// Ends the update: what is applied is dropped, and the device is idle.
+    fn end(&mut self, reason: Reason)
+        ensures device { self.new.device ≡ reset self.old.device reason }
+        ensures idle { self.new.idle ≡ 0 }
+        ensures faults { self.new.faults ≡ self.old.faults }
+    {
+        self.bank.drop_pending();
+        self.course.reason = reason;
+        self.course.go(State::Idle);
+    }
+
+    /// The bank.
+    pub fn bank(&self) -> &B
+        ensures rows { B.rows result.now ≡ self.now.device.rows }
+        ensures faults { B.faults result.now ≡ self.now.faults }
+    {
+        &self.bank
+    }
+}
+
+/// What stands where no component is being updated.
+fn no_work() -> Work {
+    Work {
+        key: NO_KEY,
+        size: 0,
+        label: Label::new(&Version {
+            stamp: 0,
+            text: Text {
+                text_type: 0,
+                bytes: &[],
+            },
+        }),
+        force: false,
+        received: 0,
+    }
+}

@@ -1,0 +1,108 @@
+//! What stands against a component, and what is applied.
+
+ghost use Rattle.std.specs.Prelude.{◌≡◌, ◌<◌, is_some, true};
+ghost use Rattle.fd_core.specs.Commands.{flag_at, has_applied, in_table, lacks, offer_restriction, restriction, stamp_rule};
+ghost use Rattle.fd_core.specs.Images.{row_of};
+ghost use Rattle.fwup_wire.specs.Lent.{offer_of};
+
+use crate::bank::Bank;
+use crate::parts::{Component, Listed};
+use fwup_wire::code::response::{
+    COMPARISON_STAMP_IDENTICAL, COMPARISON_STAMP_LOWER, NO_RESTRICTION, NOT_SUPPORTED,
+};
+use fwup_wire::{ComponentOffer, Key, TransferFlag};
+
+/// A comparison stamp that isn't compared.
+const NO_STAMP: u32 = 0xFFFF_FFFF;
+
+/// The flag of an entry of the component table, by how many stand before it and how many there are.
+pub(super) fn flag_for(before: usize, count: u16) -> TransferFlag
+    requires { before < count }
+    ensures { result ≡ flag_at before count }
+{
+    if count == 1 {
+        TransferFlag::StartAndEnd
+    } else if before == 0 {
+        TransferFlag::Start
+    } else if before + 1 == count as usize {
+        TransferFlag::End
+    } else {
+        TransferFlag::Middle
+    }
+}
+
+/// Whether the table has this component.
+pub(super) fn is_listed(table: &[Listed], key: Key) -> bool
+    ensures { result ≡ in_table table.now key }
+{
+    for listed in table {
+        if listed.key == key {
+            return true;
+        }
+    }
+    false
+}
+
+/// What stands against an image with this stamp, beside that of the image that runs.
+fn stamp_restriction(stamp: u32, active: u32) -> u8
+    ensures { result ≡ stamp_rule stamp active }
+{
+    if stamp == NO_STAMP || active == NO_STAMP {
+        NO_RESTRICTION
+    } else if stamp == active {
+        COMPARISON_STAMP_IDENTICAL
+    } else if stamp < active {
+        COMPARISON_STAMP_LOWER
+    } else {
+        NO_RESTRICTION
+    }
+}
+
+/// What stands against a component that is passed with this stamp.
+pub(super) fn entry_restriction<B: Bank>(bank: &B, key: Key, stamp: u32) -> u8
+    ensures { result ≡ restriction (B.rows bank.now) key stamp }
+{
+    match bank.active(key) {
+        None => NOT_SUPPORTED,
+        Some((label, _)) => stamp_restriction(stamp, label.stamp()),
+    }
+}
+
+/// What stands against a component of this table that is offered.
+pub(super) fn offer_code<B: Bank>(bank: &B, table: &[Listed], offer: &ComponentOffer<'_>) -> u8
+    ensures code { result ≡ offer_restriction (B.rows bank.now) table.now (offer_of offer.now) }
+    ensures known { result ≡ 0 → is_some (row_of (B.rows bank.now) offer.now.key) ≡ true }
+{
+    if !is_listed(table, offer.key) {
+        return NOT_SUPPORTED;
+    }
+    match bank.active(offer.key) {
+        None => NOT_SUPPORTED,
+        Some(_) if offer.force => NO_RESTRICTION,
+        Some((label, _)) => stamp_restriction(offer.version.stamp, label.stamp()),
+    }
+}
+
+/// Whether a component that nothing stands against isn't applied.
+pub(super) fn misses_one<B: Bank>(bank: &B, table: &[Listed]) -> bool
+    ensures { result ≡ lacks (B.rows bank.now) table.now }
+{
+    for listed in table {
+        if listed.code == NO_RESTRICTION && bank.applied(listed.key).is_none() {
+            return true;
+        }
+    }
+    false
+}
+
+/// Whether one of the components is applied.
+pub(super) fn has_any<B: Bank>(bank: &B, components: &[Component]) -> bool
+    ensures { result ≡ has_applied (B.rows bank.now) components.now }
+{
+    for component in components {
+        if bank.applied(component.key).is_some() {
+            return true;
+        }
+    }
+    false
+}

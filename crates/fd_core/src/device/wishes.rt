@@ -1,0 +1,79 @@
+//! What a device asks of the agent.
+
+ghost use Rattle.std.specs.Prelude.{◌≡◌, ◌≤◌, max, min, option_map};
+ghost use Rattle.fd_core.specs.Wishes.{device_wish, report_of};
+ghost use Rattle.fwup_wire.specs.Lent.{command_of};
+
+use crate::bank::Bank;
+use crate::device::Device;
+use crate::device::reports::{APPLICATION_FAILED, TRANSFER_FAILED, VERIFICATION_FAILED};
+use crate::states::{Progress, State};
+use fwup_wire::Command;
+
+/// The fewest bytes that a device asks for at once.
+const MIN_LENGTH: u32 = 32;
+
+/// The most bytes that a device asks for at once, so that they fit a message.
+const MAX_LENGTH: u32 = 240;
+
+/// The result of work that succeeded.
+const SUCCEEDED: u8 = 0;
+
+/// The activation methods are those of the device's parameters.
+const SAME_METHODS: u16 = 0;
+
+impl<B: Bank> Device<B> {
+    /// The request that the device has for the agent, if it has one: the next bytes of the image, or a report.
+    pub fn wish(&self) -> Option<Command<'static>>
+        ensures { option_map command_of result ≡ device_wish self.now.device }
+    {
+        let progress = self.course.progress;
+        match self.course.state {
+            State::Download => match progress {
+                Progress::InProgress => Some(Command::RequestFirmwareData {
+                    offset: self.work.received,
+                    length: length_to_ask(
+                        self.update.transfer_size,
+                        self.work.size - self.work.received,
+                    ),
+                }),
+                _ => {
+                    let result = report(progress, TRANSFER_FAILED)?;
+                    Some(Command::TransferComplete { result })
+                }
+            },
+            State::Verify => {
+                let result = report(progress, VERIFICATION_FAILED)?;
+                Some(Command::VerifyComplete { result })
+            }
+            State::Apply => {
+                let result = report(progress, APPLICATION_FAILED)?;
+                Some(Command::ApplyComplete {
+                    result,
+                    methods: SAME_METHODS,
+                })
+            }
+            _ => None,
+        }
+    }
+}
+
+/// The result that is to be reported.
+fn report(progress: Progress, failure: u8) -> Option<u8>
+    ensures { result ≡ report_of progress failure }
+{
+    match progress {
+        Progress::InProgress | Progress::Failed { reported: true } => None,
+        Progress::Succeeded => Some(SUCCEEDED),
+        Progress::Failed { reported: false } => Some(failure),
+    }
+}
+
+/// How many bytes are asked for at once: what is missing, at most as many as the agent gives and as fit a message, and
+/// never fewer than the least length.
+pub(super) fn length_to_ask(transfer_size: u32, missing: u32) -> u32
+    ensures length { result ≡ max 32 (min 240 (min transfer_size missing)) }
+    ensures most { result ≤ 240 }
+{
+    MIN_LENGTH.max(MAX_LENGTH.min(transfer_size.min(missing)))
+}

@@ -1,0 +1,78 @@
+//! What is kept of an image's version.
+
+ghost use Rattle.std.specs.Prelude.{◌≡◌, ◌≤◌, length};
+ghost use Rattle.fd_core.specs.Images.{label_of, version_by};
+ghost use Rattle.fwup_wire.specs.Lent.{version_of};
+
+use arrayvec::ArrayVec;
+use fwup_wire::{Text, Version};
+use std::marker::Model;
+
+/// The most bytes of a version text that are kept, so that the parameters of all components fit one answer.
+pub const MAX_TEXT: usize = 12;
+
+/// What an image calls itself, as a bank keeps it.
+#[derive(Debug, Drop)]
+pub struct Label {
+    stamp: u32,
+    text_type: u8,
+    text: ArrayVec<u8, MAX_TEXT>,
+}
+
+impl Model for Label {
+    ghost use Rattle.fd_core.specs.Images.{LabelOf};
+
+    ghost Value = { LabelOf };
+
+    ghost view = { λ a. record { stamp = a.stamp; text_type = a.text_type; text = a.text.items } };
+}
+
+impl Label {
+    /// The label of an image of this version: its text is cut to the bytes that are kept.
+    pub fn new(version: &Version<'_>) -> Label
+        ensures { result ≡ label_of (version_of version.now) }
+    {
+        let bytes = version.text.bytes;
+        let mut text = ArrayVec::new();
+        let _ = text.try_extend_from_slice(&bytes[..bytes.len().min(MAX_TEXT)]);
+        Label {
+            stamp: version.stamp,
+            text_type: version.text.text_type,
+            text,
+        }
+    }
+
+    /// The same label again.
+    pub fn copied(&self) -> Label
+        ensures { result ≡ self.now }
+    {
+        let mut text = ArrayVec::new();
+        let _ = text.try_extend_from_slice(self.text.as_slice());
+        Label {
+            stamp: self.stamp,
+            text_type: self.text_type,
+            text,
+        }
+    }
+
+    /// The comparison stamp.
+    pub fn stamp(&self) -> u32
+        ensures { result ≡ self.now.stamp }
+    {
+        self.stamp
+    }
+
+    /// The version, its text lent.
+    pub fn version(&self) -> Version<'_>
+        ensures version { version_of result ≡ version_by self.now }
+        ensures short { length self.now.text ≤ 12 }
+    {
+        Version {
+            stamp: self.stamp,
+            text: Text {
+                text_type: self.text_type,
+                bytes: self.text.as_slice(),
+            },
+        }
+    }
+}

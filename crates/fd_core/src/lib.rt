@@ -1,0 +1,25 @@
+//! A firmware device under update (DSP0267 1.0): the banks that it keeps its images in, and its state machine.
+#![tactic(auto)]
+
+mod bank;
+#[cfg(test)]
+mod bank_tests;
+mod device;
+#[cfg(test)]
+mod fixtures;
+mod labels;
+mod memory;
+mod parts;
+mod states;
+#[cfg(test)]
+mod tests;
+#[cfg(test)]
+mod update_tests;
+
+pub use bank::{Bank, BankFault};
+pub use device::Device;
+pub use fwup_wire::Key;
+pub use labels::{Label, MAX_TEXT};
+pub use memory::MemBank;
+pub use parts::{Component, MAX_COMPONENTS, MAX_IMAGE};
+pub use states::{NotNow, Progress, Reason, State, Verdict};

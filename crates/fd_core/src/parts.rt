@@ -1,0 +1,107 @@
+//! What a device keeps of its configuration and of an update.
+
+ghost use Rattle.std.specs.Prelude.{◌≡◌};
+ghost use Rattle.fd_core.specs.declared.states.Progress.TheVariants.{InProgress};
+
+use crate::labels::Label;
+use crate::states::{Progress, Reason, State};
+use arrayvec::ArrayVec;
+use fwup_wire::Key;
+
+/// The most components of a device: their parameters fit one answer.
+pub const MAX_COMPONENTS: usize = 3;
+
+/// The most components of an update.
+pub const MAX_TABLE: usize = 8;
+
+/// The most bytes of an image.
+pub const MAX_IMAGE: u32 = 1_048_576;
+
+/// The key that stands where there is none.
+pub const NO_KEY: Key = Key {
+    classification: 0,
+    identifier: 0,
+};
+
+/// A component as it is configured.
+#[derive(Clone, Copy, Debug, PartialEq, Eq)]
+pub struct Component {
+    /// The component.
+    pub key: Key,
+    /// Which of several components of its classification in the device.
+    pub index: u8,
+}
+
+/// A component of the update, and what stands against it, as `fwup_wire::code::response`.
+#[derive(Clone, Copy, Debug, PartialEq, Eq)]
+pub struct Listed {
+    pub key: Key,
+    pub code: u8,
+}
+
+impl Default for Component {
+    /// The component of key 0, 0: `ArrayVec` fills its unused places with it.
+    fn default() -> Self {
+        Component {
+            key: NO_KEY,
+            index: 0,
+        }
+    }
+}
+
+impl Default for Listed {
+    /// The component of key 0, 0: `ArrayVec` fills its unused places with it.
+    fn default() -> Self {
+        Listed {
+            key: NO_KEY,
+            code: 0,
+        }
+    }
+}
+
+/// What RequestUpdate said, and the components that were passed since.
+#[derive(Debug, Drop)]
+pub struct Update {
+    /// The most bytes that the agent gives at once.
+    pub transfer_size: u32,
+    /// How many components the update has.
+    pub components: u16,
+    pub table: ArrayVec<Listed, MAX_TABLE>,
+}
+
+/// What UpdateComponent said, and how many bytes of the image are stored.
+#[derive(Debug, Drop)]
+pub struct Work {
+    pub key: Key,
+    /// The image's bytes.
+    pub size: u32,
+    pub label: Label,
+    pub force: bool,
+    pub received: u32,
+}
+
+/// Where a device is, how it came there, and the ticks without a change.
+#[derive(Clone, Copy, Debug)]
+pub struct Course {
+    pub state: State,
+    /// Of DOWNLOAD, VERIFY and APPLY; elsewhere it says nothing.
+    pub progress: Progress,
+    /// The state before the last change of state.
+    pub previous: State,
+    /// Why the device was last idle.
+    pub reason: Reason,
+    /// In ticks, below `PATIENCE`.
+    pub idle: u8,
+}
+
+impl Course {
+    /// Goes to a state, whose work is in progress.
+    pub fn go(&mut self, state: State)
+        ensures { self.new ≡ record self.old { state = state; progress = InProgress; previous = self.old.state; idle = 0 } }
+    {
+        self.previous = self.state;
+        self.state = state;
+        self.progress = Progress::InProgress;
+        self.idle = 0;
+    }
+}
