@@ -1,5 +1,5 @@
 -- Lemmas on what is held.
-use Rattle.std.proofs.Common.{◌≡◌, ◌+◌, ◌*◌, ◌==◌, ◌≤◌, ◌∙◌, ℕ, zero, suc, Bool, false, List, [], ◌∷◌, ◌++◌, Some, length, drop, refl, sym, ap, arith, append_assoc, append-nil}
+use Rattle.std.proofs.Common.{◌≡◌, ◌≢◌, ◌+◌, ◌*◌, ◌==◌, ◌≤◌, ◌∙◌, ℕ, zero, suc, Bool, false, List, [], ◌∷◌, ◌++◌, Some, length, drop, refl, sym, ap, arith, append_assoc, append-nil}
 use Rattle.std.proofs.lemmas.List.{length-drop, length-take-le, take-append-drop, take-append-le, drop-append-le, take_all}
 use Rattle.std.proofs.lemmas.Bool.{ne_eqb}
 use Rattle.mctp_wire.specs.declared.layout.Head.{Head}
@@ -101,4 +101,13 @@ opened_same (suc count) r xs h e = e
 pub held_same : (r : Route) (xs : List ℕ) (count age : ℕ) (h : Head) → r ≡ route_of h → IsOfSame (packets_of (held_of r xs count age)) h
 held_same r xs count age h e = rw (packets_held r xs count age) (opened_same count r xs h e)
 
-pub ruleset held = (opened_count, held_count, held_more, held_bodies, held_lawful, held_same)
+opened_route : (count : ℕ) (r : Route) (xs : List ℕ) (h : Head) → IsOfSame (opened (suc count) r 0 xs) h → r ≡ route_of h
+unfolding opened
+opened_route count r xs h same = same
+
+-- a packet of what is held has its route
+pub held_route : (r : Route) (xs : List ℕ) (count age : ℕ) (h : Head) → count ≢ 0 → IsOfSame (packets_of (held_of r xs count age)) h → r ≡ route_of h
+held_route r xs zero age h some same = absurd (some refl)
+held_route r xs (suc count) age h some same = opened_route count r xs h (rw (packets_held r xs (suc count) age) at same)
+
+pub ruleset held = (opened_count, held_count, held_more, held_bodies, held_lawful, held_same, held_route)

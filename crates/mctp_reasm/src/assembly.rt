@@ -108,9 +108,9 @@ impl Assembly {
         next_cause(count, packet)
     }
 
-    /// Whether `feed` may be called: the packet starts a message, or is of the one that is held.
+    /// Whether `feed` may be called: the packet starts a message, nothing is held, or the packet is of what is held.
     pub fn is_for(&self, packet: &Packet<'_>) -> bool
-        ensures { result ≡ true → (packet.now.head.som ≡ true) ⊎ IsOfSame (packets_of self.now) packet.now.head }
+        ensures { (result ≡ true) ↔ ((packet.now.head.som ≡ true) ⊎ IsOfSame (packets_of self.now) packet.now.head) }
     {
         if packet.head.som {
             return true;
@@ -118,10 +118,10 @@ impl Assembly {
         self.is_same(packet)
     }
 
-    /// Whether the packet is of the message that is held.
+    /// Whether the packet is of the message that is held, or nothing is held.
     #[tactic(auto, using(crate::proofs::Opened::held))]
     fn is_same(&self, packet: &Packet<'_>) -> bool
-        ensures { result ≡ true → IsOfSame (packets_of self.now) packet.now.head }
+        ensures { (result ≡ true) ↔ IsOfSame (packets_of self.now) packet.now.head }
     {
         if self.pieces == 0 {
             return true;
