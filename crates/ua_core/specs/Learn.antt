@@ -3,7 +3,7 @@ use Rattle.std.specs.Prelude.{Bool, Err, List, None, Ok, Option, Result, Some, [
 use Rattle.fw_package.specs.Choice.{component_at, plan_of, record_number}
 use Rattle.fw_package.specs.Package.{ComponentOf, PackageText}
 use Rattle.fw_package.specs.declared.fault.PlanFault.{PlanFault}
-use Rattle.fwup_wire.specs.Values.{AnswerOf, ParametersOf}
+use Rattle.fwup_wire.specs.Values.{AnswerOf, DescriptorOf, ParametersOf}
 use Rattle.fwup_wire.specs.declared.answer.Malformed.{Malformed}
 use Rattle.fwup_wire.specs.declared.values.Key.{Key}
 use Rattle.ua_core.specs.Lent.{is_forced, key_of, told_descriptor}
@@ -24,18 +24,25 @@ fails cause = LearnRow.Go (Stage.Failed cause)
 abbrev pub unlearnt : ℕ → Planned
 unlearnt number = record { component = number; index = 0 }
 
--- Query: the first record for the device, and what it plans
-abbrev pub planned : ℕ → Result (List ℕ) PlanFault → Stage
-planned chosen (Err _) = Stage.Failed causes.Plan
-planned chosen (Ok []) = Stage.Failed causes.NothingToUpdate
-planned chosen (Ok (n ∷ ns)) = Stage.Params (record { chosen = chosen; plan = map unlearnt (n ∷ ns) })
+-- Query: the first record for the device, and what it plans; or why there is nothing to send
+abbrev pub planned : ℕ → Result (List ℕ) PlanFault → Result JobOf Cause
+planned chosen (Err _) = Err causes.Plan
+planned chosen (Ok []) = Err causes.NothingToUpdate
+planned chosen (Ok (n ∷ ns)) = Ok (record { chosen = chosen; plan = map unlearnt (n ∷ ns) })
 
-abbrev pub chosen : PackageText → Option ℕ → Stage
-chosen p None = Stage.Failed causes.NoRecord
-chosen p (Some number) = planned number (plan_of p number)
+abbrev pub job_of : PackageText → Option ℕ → Result JobOf Cause
+job_of p None = Err causes.NoRecord
+job_of p (Some number) = planned number (plan_of p number)
+
+abbrev pub job_for : PackageText → List DescriptorOf → Result JobOf Cause
+job_for p ds = job_of p (record_number p (map told_descriptor ds))
+
+abbrev pub begun : Result JobOf Cause → Stage
+begun (Err cause) = Stage.Failed cause
+begun (Ok j) = Stage.Params j
 
 abbrev pub query_row : PackageText → Result AnswerOf Malformed → LearnRow
-query_row p (Ok (AnswerOf.QueryDeviceIdentifiers ds)) = LearnRow.Go (chosen p (record_number p (map told_descriptor ds)))
+query_row p (Ok (AnswerOf.QueryDeviceIdentifiers ds)) = LearnRow.Go (begun (job_for p ds))
 query_row p a = fails causes.Answer
 
 -- Params: the index of each component in the device, 0 where the device doesn't name it

@@ -18,6 +18,15 @@ pub struct Planned {
 /// Components of a plan, in its order.
 pub type PlannedList = ArrayVec<Planned, PLAN_LIMIT>;
 
+/// What is fixed once the device is known.
+#[derive(Debug, Drop)]
+pub struct Job {
+    /// The number of the package's record for the device.
+    pub chosen: usize,
+    /// The components to be sent.
+    pub plan: PlannedList,
+}
+
 /// A component that a device applied.
 #[derive(Clone, Copy, Debug, PartialEq, Eq)]
 pub struct Recorded {

@@ -6,7 +6,7 @@ ghost use Rattle.ua_core.specs.Session.{state_of};
 
 use crate::fault::{NotReady, StartFault};
 use crate::mark::Mark;
-use crate::planned::{Planned, PlannedList, Recorded};
+use crate::planned::{Job, Planned, PlannedList, Recorded};
 use crate::position::{IDLE_LIMIT, Position};
 use crate::state::{Cause, SessionState};
 use fw_package::PLAN_LIMIT;
@@ -16,15 +16,6 @@ use std::marker::Model;
 mod learning;
 mod serving;
 mod wishing;
-
-/// What is fixed once the device is known.
-#[derive(Debug, Drop)]
-struct Job {
-    /// The number of the package's record for the device.
-    chosen: usize,
-    /// The components to be sent.
-    plan: PlannedList,
-}
 
 /// The agent's session with one device: an update under way, and the records of what the device applied. The calls that
 /// need its package are lent it. Only `start` takes memory.

@@ -35,9 +35,7 @@ impl Session {
         ensures idle { self.new.idle ≡ agent_idle lent.now self.old.session self.old.idle (command_of command.now) }
     {
         match command {
-            Command::RequestFirmwareData { offset, length } => {
-                self.data(*offset, *length, lent)
-            }
+            Command::RequestFirmwareData { offset, length } => { self.data(*offset, *length, lent) }
             Command::TransferComplete { result } => code_alone(self.transfer_complete(*result)),
             Command::VerifyComplete { result } => code_alone(self.verify_complete(*result)),
             Command::ApplyComplete { result, .. } => code_alone(self.apply_complete(*result)),
@@ -93,7 +91,8 @@ impl Session {
     {
         match self.position.state {
             SessionState::Verify => {
-                self.position.go(next(outcome, SessionState::Apply, Cause::Verify));
+                self.position
+                    .go(next(outcome, SessionState::Apply, Cause::Verify));
                 SUCCESS
             }
             SessionState::Apply if outcome == GOOD => SUCCESS,
