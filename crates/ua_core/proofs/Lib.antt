@@ -1,2 +1,4 @@
 pub mod Padding
 pub mod Known
+pub mod Lawful
+pub mod InPlan

@@ -6,3 +6,4 @@ pub mod Lent
 pub mod Serve
 pub mod Session
 pub mod Wish
+pub mod Laws

@@ -4,6 +4,7 @@
 
 mod fault;
 mod happening;
+mod laws;
 mod lent;
 mod mark;
 mod piece;
@@ -12,9 +13,12 @@ mod plans;
 mod position;
 mod session;
 mod state;
+#[cfg(test)]
+mod tests;
 
 pub use fault::{NotReady, StartFault};
 pub use happening::{Happening, happened};
+pub use laws::{records_what_is_applied, stays_in_plan, wish_stands};
 pub use lent::Lent;
 pub use mark::Mark;
 pub use planned::Recorded;
