@@ -2,3 +2,4 @@ pub mod Padding
 pub mod Known
 pub mod Lawful
 pub mod InPlan
+pub mod Windows

@@ -25,3 +25,8 @@ pub fn stays_in_plan()
 {
     fw_package::plans_named_images();
 }
+
+/// Pieces put behind each other continue the image: cut to its size, they are its beginning.
+pub fn pieces_continue()
+    ensures { WindowContinues }
+{}
