@@ -2,7 +2,7 @@
 use Rattle.std.specs.Prelude.{List, [], length, map, slice_set, take, ◌+◌, ◌++◌, ◌∷◌, ◌<◌, ◌≡◌, ℕ}
 use Rattle.std.proofs.Common.{ap, sym, ◌∙◌}
 use Rattle.std.proofs.lemmas.List.{append_assoc, map-append, take_more_set}
-use Rattle.fw_package.specs.Package.{DescriptorOf as DescriptorKnown, descriptor_of}
+use Rattle.fw_package.specs.Package.{descriptor_of}
 use Rattle.fw_package.specs.declared.texts.Descriptor.{Descriptor}
 use Rattle.fwup_wire.specs.Values.{DescriptorOf}
 use Rattle.ua_core.specs.Lent.{told_descriptor}

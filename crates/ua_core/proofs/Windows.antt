@@ -1,6 +1,6 @@
 -- Pieces put behind each other.
 use Prim.Native.Nat.{suc, zero}
-use Rattle.std.specs.Prelude.{List, [], drop, length, replicate, take, ◌+◌, ◌++◌, ◌-◌, ◌∷◌, ◌≡◌, ℕ}
+use Rattle.std.specs.Prelude.{List, [], length, replicate, take, ◌+◌, ◌++◌, ◌-◌, ◌∷◌, ◌≡◌, ℕ}
 use Rattle.std.proofs.Common.{ap, arith, refl}
 use Rattle.ua_core.specs.Laws.{WindowContinues}
 use Rattle.ua_core.specs.Serve.{window}

@@ -1,8 +1,7 @@
 -- The operator's calls, time and restarts.
 use Rattle.std.specs.Prelude.{None, Option, Some, [], false, true, Bool, if◌then◌else◌, not, ◌+◌, ◌==◌, ℕ}
 use Rattle.std.specs.Option.{option_map}
-use Rattle.ua_core.specs.Session.{JobOf, SessionOf, Stage, TimedOf, at_stage, is_free_state, state_of}
-use Rattle.ua_core.specs.declared.state.Cause.{Cause}
+use Rattle.ua_core.specs.Session.{SessionOf, Stage, TimedOf, at_stage, is_free_state, state_of}
 use Rattle.ua_core.specs.declared.state.Cause.TheVariants as causes
 
 -- a session as it is made

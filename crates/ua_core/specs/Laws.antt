@@ -1,5 +1,5 @@
 -- What holds of every session, as the proof over a pair of agent and device needs it.
-use Rattle.std.specs.Prelude.{[], All, Contains, IsSome, List, None, Ok, Result, Some, length, map, take, drop, ◌++◌, ◌<◌, ◌≡◌, ◌≤◌, ◌+◌, ℕ}
+use Rattle.std.specs.Prelude.{[], All, Contains, IsSome, List, Ok, Result, Some, length, map, take, ◌++◌, ◌≡◌, ◌+◌, ℕ}
 use Rattle.fw_package.specs.Choice.{component_at, plan_of, record_number}
 use Rattle.fw_package.specs.Package.{PackageText}
 use Rattle.fwup_wire.specs.Values.{AnswerOf, CommandOf, DescriptorOf}

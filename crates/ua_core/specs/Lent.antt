@@ -1,7 +1,6 @@
 -- What a session reads from the package that it is lent.
-use Rattle.std.specs.Prelude.{Bool, List, None, Option, Some, [], if◌then◌else◌, length, nat_lt, ◌%◌, ◌/◌, ◌==◌, ℕ}
+use Rattle.std.specs.Prelude.{Bool, None, Option, Some, [], if◌then◌else◌, length, nat_lt, ◌%◌, ◌/◌, ◌==◌, ℕ}
 use Rattle.std.specs.Borrow.{Bor}
-use Rattle.fw_package.specs.Choice.{component_at, record_at}
 use Rattle.fw_package.specs.Package.{ComponentOf, PackageText}
 use Rattle.fw_package.specs.Package.{DescriptorOf as DescriptorKnown, TextOf as TextKept}
 use Rattle.fwup_wire.specs.Values.{DescriptorOf, TextOf, VersionOf}

@@ -1,12 +1,11 @@
 -- The device's commands to the agent (DSP0267 1.0): which row of the table one takes, and what it does.
-use Rattle.std.specs.Prelude.{List, [], false, true, if◌then◌else◌, nat_lt, ◌&&◌, ◌||◌, ◌+◌, ◌++◌, ◌==◌, ◌∷◌, ◌-◌, drop, length, replicate, take, ℕ}
+use Rattle.std.specs.Prelude.{List, [], if◌then◌else◌, nat_lt, ◌&&◌, ◌||◌, ◌+◌, ◌++◌, ◌==◌, ◌∷◌, ◌-◌, drop, length, replicate, take, ℕ}
 use Rattle.fw_package.specs.Choice.{component_at}
 use Rattle.fw_package.specs.Package.{PackageText}
 use Rattle.fwup_wire.specs.Values.{AnswerOf, CommandOf}
 use Rattle.ua_core.specs.Session.{SessionOf, Stage, TaskOf, at_stage}
 use Rattle.ua_core.specs.declared.planned.Planned.{Planned}
 use Rattle.ua_core.specs.declared.planned.Recorded.{Recorded}
-use Rattle.ua_core.specs.declared.state.Cause.{Cause}
 use Rattle.ua_core.specs.declared.state.Cause.TheVariants as causes
 
 -- so many bytes of an image from an offset on, and zeros past its end

@@ -1,12 +1,12 @@
 -- Which command a session wishes to ask.
-use Rattle.std.specs.Prelude.{List, None, Option, Some, [], false, true, if◌then◌else◌, length, ◌+◌, ◌==◌, ℕ}
+use Rattle.std.specs.Prelude.{None, Option, Some, true, if◌then◌else◌, length, ◌+◌, ◌==◌, ℕ}
 use Rattle.fw_package.specs.Choice.{component_at, record_at}
 use Rattle.fw_package.specs.Package.{PackageText}
 use Rattle.fwup_wire.specs.Values.{CommandOf}
 use Rattle.fwup_wire.specs.declared.values.TransferFlag.{TransferFlag}
 use Rattle.fwup_wire.specs.declared.values.TransferFlag.TheVariants as flags
 use Rattle.ua_core.specs.Lent.{is_forced, key_of, sent_size, sent_text, sent_version}
-use Rattle.ua_core.specs.Session.{JobOf, SessionOf, Stage, TaskOf}
+use Rattle.ua_core.specs.Session.{JobOf, SessionOf, Stage}
 use Rattle.ua_core.specs.declared.planned.Planned.{Planned}
 
 -- the place of an entry in a table of so many, by how many come after it

@@ -1,4 +1,4 @@
-use Rattle.std.proofs.Common.{rules, refl, slice_set, length, ◌<◌, ◌≡◌, ◌+◌, ℕ}
+use Rattle.std.proofs.Common.{rules, refl, slice_set, length, ◌<◌, ◌≡◌, ◌+◌}
 use Rattle.fwup_wire.specs.Lent.{descriptor_of}
 use Rattle.ua_core.proofs.Known.{known_step}
 use Rattle.ua_core.proofs.lent.known.Goals as goal
