@@ -1,7 +1,7 @@
 //! Lists of descriptors as they are sent.
 
 ghost use Rattle.std.specs.Iterator.{YieldsFirstBy, item_count};
-ghost use Rattle.std.specs.Prelude.{IsTrue, Some, List, [], drop, length, unwrap_or, ◌↔◌, ◌≡◌, ◌<◌, ℕ};
+ghost use Rattle.std.specs.Prelude.{IsTrue, Some, List, [], drop, length, unwrap_or, ◌↔◌, ◌≡◌, ◌<◌, ◌≤◌, ℕ};
 ghost use Rattle.fwup_wire.specs.Lent.{descriptor_of};
 ghost use Rattle.fwup_wire.specs.Descriptors.{AreDescriptors, descriptors_bytes, descriptors_in};
 
@@ -62,7 +62,8 @@ impl<'a> Descriptors<'a> {
 
     /// How many descriptors are left.
     pub fn len(&self) -> usize
-        ensures { result ≡ length self.now }
+        ensures count { result ≡ length self.now }
+        ensures few { result ≤ 255 }
     {
         usize::from(self.count)
     }

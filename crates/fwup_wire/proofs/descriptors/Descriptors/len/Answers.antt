@@ -3,8 +3,8 @@ use Rattle.fwup_wire.proofs.Items.{items_length}
 use Rattle.fwup_wire.proofs.descriptors.Descriptors.len.Goals as goal
 use Rattle.fwup_wire.specs.Descriptors.{descriptor_size, first_descriptor}
 
-pub returns : goal.returns
-returns c =
+pub returns-clause-count : goal.returns-clause-count
+returns-clause-count c =
     c.from.ensures
     ∙ sym
     (items_length first_descriptor descriptor_size c.self.inside.count c.self.inside.bytes.now c.args.self.now

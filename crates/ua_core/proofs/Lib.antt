@@ -1,0 +1,5 @@
+pub mod Padding
+pub mod Known
+pub mod Lawful
+pub mod InPlan
+pub mod Windows

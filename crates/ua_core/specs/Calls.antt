@@ -1,0 +1,66 @@
+-- The operator's calls, time and restarts.
+use Rattle.std.specs.Prelude.{None, Option, Some, [], false, true, Bool, if◌then◌else◌, not, ◌+◌, ◌==◌, ℕ}
+use Rattle.std.specs.Option.{option_map}
+use Rattle.ua_core.specs.Session.{SessionOf, Stage, TimedOf, at_stage, is_free_state, state_of}
+use Rattle.ua_core.specs.declared.state.Cause.TheVariants as causes
+
+-- a session as it is made
+abbrev pub new_session : TimedOf
+new_session = record { session = record { stage = Stage.Idle; number = 0; records = [] }; idle = 0 }
+
+-- no update is under way
+abbrev pub is_free : SessionOf → Bool
+is_free s = is_free_state (state_of s.stage)
+
+-- an update with the package of this number starts
+abbrev pub agent_started : SessionOf → ℕ → SessionOf
+agent_started s number = record { stage = Stage.Query; number = number; records = s.records }
+
+-- a cancel changes something
+abbrev pub may_cancel : Stage → Bool
+may_cancel Stage.Idle = false
+may_cancel Stage.Cancelling = false
+may_cancel _ = true
+
+-- where a cancel leads
+abbrev pub agent_cancelled : SessionOf → SessionOf
+agent_cancelled s = if may_cancel s.stage then at_stage s Stage.Cancelling else s
+
+-- where an activation leads, if it is time for one
+abbrev pub activated_stage : Stage → Option Stage
+activated_stage (Stage.AllApplied j) = Some (Stage.Activate j)
+activated_stage _ = None
+
+abbrev pub agent_activated : SessionOf → Option SessionOf
+agent_activated s = option_map (at_stage s) (activated_stage s.stage)
+
+-- where it leads that the device gave no answer
+abbrev pub silent_stage : Stage → Stage
+silent_stage Stage.Cancelling = Stage.Idle
+silent_stage _ = Stage.Failed causes.Silent
+
+abbrev pub agent_silent : SessionOf → SessionOf
+agent_silent s = at_stage s (silent_stage s.stage)
+
+-- the stages that time ends
+abbrev pub times_out : Stage → Bool
+times_out g = not (is_free_state (state_of g))
+
+-- where it leads that nothing moved for too long
+abbrev pub timeout_stage : Stage → Stage
+timeout_stage Stage.Cancelling = Stage.Idle
+timeout_stage g = if times_out g then Stage.Failed causes.TimeOut else g
+
+abbrev pub agent_timeout : SessionOf → SessionOf
+agent_timeout s = at_stage s (timeout_stage s.stage)
+
+-- a tick in which nothing moved: the 240th in a row ends the update
+abbrev pub idle_ticked : TimedOf → TimedOf
+idle_ticked s =
+    if not (times_out s.session.stage) then s
+    else if s.idle + 1 == 240 then record { session = agent_timeout s.session; idle = 0 }
+    else record { session = s.session; idle = s.idle + 1 }
+
+-- what a restart leaves: the records and the number of the package
+abbrev pub agent_restart : SessionOf → SessionOf
+agent_restart s = at_stage s Stage.Idle

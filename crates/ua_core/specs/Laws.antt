@@ -1,0 +1,101 @@
+-- What holds of every session, as the proof over a pair of agent and device needs it.
+use Rattle.std.specs.Prelude.{[], All, Contains, IsSome, List, Ok, Result, Some, length, map, take, ◌++◌, ◌≡◌, ◌+◌, ℕ}
+use Rattle.fw_package.specs.Choice.{component_at, plan_of, record_number}
+use Rattle.fw_package.specs.Package.{PackageText}
+use Rattle.fwup_wire.specs.Values.{AnswerOf, CommandOf, DescriptorOf}
+use Rattle.fwup_wire.specs.declared.answer.Malformed.{Malformed}
+use Rattle.ua_core.specs.Learn.{agent_learn}
+use Rattle.ua_core.specs.Lent.{key_of, told_descriptor}
+use Rattle.ua_core.specs.Serve.{agent_after, recorded_by, window}
+use Rattle.ua_core.specs.Session.{JobOf, SessionOf, Stage, TaskOf}
+use Rattle.ua_core.specs.Wish.{agent_wish}
+use Rattle.ua_core.specs.declared.planned.Planned.{Planned}
+
+-- the number of a planned component
+abbrev pub number_of : Planned → ℕ
+number_of i = i.component
+
+-- the job's components are those that the package plans for its record
+abbrev pub IsPlanned : PackageText → JobOf → Type 0
+IsPlanned p j = plan_of p j.chosen ≡ Ok (map number_of j.plan)
+
+-- the component at hand and those to do are of the plan
+abbrev pub IsOfPlan : JobOf → Planned → Type 0
+IsOfPlan j i = Contains j.plan i
+
+abbrev pub IsTask : PackageText → TaskOf → Type 0
+IsTask p t = IsPlanned p t.job × IsOfPlan t.job t.at_hand × All (IsOfPlan t.job) t.todo
+
+-- what holds at each stage
+abbrev pub StandsInPlan : PackageText → Stage → Type 0
+StandsInPlan p (Stage.Params j) = IsPlanned p j
+StandsInPlan p (Stage.ClearOld j) = IsPlanned p j
+StandsInPlan p (Stage.Request j) = IsPlanned p j
+StandsInPlan p (Stage.Pass j i left todo) = IsPlanned p j × IsOfPlan j i × All (IsOfPlan j) left × All (IsOfPlan j) todo
+StandsInPlan p (Stage.Update t) = IsTask p t
+StandsInPlan p (Stage.Download t) = IsTask p t
+StandsInPlan p (Stage.Verify t) = IsTask p t
+StandsInPlan p (Stage.Apply t) = IsTask p t
+StandsInPlan p (Stage.AllApplied j) = IsPlanned p j
+StandsInPlan p (Stage.Activate j) = IsPlanned p j
+StandsInPlan p _ = Unit {0}
+
+-- a device's command keeps the session in the plan
+abbrev pub ServesInPlan : Type 0
+ServesInPlan = (p : PackageText) (s : SessionOf) (c : CommandOf) → StandsInPlan p s.stage → StandsInPlan p (agent_after p s c).stage
+
+-- and so does an answer
+abbrev pub LearnsInPlan : Type 0
+LearnsInPlan = (p : PackageText) (s : SessionOf) (a : Result AnswerOf Malformed) → StandsInPlan p s.stage → StandsInPlan p (agent_learn p s a).stage
+
+-- the record that the device's descriptors choose is the job's
+abbrev pub HasChosen : PackageText → List DescriptorOf → Stage → Type 0
+HasChosen p ds (Stage.Params j) = record_number p (map told_descriptor ds) ≡ Some j.chosen
+HasChosen p ds _ = Unit {0}
+
+abbrev pub ChoosesRecord : Type 0
+ChoosesRecord = (p : PackageText) (s : SessionOf) (ds : List DescriptorOf) → s.stage ≡ Stage.Query
+    → HasChosen p ds (agent_learn p s (Ok (AnswerOf.QueryDeviceIdentifiers ds))).stage
+
+-- two components of a plan with the same key are one
+abbrev pub PlansKeysOnce : Type 0
+PlansKeysOnce = (p : PackageText) (j : JobOf) (n m : ℕ) → IsPlanned p j → Contains (map number_of j.plan) n → Contains (map number_of j.plan) m
+    → key_of (component_at p n) ≡ key_of (component_at p m) → n ≡ m
+
+-- a stage that waits for nothing of the update's own
+abbrev pub IsLoose : Stage → Type 0
+IsLoose Stage.Idle = Unit {0}
+IsLoose Stage.Query = Unit {0}
+IsLoose Stage.Done = Unit {0}
+IsLoose Stage.Cancelling = Unit {0}
+IsLoose (Stage.Failed _) = Unit {0}
+IsLoose _ = ⊥
+
+-- a command that leads to such a stage makes no record
+abbrev pub LooseRecordsNothing : Type 0
+LooseRecordsNothing = (p : PackageText) (s : SessionOf) (c : CommandOf) → IsLoose (agent_after p s c).stage → (agent_after p s c).records ≡ s.records
+
+-- the records grow by what is recorded
+abbrev pub RecordsGrow : Type 0
+RecordsGrow = (p : PackageText) (s : SessionOf) (c : CommandOf) → (agent_after p s c).records ≡ s.records ++ recorded_by p s c
+
+-- a record is made where the device applies the component at hand, and nowhere else
+abbrev pub IsApplying : Stage → Type 0
+IsApplying (Stage.Apply _) = Unit {0}
+IsApplying _ = ⊥
+
+abbrev pub RecordsInApply : Type 0
+RecordsInApply = (p : PackageText) (s : SessionOf) (c : CommandOf) → (IsApplying s.stage → ⊥) → recorded_by p s c ≡ []
+
+-- an answer records nothing
+abbrev pub LearnsNoRecord : Type 0
+LearnsNoRecord = (p : PackageText) (s : SessionOf) (a : Result AnswerOf Malformed) → (agent_learn p s a).records ≡ s.records
+
+-- while the session wishes a command, the device's commands leave it as it is
+abbrev pub WishStands : Type 0
+WishStands = (p : PackageText) (s : SessionOf) (c : CommandOf) → IsSome (agent_wish p s) → agent_after p s c ≡ s
+
+-- pieces put behind each other continue the image: what stands past its end is cut off
+abbrev pub WindowContinues : Type 0
+WindowContinues = (image : List ℕ) (offset size : ℕ)
+    → take (length image) (take offset image ++ window image offset size) ≡ take (offset + size) image

@@ -1,0 +1,48 @@
+-- What a session reads from the package that it is lent.
+use Rattle.std.specs.Prelude.{Bool, None, Option, Some, [], if◌then◌else◌, length, nat_lt, ◌%◌, ◌/◌, ◌==◌, ℕ}
+use Rattle.std.specs.Borrow.{Bor}
+use Rattle.fw_package.specs.Package.{ComponentOf, PackageText}
+use Rattle.fw_package.specs.Package.{DescriptorOf as DescriptorKnown, TextOf as TextKept}
+use Rattle.fwup_wire.specs.Values.{DescriptorOf, TextOf, VersionOf}
+use Rattle.fwup_wire.specs.declared.values.Key.{Key}
+
+-- the package that stands for none
+abbrev pub no_package : PackageText
+no_package = record { header_size = 0; records = []; components = [] }
+
+-- the package that is lent, if one is
+abbrev pub lent : Option (Bor PackageText) → PackageText
+lent None = no_package
+lent (Some p) = p.now
+
+-- option bit 0: the update is forced
+abbrev pub is_forced : ComponentOf → Bool
+is_forced c = (c.options % 2) == 1
+
+-- option bit 1: the comparison stamp is used
+abbrev pub uses_stamp : ComponentOf → Bool
+uses_stamp c = ((c.options / 2) % 2) == 1
+
+-- the comparison stamp as it is sent: all ones where it isn't used
+abbrev pub sent_stamp : ComponentOf → ℕ
+sent_stamp c = if uses_stamp c then c.stamp else 0xFFFFFFFF
+
+-- the size as it is sent. No planned image reaches the field's limit
+abbrev pub sent_size : ComponentOf → ℕ
+sent_size c = if nat_lt 0xFFFFFFFF (length c.image) then 0xFFFFFFFF else length c.image
+
+-- a text as it is sent
+abbrev pub sent_text : TextKept → TextOf
+sent_text t = record { text_type = t.kind; bytes = t.bytes }
+
+-- what the component's new image calls itself
+abbrev pub sent_version : ComponentOf → VersionOf
+sent_version c = record { stamp = sent_stamp c; text = sent_text c.text }
+
+-- the component's key
+abbrev pub key_of : ComponentOf → Key
+key_of c = record { classification = c.classification; identifier = c.identifier }
+
+-- a device's descriptor, as a package is asked for it
+abbrev pub told_descriptor : DescriptorOf → DescriptorKnown
+told_descriptor d = record { kind = d.kind; bytes = d.bytes }

@@ -1,0 +1,121 @@
+-- The device's commands to the agent (DSP0267 1.0): which row of the table one takes, and what it does.
+use Rattle.std.specs.Prelude.{List, [], if◌then◌else◌, nat_lt, ◌&&◌, ◌||◌, ◌+◌, ◌++◌, ◌==◌, ◌∷◌, ◌-◌, drop, length, replicate, take, ℕ}
+use Rattle.fw_package.specs.Choice.{component_at}
+use Rattle.fw_package.specs.Package.{PackageText}
+use Rattle.fwup_wire.specs.Values.{AnswerOf, CommandOf}
+use Rattle.ua_core.specs.Session.{SessionOf, Stage, TaskOf, at_stage}
+use Rattle.ua_core.specs.declared.planned.Planned.{Planned}
+use Rattle.ua_core.specs.declared.planned.Recorded.{Recorded}
+use Rattle.ua_core.specs.declared.state.Cause.TheVariants as causes
+
+-- so many bytes of an image from an offset on, and zeros past its end
+abbrev pub window : List ℕ → ℕ → ℕ → List ℕ
+window image offset size = take size (drop offset image) ++ replicate (size - length (take size (drop offset image))) 0
+
+-- What a command does: an answer and nothing else; a piece of the image; another stage; or the record of the component at
+-- hand, and what comes after it.
+pub data ServeRow : Type 0 where
+  Say : (a : AnswerOf) → ServeRow
+  Give : (bytes : List ℕ) → ServeRow
+  Move : (g : Stage) (a : AnswerOf) → ServeRow
+  Record : (t : TaskOf) → ServeRow
+
+-- a code alone, and nothing changes
+abbrev pub refuses : ℕ → ServeRow
+refuses code = ServeRow.Say (AnswerOf.Refused code)
+
+-- the agent didn't expect the command: COMMAND_NOT_EXPECTED
+abbrev pub unexpected : ServeRow
+unexpected = refuses 0x88
+
+-- a good result that was taken before is told again; another is not expected
+abbrev pub told_again : ℕ → AnswerOf → ServeRow
+told_again result a = if result == 0 then ServeRow.Say a else unexpected
+
+-- RequestFirmwareData: 32 to 240 bytes at a time (else INVALID_TRANSFER_LENGTH), which end at most 32 bytes past the image
+-- (else DATA_OUT_OF_RANGE)
+abbrev pub data_of : List ℕ → ℕ → ℕ → ServeRow
+data_of image offset size =
+    if nat_lt size 32 || nat_lt 240 size then refuses 0x83
+    else if nat_lt (length image + 32) (offset + size) then refuses 0x82
+    else ServeRow.Give (window image offset size)
+
+-- while the device's answer to UpdateComponent is awaited, data are to be asked for again: RETRY_REQUEST_FW_DATA
+abbrev pub data_row : PackageText → Stage → ℕ → ℕ → ServeRow
+data_row p (Stage.Update _) offset size = refuses 0x89
+data_row p (Stage.Download t) offset size = data_of (component_at p t.at_hand.component).image offset size
+data_row p _ offset size = unexpected
+
+abbrev pub transfer_row : Stage → ℕ → ServeRow
+transfer_row (Stage.Download t) result =
+    ServeRow.Move (if result == 0 then Stage.Verify t else Stage.Failed causes.Transfer) AnswerOf.TransferComplete
+transfer_row (Stage.Verify _) result = told_again result AnswerOf.TransferComplete
+transfer_row _ result = unexpected
+
+abbrev pub verify_row : Stage → ℕ → ServeRow
+verify_row (Stage.Verify t) result =
+    ServeRow.Move (if result == 0 then Stage.Apply t else Stage.Failed causes.Verify) AnswerOf.VerifyComplete
+verify_row (Stage.Apply _) result = told_again result AnswerOf.VerifyComplete
+verify_row _ result = unexpected
+
+abbrev pub apply_row : Stage → ℕ → ServeRow
+apply_row (Stage.Update t) result =
+    if (result == 0) && nat_lt 0 t.made then ServeRow.Say AnswerOf.ApplyComplete else unexpected
+apply_row (Stage.Apply t) result =
+    if result == 0 then ServeRow.Record t else ServeRow.Move (Stage.Failed causes.Apply) AnswerOf.ApplyComplete
+apply_row (Stage.AllApplied _) result = told_again result AnswerOf.ApplyComplete
+apply_row (Stage.Activate _) result = told_again result AnswerOf.ApplyComplete
+apply_row _ result = unexpected
+
+-- the row of each command. A device's other commands are none to the agent: ERROR_UNSUPPORTED_PLDM_CMD
+abbrev pub serve_row : PackageText → Stage → CommandOf → ServeRow
+serve_row p g (CommandOf.RequestFirmwareData offset size) = data_row p g offset size
+serve_row p g (CommandOf.TransferComplete result) = transfer_row g result
+serve_row p g (CommandOf.VerifyComplete result) = verify_row g result
+serve_row p g (CommandOf.ApplyComplete result _) = apply_row g result
+serve_row p g _ = refuses 5
+
+-- the next component, or none
+abbrev pub task_after : TaskOf → List Planned → Stage
+task_after t [] = Stage.AllApplied t.job
+task_after t (i ∷ is) = Stage.Update (record { job = t.job; at_hand = i; todo = is; made = t.made + 1 })
+
+-- the record of the component at hand
+abbrev pub record_of : SessionOf → TaskOf → Recorded
+record_of s t = record { «package» = s.number; component = t.at_hand.component }
+
+-- what a row answers
+abbrev pub answer_by : ServeRow → AnswerOf
+answer_by (ServeRow.Say a) = a
+answer_by (ServeRow.Give bytes) = AnswerOf.RequestFirmwareData bytes
+answer_by (ServeRow.Move _ a) = a
+answer_by (ServeRow.Record _) = AnswerOf.ApplyComplete
+
+-- what a row makes of the session
+abbrev pub after_by : SessionOf → ServeRow → SessionOf
+after_by s (ServeRow.Move g _) = at_stage s g
+after_by s (ServeRow.Record t) =
+    record { stage = task_after t t.todo; number = s.number; records = s.records ++ record_of s t ∷ [] }
+after_by s _ = s
+
+-- what it records
+abbrev pub recorded_with : SessionOf → ServeRow → List Recorded
+recorded_with s (ServeRow.Record t) = record_of s t ∷ []
+recorded_with s _ = []
+
+-- and what becomes of the ticks for which nothing moved
+abbrev pub idle_after : ℕ → ServeRow → ℕ
+idle_after idle (ServeRow.Say _) = idle
+idle_after idle _ = 0
+
+abbrev pub agent_answer : PackageText → SessionOf → CommandOf → AnswerOf
+agent_answer p s c = answer_by (serve_row p s.stage c)
+
+abbrev pub agent_after : PackageText → SessionOf → CommandOf → SessionOf
+agent_after p s c = after_by s (serve_row p s.stage c)
+
+abbrev pub recorded_by : PackageText → SessionOf → CommandOf → List Recorded
+recorded_by p s c = recorded_with s (serve_row p s.stage c)
+
+abbrev pub agent_idle : PackageText → SessionOf → ℕ → CommandOf → ℕ
+agent_idle p s idle c = idle_after idle (serve_row p s.stage c)

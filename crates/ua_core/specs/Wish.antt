@@ -1,0 +1,66 @@
+-- Which command a session wishes to ask.
+use Rattle.std.specs.Prelude.{None, Option, Some, true, if◌then◌else◌, length, ◌+◌, ◌==◌, ℕ}
+use Rattle.fw_package.specs.Choice.{component_at, record_at}
+use Rattle.fw_package.specs.Package.{PackageText}
+use Rattle.fwup_wire.specs.Values.{CommandOf}
+use Rattle.fwup_wire.specs.declared.values.TransferFlag.{TransferFlag}
+use Rattle.fwup_wire.specs.declared.values.TransferFlag.TheVariants as flags
+use Rattle.ua_core.specs.Lent.{is_forced, key_of, sent_size, sent_text, sent_version}
+use Rattle.ua_core.specs.Session.{JobOf, SessionOf, Stage}
+use Rattle.ua_core.specs.declared.planned.Planned.{Planned}
+
+-- the place of an entry in a table of so many, by how many come after it
+abbrev pub flag_at : (left count : ℕ) → TransferFlag
+flag_at left count =
+    if count == 1 then flags.StartAndEnd
+    else if left + 1 == count then flags.Start
+    else if left == 0 then flags.End
+    else flags.Middle
+
+-- RequestUpdate: pieces of 240 bytes, one request outstanding, no package data
+abbrev pub request_wish : PackageText → JobOf → CommandOf
+request_wish p j =
+    CommandOf.RequestUpdate (record {
+      transfer_size = 240;
+      components = length j.plan;
+      outstanding = 1;
+      package_data_length = 0;
+      image_set = sent_text (record_at p j.chosen).set_text;
+    })
+
+-- PassComponentTable of a component of the plan, after which so many are left
+abbrev pub entry_wish : PackageText → JobOf → Planned → ℕ → CommandOf
+entry_wish p j i left =
+    CommandOf.PassComponentTable (record {
+      flag = flag_at left (length j.plan);
+      key = key_of (component_at p i.component);
+      index = i.index;
+      version = sent_version (component_at p i.component);
+    })
+
+-- UpdateComponent of a component
+abbrev pub offer_wish : PackageText → Planned → CommandOf
+offer_wish p i =
+    CommandOf.UpdateComponent (record {
+      key = key_of (component_at p i.component);
+      index = i.index;
+      version = sent_version (component_at p i.component);
+      size = sent_size (component_at p i.component);
+      force = is_forced (component_at p i.component);
+    })
+
+-- what each stage wishes
+abbrev pub stage_wish : PackageText → Stage → Option CommandOf
+stage_wish p Stage.Query = Some CommandOf.QueryDeviceIdentifiers
+stage_wish p (Stage.Params _) = Some CommandOf.GetFirmwareParameters
+stage_wish p (Stage.ClearOld _) = Some CommandOf.CancelUpdate
+stage_wish p (Stage.Request j) = Some (request_wish p j)
+stage_wish p (Stage.Pass j i left _) = Some (entry_wish p j i (length left))
+stage_wish p (Stage.Update t) = Some (offer_wish p t.at_hand)
+stage_wish p (Stage.Activate _) = Some (CommandOf.ActivateFirmware true)
+stage_wish p Stage.Cancelling = Some CommandOf.CancelUpdate
+stage_wish p _ = None
+
+-- the command that a session wishes to ask
+abbrev pub agent_wish : PackageText → SessionOf → Option CommandOf
+agent_wish p s = stage_wish p s.stage

@@ -1,0 +1,32 @@
+//! What holds of every session, whatever the device says.
+
+ghost use Rattle.ua_core.specs.Laws.{ChoosesRecord, LearnsInPlan, LearnsNoRecord, LooseRecordsNothing, PlansKeysOnce, RecordsGrow, RecordsInApply, ServesInPlan, WindowContinues, WishStands};
+
+/// The records grow only where the device applied the component at hand, by that component; no answer adds one, and no command
+/// that leads to Idle, Query, Done, Cancelling or Failed.
+pub fn records_what_is_applied()
+    ensures grow { RecordsGrow }
+    ensures applying { RecordsInApply }
+    ensures loose { LooseRecordsNothing }
+    ensures learnt { LearnsNoRecord }
+{}
+
+/// While a session wishes a command, the device's commands leave it as it is, and so its wish.
+pub fn wish_stands()
+    ensures { WishStands }
+{}
+
+/// The components at hand and to do are those that the package plans for the device, whose keys are different.
+pub fn stays_in_plan()
+    ensures serves { ServesInPlan }
+    ensures learns { LearnsInPlan }
+    ensures chosen { ChoosesRecord }
+    ensures keys { PlansKeysOnce }
+{
+    fw_package::plans_named_images();
+}
+
+/// Pieces put behind each other continue the image: cut to its size, they are its beginning.
+pub fn pieces_continue()
+    ensures { WindowContinues }
+{}

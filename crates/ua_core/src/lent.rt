@@ -1,0 +1,210 @@
+//! What a session reads from the package that it is lent. A component or a record that the package doesn't have reads as one
+//! without bytes; a session that is lent the package of its number never asks for such a one.
+
+ghost use Rattle.std.specs.Prelude.{◌≡◌, ◌<◌, IfSome, length, map, take};
+ghost use Rattle.std.specs.Result.{result_map_both};
+ghost use Rattle.fw_package.specs.Choice.{component_at, plan_of, record_at, record_number};
+ghost use Rattle.fw_package.specs.Package.{descriptor_of, text_of as package_text_of};
+ghost use Rattle.fwup_wire.specs.Lent.{text_of, version_of};
+ghost use Rattle.ua_core.specs.Learn.{job_for, planned};
+ghost use Rattle.ua_core.specs.Lent.{is_forced, key_of, no_package, sent_size, sent_text, sent_version, told_descriptor};
+
+use crate::planned::Job;
+use crate::plans::unlearnt;
+use crate::state::Cause;
+use fw_package::{Descriptor, Package};
+use fwup_wire::{Descriptors, Key, Text, Version};
+use std::marker::Model;
+
+/// The package that a session is lent, if there is one.
+#[derive(Debug, Drop)]
+pub struct Lent<'a> {
+    package: Option<&'a Package>,
+}
+
+impl<'a> Model for Lent<'a> {
+    ghost use Rattle.fw_package.specs.Package.{PackageText};
+    ghost use Rattle.ua_core.specs.Lent.{lent};
+
+    ghost Value = { PackageText };
+
+    ghost view = { λ l. lent l.package };
+}
+
+/// The comparison stamp that stands for none.
+const NO_STAMP: u32 = 0xFFFF_FFFF;
+
+/// The most descriptors of a device: their number stands in one byte.
+const DESCRIPTOR_LIMIT: usize = 255;
+
+/// What stands behind the last descriptor.
+const NO_DESCRIPTOR: Descriptor<'static> = Descriptor {
+    kind: 0,
+    bytes: &[],
+};
+
+/// A text that isn't there.
+const NO_TEXT: Text<'static> = Text {
+    text_type: 0,
+    bytes: &[],
+};
+
+impl<'a> Lent<'a> {
+    /// This package.
+    pub fn some(package: &'a Package) -> Lent<'a>
+        ensures { result ≡ «package».now }
+    {
+        Lent {
+            package: Some(package),
+        }
+    }
+
+    /// No package.
+    pub fn none() -> Lent<'a>
+        ensures { result ≡ no_package }
+    {
+        Lent { package: None }
+    }
+
+    /// The record for the device with these descriptors, and its components, or why there is nothing to send.
+    pub(crate) fn job_for(&self, descriptors: &Descriptors<'_>) -> Result<Job, Cause>
+        ensures { result_map_both (λ j. record { chosen = j.chosen; plan = j.plan.items }) (λ e. e) result ≡ job_for self.now descriptors.now }
+    {
+        let Some(package) = self.package else {
+            return Err(Cause::NoRecord);
+        };
+        let Some(chosen) = record_for(package, descriptors) else {
+            return Err(Cause::NoRecord);
+        };
+        planned(package, chosen)
+    }
+
+    /// The key of a component.
+    pub(crate) fn key(&self, component: usize) -> Key
+        ensures { result ≡ key_of (component_at self.now component) }
+    {
+        match self.package {
+            Some(package) if component < package.component_count() => Key {
+                classification: package.classification(component),
+                identifier: package.identifier(component),
+            },
+            _ => Key {
+                classification: 0,
+                identifier: 0,
+            },
+        }
+    }
+
+    /// A component's version, as it is sent: its stamp only where option bit 1 says that it is used.
+    pub(crate) fn version(&self, component: usize) -> Version<'a>
+        ensures { version_of result ≡ sent_version (component_at self.now component) }
+    {
+        match self.package {
+            Some(package) if component < package.component_count() => Version {
+                stamp: if package.options(component) / 2 % 2 == 1 {
+                    package.stamp(component)
+                } else {
+                    NO_STAMP
+                },
+                text: as_sent(package.text(component)),
+            },
+            _ => Version {
+                stamp: NO_STAMP,
+                text: NO_TEXT,
+            },
+        }
+    }
+
+    /// Whether a component's update is forced: option bit 0.
+    pub(crate) fn is_forced(&self, component: usize) -> bool
+        ensures { result ≡ is_forced (component_at self.now component) }
+    {
+        match self.package {
+            Some(package) if component < package.component_count() => {
+                package.options(component) % 2 == 1
+            }
+            _ => false,
+        }
+    }
+
+    /// The image of a component.
+    pub(crate) fn image(&self, component: usize) -> &'a [u8]
+        ensures { result.now ≡ (component_at self.now component).image }
+    {
+        match self.package {
+            Some(package) if component < package.component_count() => package.image(component),
+            _ => &[],
+        }
+    }
+
+    /// The size of a component's image in bytes, as it is sent.
+    pub(crate) fn size(&self, component: usize) -> u32
+        ensures { result ≡ sent_size (component_at self.now component) }
+    {
+        u32::try_from(self.image(component).len()).unwrap_or(u32::MAX)
+    }
+
+    /// The set text of a record.
+    pub(crate) fn set_text(&self, number: usize) -> Text<'a>
+        ensures { text_of result ≡ sent_text (record_at self.now number).set_text }
+    {
+        match self.package {
+            Some(package) if number < package.record_count() => as_sent(package.set_text(number)),
+            _ => NO_TEXT,
+        }
+    }
+}
+
+/// The number of the first record that is for the device with these descriptors.
+fn record_for(package: &Package, descriptors: &Descriptors<'_>) -> Option<usize>
+    ensures number { result ≡ record_number «package».now (map told_descriptor descriptors.now) }
+    ensures there { IfSome result (λ n. n < length «package».now.records) }
+{
+    let known = known(descriptors);
+    package.record_for(&known[..descriptors.len()])
+}
+
+/// The components of a record, if there are such that can be sent.
+fn planned(package: &Package, chosen: usize) -> Result<Job, Cause>
+    requires { chosen < length «package».now.records }
+    ensures { result_map_both (λ j. record { chosen = j.chosen; plan = j.plan.items }) (λ e. e) result ≡ planned chosen (plan_of «package».now chosen) }
+{
+    let Ok(plan) = package.plan(chosen) else {
+        return Err(Cause::Plan);
+    };
+    if plan.is_empty() {
+        return Err(Cause::NothingToUpdate);
+    }
+    Ok(Job {
+        chosen,
+        plan: unlearnt(plan.as_slice()),
+    })
+}
+
+/// A device's descriptors, as a package is asked for them: they stand in front.
+#[tactic(auto, using(crate::proofs::Known::known_step))]
+fn known<'a>(descriptors: &Descriptors<'a>) -> [Descriptor<'a>; DESCRIPTOR_LIMIT]
+    ensures { map descriptor_of (take (length descriptors.now) result) ≡ map told_descriptor descriptors.now }
+{
+    let mut known = [NO_DESCRIPTOR; DESCRIPTOR_LIMIT];
+    let mut count = 0;
+    let limit = descriptors.len();
+    for descriptor in descriptors.iter() {
+        known[count] = Descriptor {
+            kind: descriptor.kind,
+            bytes: descriptor.bytes,
+        };
+        count += 1;
+    }
+    known
+}
+
+/// A text of a package, as it is sent.
+fn as_sent<'a>(text: fw_package::Text<'a>) -> Text<'a>
+    ensures { text_of result ≡ sent_text (package_text_of text.entry) }
+{
+    Text {
+        text_type: text.kind,
+        bytes: text.bytes,
+    }
+}

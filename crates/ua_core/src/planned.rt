@@ -1,0 +1,47 @@
+//! The components of an update.
+
+ghost use Rattle.std.specs.Prelude.{◌≡◌, ◌∷◌, [], MatchOption};
+
+use arrayvec::ArrayVec;
+use fw_package::PLAN_LIMIT;
+
+/// A component of the plan.
+#[derive(Clone, Copy, Debug, Default, PartialEq, Eq)]
+pub struct Planned {
+    /// The component's number in the package, from 0 on.
+    pub component: usize,
+    /// Which of several components of its classification it is in the device, by the device's own parameters; 0 until
+    /// they are learnt, and where they don't name it.
+    pub index: u8,
+}
+
+/// Components of a plan, in its order.
+pub type PlannedList = ArrayVec<Planned, PLAN_LIMIT>;
+
+/// What is fixed once the device is known.
+#[derive(Debug, Drop)]
+pub struct Job {
+    /// The number of the package's record for the device.
+    pub chosen: usize,
+    /// The components to be sent.
+    pub plan: PlannedList,
+}
+
+/// A component that a device applied.
+#[derive(Clone, Copy, Debug, PartialEq, Eq)]
+pub struct Recorded {
+    /// The number of the package, as `Session::start` was given it.
+    pub package: usize,
+    /// The component's number in the package, from 0 on.
+    pub component: usize,
+}
+
+/// Takes the first component off a list.
+pub fn take_first(list: &mut PlannedList) -> Option<Planned>
+    ensures { MatchOption result ((list.old.items ≡ []) × (list.new.items ≡ [])) (λ first. list.old.items ≡ first ∷ list.new.items) }
+{
+    if list.is_empty() {
+        return None;
+    }
+    Some(list.remove(0))
+}

@@ -1,0 +1,190 @@
+//! A session, and what its user does with it.
+
+ghost use Rattle.std.specs.Prelude.{◌≡◌, ◌↔◌, if◌then◌else◌, false, true, length, IfErr, OnErr, OnOk, Some, None};
+ghost use Rattle.ua_core.specs.Calls.{agent_activated, agent_cancelled, agent_restart, agent_silent, agent_started, idle_ticked, is_free, may_cancel, new_session};
+ghost use Rattle.ua_core.specs.Session.{state_of};
+
+use crate::fault::{NotReady, StartFault};
+use crate::mark::Mark;
+use crate::planned::{Job, Planned, PlannedList, Recorded};
+use crate::position::{IDLE_LIMIT, Position};
+use crate::state::{Cause, SessionState};
+use fw_package::PLAN_LIMIT;
+use std::alloc::Global;
+use std::marker::Model;
+
+mod learning;
+mod serving;
+mod wishing;
+
+/// The agent's session with one device: an update under way, and the records of what the device applied. The calls that
+/// need its package are lent it. Only `start` takes memory.
+#[derive(Drop)]
+pub struct Session {
+    position: Position,
+    package: usize,
+    job: Job,
+    at_hand: Planned,
+    left: PlannedList,
+    todo: PlannedList,
+    made: u8,
+    records: Vec<Recorded>,
+}
+
+impl Model for Session {
+    ghost use Rattle.std.specs.Prelude.{◌+◌, ◌<◌, ◌≤◌, length, vec_capacity};
+    ghost use Rattle.ua_core.specs.Kept.{HasRoom, stage_of};
+    ghost use Rattle.ua_core.specs.Session.{TimedOf};
+
+    ghost Value = { TimedOf };
+
+    ghost view = { λ s. record {
+      session = record {
+        stage = stage_of s.position.state (record { chosen = s.job.chosen; plan = s.job.plan.items }) s.at_hand s.left.items s.todo.items s.made;
+        number = s.«package»;
+        records = s.records.items;
+      };
+      idle = s.position.idle;
+    } };
+
+    ghost invariant = { λ s. (s.position.idle < 240) × (length s.left.items + length s.todo.items ≤ 7)
+        × HasRoom s.position.state (length s.records.items) (length s.left.items + length s.todo.items) s.made (vec_capacity s.records) };
+}
+
+impl Session {
+    /// A session without an update and without records.
+    pub fn new(alloc: Global) -> Session
+        ensures { result ≡ new_session }
+    {
+        Session {
+            position: Position::new(SessionState::Idle),
+            package: 0,
+            job: Job {
+                chosen: 0,
+                plan: PlannedList::new(),
+            },
+            at_hand: Planned::default(),
+            left: PlannedList::new(),
+            todo: PlannedList::new(),
+            made: 0,
+            records: Vec::new(alloc),
+        }
+    }
+
+    /// Where the session stands.
+    pub fn state(&self) -> SessionState
+        ensures { result ≡ state_of self.now.session.stage }
+    {
+        self.position.state
+    }
+
+    /// The number of the package that the session was started with last, and 0 before the first start.
+    pub fn package(&self) -> usize
+        ensures { result ≡ self.now.session.number }
+    {
+        self.package
+    }
+
+    /// The components that the device applied, of all starts, in order.
+    pub fn records(&self) -> &[Recorded]
+        ensures { result.now ≡ self.now.session.records }
+    {
+        self.records.as_slice()
+    }
+
+    /// What is seen of the session now, to be compared with a later moment by `happened`.
+    pub fn mark(&self) -> Mark
+        ensures { result ≡ record { state = state_of self.now.session.stage; records = length self.now.session.records } }
+    {
+        Mark {
+            state: self.position.state,
+            records: self.records.len(),
+        }
+    }
+
+    /// Starts an update with the package of this number. Memory is taken for its records, at most eight.
+    ///
+    /// # Errors
+    /// `Busy` while an update is under way, else `Memory` where that memory is refused. Nothing has changed then.
+    pub fn start(&mut self, package: usize) -> Result<(), StartFault>
+        ensures started { OnOk result (self.new ≡ record { session = agent_started self.old.session «package»; idle = 0 }) }
+        ensures free { OnOk result (is_free self.old.session ≡ true) }
+        ensures busy { IfErr result (λ e. (e ≡ StartFault.Busy) ↔ (is_free self.old.session ≡ false)) }
+        ensures kept { OnErr result (self.new ≡ self.old) }
+    {
+        if !self.position.state.is_free() {
+            return Err(StartFault::Busy);
+        }
+        let Ok(()) = self.records.reserve(PLAN_LIMIT) else {
+            return Err(StartFault::Memory);
+        };
+        self.package = package;
+        self.position.go(SessionState::Query);
+        Ok(())
+    }
+
+    /// Cancels the update. Without one under way, an ended one included, the device is still asked to end what it has, save
+    /// in Idle.
+    pub fn cancel(&mut self)
+        ensures session { self.new.session ≡ agent_cancelled self.old.session }
+        ensures idle { self.new.idle ≡ (if may_cancel self.old.session.stage then 0 else self.old.idle) }
+    {
+        match self.position.state {
+            SessionState::Idle | SessionState::Cancelling => {}
+            _ => self.position.go(SessionState::Cancelling),
+        }
+    }
+
+    /// Asks the device to activate what it applied.
+    ///
+    /// # Errors
+    /// `NotReady` in every state but AllApplied. Nothing has changed then.
+    pub fn activate(&mut self) -> Result<(), NotReady>
+        ensures ok { OnOk result (agent_activated self.old.session ≡ Some self.new.session) }
+        ensures idle { OnOk result (self.new.idle ≡ 0) }
+        ensures not { OnErr result (agent_activated self.old.session ≡ None) }
+        ensures kept { OnErr result (self.new ≡ self.old) }
+    {
+        if self.position.state != SessionState::AllApplied {
+            return Err(NotReady);
+        }
+        self.position.go(SessionState::Activate);
+        Ok(())
+    }
+
+    /// The device gave no answer to the command that was wished.
+    pub fn silent(&mut self)
+        ensures { self.new ≡ record { session = agent_silent self.old.session; idle = 0 } }
+    {
+        let next = match self.position.state {
+            SessionState::Cancelling => SessionState::Idle,
+            _ => SessionState::Failed(Cause::Silent),
+        };
+        self.position.go(next);
+    }
+
+    /// A tick passed. The 240th tick in a row in which nothing moved ends an update.
+    pub fn idle_tick(&mut self)
+        ensures { self.new ≡ idle_ticked self.old }
+    {
+        if self.position.state.is_free() {
+            return;
+        }
+        if self.position.idle + 1 < IDLE_LIMIT {
+            self.position.idle += 1;
+            return;
+        }
+        let next = match self.position.state {
+            SessionState::Cancelling => SessionState::Idle,
+            _ => SessionState::Failed(Cause::TimeOut),
+        };
+        self.position.go(next);
+    }
+
+    /// What a restart of the agent leaves: the records stay, and no update is under way.
+    pub fn restart(&mut self)
+        ensures { self.new ≡ record { session = agent_restart self.old.session; idle = 0 } }
+    {
+        self.position.go(SessionState::Idle);
+    }
+}

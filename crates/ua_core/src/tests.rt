@@ -1,0 +1,7 @@
+//! Tests of the session.
+
+mod calls;
+mod packages;
+mod situations;
+mod table;
+mod updates;
