@@ -9,10 +9,15 @@ pub const CONTROL: u8 = 0x00;
 /// The control commands that an endpoint answers (DSP0236, Table 12).
 #[derive(Clone, Copy, Debug, PartialEq, Eq)]
 pub enum ControlCommand {
+    /// Set Endpoint ID, 0x01: offers an endpoint identifier.
     SetEndpointId,
+    /// Get Endpoint ID, 0x02.
     GetEndpointId,
+    /// Get Endpoint UUID, 0x03.
     GetEndpointUuid,
+    /// Get MCTP Version Support, 0x04: the versions of one message type.
     GetMctpVersionSupport,
+    /// Get Message Type Support, 0x05: the message types beside control messages.
     GetMessageTypeSupport,
 }
 
