@@ -3,7 +3,7 @@
 use crate::messages::Message;
 use thiserror::Error;
 
-/// Why an assembly drops a packet (DSP0236, section 8.7, "dropped packets").
+/// Why an assembly drops a packet (DSP0236, "Dropped packets").
 #[derive(Clone, Copy, Debug, PartialEq, Eq, Error)]
 pub enum DropCause {
     /// It goes on with a message, and none is open.
