@@ -14,9 +14,12 @@ pub const MAX_TEXT: usize = 12;
 /// What an image calls itself, as a bank keeps it.
 #[derive(Debug, Drop)]
 pub struct Label {
-    stamp: u32,
-    text_type: u8,
-    text: ArrayVec<u8, MAX_TEXT>,
+    /// The comparison stamp.
+    pub stamp: u32,
+    /// How the text is encoded, as `fwup_wire::code::text_type`.
+    pub text_type: u8,
+    /// The first bytes of the version text.
+    pub text: ArrayVec<u8, MAX_TEXT>,
 }
 
 impl Model for Label {

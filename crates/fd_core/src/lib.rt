@@ -8,6 +8,7 @@ mod device;
 #[cfg(test)]
 mod fixtures;
 mod labels;
+mod laws;
 mod memory;
 mod parts;
 mod states;
@@ -20,6 +21,7 @@ pub use bank::{Bank, BankFault};
 pub use device::Device;
 pub use fwup_wire::Key;
 pub use labels::{Label, MAX_TEXT};
+pub use laws::components_stay;
 pub use memory::MemBank;
 pub use parts::{Component, MAX_COMPONENTS, MAX_IMAGE};
 pub use states::{NotNow, Progress, Reason, State, Verdict};
