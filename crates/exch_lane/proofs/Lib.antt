@@ -1,0 +1,5 @@
+mod AskerTicks
+mod Elapsed
+mod Tags
+mod TakerTicks
+mod Views
