@@ -1,5 +1,7 @@
 mod AskerTicks
+mod Deliveries
 mod Elapsed
+mod Pieces
 mod Tags
 mod TakerTicks
 mod Views
