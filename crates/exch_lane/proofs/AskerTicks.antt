@@ -5,7 +5,7 @@ use Rattle.std.proofs.lemmas.Bool.Decides.{eqb_tells}
 use Rattle.mctp_reasm.specs.Held.{Held, held_tick}
 use Rattle.exch_lane.specs.Clocks.{Clock, MayBeat, beat}
 use Rattle.exch_lane.proofs.Elapsed.{elapsed, elapsed_counted, elapsed_later, elapsed_missed, within_assembly}
-use Rattle.exch_lane.proofs.Views.{AskerView, Ends, Exchange, IsAsker, IsPart, IsReplies, IsSpan, asker_at, asker_tick, reply_of, resent, rested}
+use Rattle.exch_lane.proofs.Views.{AskerView, Ends, Exchange, IsAsker, IsPart, IsReplies, IsSpan, asker_at, asker_view_tick, reply_of, resent, rested}
 
 lt_from : (a b : ℕ) → a ≤ b → (a ≡ b → ⊥) → a < b
 lt_from a b le ne = elim (cases_lt a b) [ inl lt ↦ lt | inr ge ↦ let is : a ≡ b = omega arith in absurd (ne is) ]
@@ -49,7 +49,7 @@ asker_ages c x e w may le h = record {
   deaf = λ z. absurd (omega (arith, z));
 }
 
-asker_counts : (c : Clock) (x : Ends) (e : Exchange) (w : AskerView) → MayBeat true c → IsAsker c x e w → IsAsker (beat true c) x e (asker_tick w)
+asker_counts : (c : Clock) (x : Ends) (e : Exchange) (w : AskerView) → MayBeat true c → IsAsker c x e w → IsAsker (beat true c) x e (asker_view_tick w)
 asker_counts c x e w may h = elim (cases_lt 1 w.deaf) [
   | inl more ↦ rw (lt-leb w.deaf 1 more) (asker_waits c x e w more h)
   | inr less ↦ rw (le-leb w.deaf 1 less) (asker_ages c x e w may less h)

@@ -10,7 +10,7 @@ use Rattle.exch_lane.specs.Clocks.{Clock}
 use Rattle.exch_lane.proofs.AskerTicks.{none_of, some_maps}
 use Rattle.exch_lane.proofs.Elapsed.{IsClock, elapsed, elapsed_later, elapsed_start}
 use Rattle.exch_lane.proofs.Pieces.{Comes, Laws}
-use Rattle.exch_lane.proofs.Views.{AskerView, Ends, Exchange, IsAsker, IsExchange, IsKept, IsPart, IsReplies, IsRequests, IsSettled, IsSpan, IsTaker, IsWording, TagView, TakerView, answered_with, asker_clock, reply_of, request_of, taker_clock}
+use Rattle.exch_lane.proofs.Views.{AskerView, Ends, Exchange, IsAsker, IsExchange, IsKept, IsPart, IsReplies, IsRequests, IsSettled, IsSpan, IsTaker, IsWording, TagView, TakerView, answered_with, asker_time, reply_of, request_of, taker_time}
 
 -- the messages of an exchange read back
 pub request_is : (x : Ends) (e : Exchange) → IsWording e → IsMessage (request_of x e)
@@ -49,7 +49,7 @@ holds_replies c x e r Open o is ok soon h = begins_replies c x e r o is ok soon 
 holds_replies c x e r (Dropped cause) o is ok soon h = rw h tt
 
 -- an end holds something else
-pub view_taker_holds : (v : TagView) (e : Exchange) (o : Option Held) → v.taker.deaf ≡ 0 → IfSome o (IsRequests (taker_clock v) v.ends e) → IsExchange v e → IsExchange (record v { taker = record { deaf = v.taker.deaf; kept = v.taker.kept; requests = o } }) e
+pub view_taker_holds : (v : TagView) (e : Exchange) (o : Option Held) → v.taker.deaf ≡ 0 → IfSome o (IsRequests (taker_time v) v.ends e) → IsExchange v e → IsExchange (record v { taker = record { deaf = v.taker.deaf; kept = v.taker.kept; requests = o } }) e
 view_taker_holds v e o hears holds h = record {
   wording = h.wording;
   span = h.span;
@@ -58,7 +58,7 @@ view_taker_holds v e o hears holds h = record {
   settled = h.settled;
 }
 
-pub view_asker_holds : (v : TagView) (e : Exchange) (o : Option Held) → v.asker.deaf ≡ 0 → IfSome o (IsReplies (asker_clock v) v.ends e) → IsExchange v e → IsExchange (record v { asker = record { deaf = v.asker.deaf; rest = v.asker.rest; replies = o } }) e
+pub view_asker_holds : (v : TagView) (e : Exchange) (o : Option Held) → v.asker.deaf ≡ 0 → IfSome o (IsReplies (asker_time v) v.ends e) → IsExchange v e → IsExchange (record v { asker = record { deaf = v.asker.deaf; rest = v.asker.rest; replies = o } }) e
 view_asker_holds v e o hears holds h = record {
   wording = h.wording;
   span = h.span;
@@ -77,7 +77,7 @@ unanswered_from c x e w (Some r) is hears none soon span h =
     let clash : true ≡ false = sym some ∙ bad in absurd (cc)
 
 pub new_is_unanswered : (v : TagView) (e : Exchange) → v.taker.deaf ≡ 0 → v.taker.kept ≡ None → v.now ≤ e.last + 8 → IsExchange v e → e.reply ≡ None
-new_is_unanswered v e hears none soon h = unanswered_from (taker_clock v) v.ends e v.taker e.reply refl hears none soon h.span h.taker
+new_is_unanswered v e hears none soon h = unanswered_from (taker_time v) v.ends e v.taker e.reply refl hears none soon h.span h.taker
 
 current_from : (v : TagView) (e : Exchange) (b : Bool) → v.is_current ≡ b → e.reply ≡ None → v.now ≤ e.last + 8 → IsExchange v e → v.is_current ≡ true
 current_from v e true is none soon h = is
@@ -93,19 +93,19 @@ unanswered_is_current v e none soon h = current_from v e v.is_current refl none 
 no_replies : (c : Clock) (x : Ends) (e : Exchange) (w : AskerView) → e.reply ≡ None → IsAsker c x e w → w.replies ≡ None
 no_replies c x e w none h = none_of w.replies (IsReplies c x e) h.replies (λ o r. rw none at r.part)
 
-pub view_takes : (v : TagView) (e : Exchange) (r : List ℕ) → IsClock (taker_clock v) → v.taker.deaf ≡ 0 → e.reply ≡ None → length r ≤ 252 → v.now ≤ e.last + 8 → IsExchange v e
+pub view_takes : (v : TagView) (e : Exchange) (r : List ℕ) → IsClock (taker_time v) → v.taker.deaf ≡ 0 → e.reply ≡ None → length r ≤ 252 → v.now ≤ e.last + 8 → IsExchange v e
     → IsExchange (record v { taker = record { deaf = v.taker.deaf; kept = Some (record { identifier = e.identifier; reply = reply_of v.ends e r; age = 0 }); requests = None } }) (answered_with r e)
 view_takes v e r ok hears none few soon h =
     let order = h.span.order in
     let past = h.span.past in
-    let empty = no_replies (asker_clock v) v.ends e v.asker none h.asker in
+    let empty = no_replies (asker_time v) v.ends e v.asker none h.asker in
     record {
       wording = record { identifier = h.wording.identifier; body = h.wording.body; reply = few };
       span = record { order = h.span.order; span = h.span.span; past = h.span.past };
       asker = record { replies = rw empty tt; rest = h.asker.rest; deaf = h.asker.deaf };
       taker = record {
         requests = tt;
-        kept = record { identifier = refl; reply = refl; age = omega arith; old = omega arith; soon = elapsed_start (taker_clock v) (e.last + 8) ok soon };
+        kept = record { identifier = refl; reply = refl; age = omega arith; old = omega arith; soon = elapsed_start (taker_time v) (e.last + 8) ok soon };
         still = λ _ _ _. refl;
         deaf = λ z. absurd (omega (arith, z, hears));
       };

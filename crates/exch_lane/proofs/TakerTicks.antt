@@ -6,7 +6,7 @@ use Rattle.pldm_exch.specs.Kept.{Kept, kept_tick}
 use Rattle.exch_lane.specs.Clocks.{Clock, MayBeat, beat}
 use Rattle.exch_lane.proofs.AskerTicks.{held_ages, none_of, some_maps}
 use Rattle.exch_lane.proofs.Elapsed.{elapsed, elapsed_counted, elapsed_later, elapsed_missed, within_assembly, within_keeping}
-use Rattle.exch_lane.proofs.Views.{Ends, Exchange, IsKept, IsPart, IsRequests, IsSpan, IsTaker, TakerView, request_of, resent, taker_at, taker_tick}
+use Rattle.exch_lane.proofs.Views.{Ends, Exchange, IsKept, IsPart, IsRequests, IsSpan, IsTaker, TakerView, request_of, resent, taker_at, taker_view_tick}
 
 -- a kept answer ages only below its limit
 kept_ages : (o : Option Kept) (P Q : Kept → Type 0) → IfSome o P → ((k : Kept) → P k → k.age < 24 → Q (record { identifier = k.identifier; reply = k.reply; age = k.age + 1 })) → IfSome (kept_tick o) Q
@@ -46,7 +46,7 @@ taker_ages c x e w may le h = record {
   deaf = λ z. absurd (omega (arith, z));
 }
 
-taker_counts : (c : Clock) (x : Ends) (e : Exchange) (w : TakerView) → MayBeat true c → IsTaker c x e w → IsTaker (beat true c) x e (taker_tick w)
+taker_counts : (c : Clock) (x : Ends) (e : Exchange) (w : TakerView) → MayBeat true c → IsTaker c x e w → IsTaker (beat true c) x e (taker_view_tick w)
 taker_counts c x e w may h = elim (cases_lt 1 w.deaf) [
   | inl more ↦ rw (lt-leb w.deaf 1 more) (taker_waits c x e w more h)
   | inr less ↦ rw (le-leb w.deaf 1 less) (taker_ages c x e w may less h)

@@ -63,23 +63,23 @@ pub record TakerView : Type 0 where
   pub requests : Option Held
 
 -- a tick that an end counts: a deaf one only counts down
-abbrev pub asker_tick : AskerView → AskerView
-asker_tick w =
+abbrev pub asker_view_tick : AskerView → AskerView
+asker_view_tick w =
     if nat_le w.deaf 1 then record { deaf = 0; rest = w.rest - 1; replies = held_tick w.replies }
     else record w { deaf = w.deaf - 1 }
 
-abbrev pub taker_tick : TakerView → TakerView
-taker_tick w =
+abbrev pub taker_view_tick : TakerView → TakerView
+taker_view_tick w =
     if nat_le w.deaf 1 then record { deaf = 0; kept = kept_tick w.kept; requests = held_tick w.requests }
     else record w { deaf = w.deaf - 1 }
 
 -- an end that misses a tick does nothing
 abbrev pub asker_at : Bool → AskerView → AskerView
-asker_at true w = asker_tick w
+asker_at true w = asker_view_tick w
 asker_at false w = w
 
 abbrev pub taker_at : Bool → TakerView → TakerView
-taker_at true w = taker_tick w
+taker_at true w = taker_view_tick w
 taker_at false w = w
 
 -- the tag rests anew
@@ -96,19 +96,19 @@ pub record TagView : Type 0 where
   pub taker : TakerView
   pub is_current : Bool
 
-abbrev pub asker_clock : TagView → Clock
-asker_clock v = record { now = v.now; since_miss = v.asker_miss }
+abbrev pub asker_time : TagView → Clock
+asker_time v = record { now = v.now; since_miss = v.asker_miss }
 
-abbrev pub taker_clock : TagView → Clock
-taker_clock v = record { now = v.now; since_miss = v.taker_miss }
+abbrev pub taker_time : TagView → Clock
+taker_time v = record { now = v.now; since_miss = v.taker_miss }
 
 -- time goes on by a unit
 abbrev pub view_ticked : TagView → Bool → Bool → TagView
 view_ticked v asker taker =
     record v {
       now = v.now + 1;
-      asker_miss = (beat asker (asker_clock v)).since_miss;
-      taker_miss = (beat taker (taker_clock v)).since_miss;
+      asker_miss = (beat asker (asker_time v)).since_miss;
+      taker_miss = (beat taker (taker_time v)).since_miss;
       asker = asker_at asker v.asker;
       taker = taker_at taker v.taker;
     }
@@ -177,8 +177,8 @@ IsEmptyTag v = (v.asker.replies ≡ None) × (v.taker.requests ≡ None) × (v.t
 pub record IsExchange (v : TagView) (e : Exchange) : Type 0 where
   pub wording : IsWording e
   pub span : IsSpan v.now e
-  pub asker : IsAsker (asker_clock v) v.ends e v.asker
-  pub taker : IsTaker (taker_clock v) v.ends e v.taker
+  pub asker : IsAsker (asker_time v) v.ends e v.asker
+  pub taker : IsTaker (taker_time v) v.ends e v.taker
   pub settled : v.is_current ≡ false → IsSettled v.now e
 
 abbrev pub TagOf : TagView → Option Exchange → Type 0
