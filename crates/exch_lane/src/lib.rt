@@ -1,0 +1,9 @@
+//! One lane: the requests of one node to another and their replies, over packets (DSP0236) that are lost, repeated,
+//! reordered and late, with the exchanges of PLDM messages (DSP0240) at both ends.
+#![tactic(auto)]
+
+mod entry;
+mod step;
+
+pub use entry::LaneEntry;
+pub use step::{End, LaneFault, LaneStep};
