@@ -5,3 +5,4 @@ mod Pieces
 mod Tags
 mod TakerTicks
 mod Views
+mod Worked

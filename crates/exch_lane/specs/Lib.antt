@@ -1,1 +1,6 @@
+pub mod Cells
 pub mod Clocks
+pub mod Lanes
+pub mod Laws
+pub mod Sides
+pub mod Steps

@@ -1,11 +1,9 @@
-//! One direction of requests between two nodes.
+//! One lane: the requests of one node to another and their replies, over packets (DSP0236) that are lost, repeated,
+//! reordered and late, with the exchanges of PLDM messages (DSP0240) at both ends.
 #![tactic(auto)]
 
-ghost use Rattle.std.specs.Prelude.{◌≡◌};
+mod entry;
+mod step;
 
-/// Nothing yet.
-pub fn same(x: usize) -> usize
-    ensures { result ≡ x }
-{
-    x
-}
+pub use entry::LaneEntry;
+pub use step::{End, LaneFault, LaneStep};

@@ -1,0 +1,183 @@
+-- What a step makes of a lane, and when it may be taken.
+use Rattle.std.specs.Prelude.{◌≡◌, ◌≤◌, ℕ, ◌+◌, ◌-◌, ◌^◌, ◌==◌, ◌&&◌, nat_lt, if◌then◌else◌, Bool, false, List, [], ◌∷◌, ◌++◌, length, map, Option, Some, None, is_some}
+use Rattle.mctp_reasm.specs.Held.{Held}
+use Rattle.mctp_reasm.specs.Pieces.{MessageOf, pieces, spelled}
+use Rattle.pldm_base.specs.Header.{pldm_bytes}
+use Rattle.pldm_base.specs.declared.header.PldmHead.{PldmHead}
+use Rattle.pldm_exch.specs.Caller.{abandoned, begun, may_begin}
+use Rattle.pldm_exch.specs.Kept.{kept_with}
+use Rattle.exch_lane.specs.Clocks.{MayBeat, beat}
+use Rattle.exch_lane.specs.Lanes.{AskerOf, EntryOf, LaneOf, Sent, StepOf, TakerOf, asker_clock, asker_new, numbered, taker_clock, taker_new}
+use Rattle.exch_lane.specs.Sides.{AskerRow, AskerTick, TakerRow, asker_row, asker_tick, taker_row, taker_tick}
+use Rattle.exch_lane.specs.declared.step.End.{End}
+use Rattle.exch_lane.specs.declared.step.End.TheVariants as ends
+use Rattle.exch_lane.specs.declared.step.LaneFault.{LaneFault}
+use Rattle.exch_lane.specs.declared.step.LaneFault.TheVariants as faults
+
+-- a packet that is sent at this moment
+abbrev pub sent_at : ℕ → List ℕ → Sent
+sent_at now bytes = record { date = now; bytes = bytes }
+
+-- the packets of a message that is sent at this moment
+abbrev pub sendings : ℕ → MessageOf → List Sent
+sendings now m = map (sent_at now) (map spelled (pieces m))
+
+-- A message is sent: its packets are dated now.
+abbrev pub sending : LaneOf → MessageOf → LaneOf
+sending w m = record w { packets = w.packets ++ sendings w.now m }
+
+-- something happened
+abbrev pub noted : LaneOf → EntryOf → LaneOf
+noted w e = record w { entries = w.entries ++ e ∷ [] }
+
+abbrev pub with_asker : LaneOf → AskerOf → LaneOf
+with_asker w a = record w { asker = a }
+
+abbrev pub with_taker : LaneOf → TakerOf → LaneOf
+with_taker w t = record w { taker = t }
+
+-- The reply to a request: destination and source are exchanged, TO and Rq are clear, and tag, identifier, type and
+-- command are the request's.
+abbrev pub reply_message : MessageOf → PldmHead → List ℕ → MessageOf
+reply_message m head reply =
+    record {
+      dest = m.source;
+      source = m.dest;
+      to = false;
+      tag = m.tag;
+      bytes = pldm_bytes (record { rq = false; instance = head.instance; pldm_type = head.pldm_type; command = head.command }) reply;
+    }
+
+-- A request begins (DSP0267: PLDM type 5): its packets are sent.
+abbrev pub begins : LaneOf → (command : ℕ) → List ℕ → LaneOf
+begins w command body =
+    noted
+    (sending
+    (with_asker w (record w.asker { caller = (begun w.asker.caller 5 command body).0 }))
+    (begun w.asker.caller 5 command body).1)
+    (EntryOf.Asked command body)
+
+-- The open request is given up.
+abbrev pub abandons : LaneOf → LaneOf
+abandons w = with_asker w (record w.asker { caller = abandoned w.asker.caller })
+
+-- A new request is taken: it is answered by this reply, which is kept.
+abbrev pub takes : LaneOf → List (Option Held) → MessageOf → PldmHead → List ℕ → List ℕ → LaneOf
+takes w requests m head body reply =
+    noted
+    (sending
+    (with_taker w (record w.taker { kept = kept_with w.taker.kept (reply_message m head reply); requests = requests }))
+    (reply_message m head reply))
+    (EntryOf.Taken head.command body reply)
+
+-- what the node that answers does with a packet
+abbrev pub taker_does : LaneOf → (reply : List ℕ) → TakerRow → LaneOf
+taker_does w reply (TakerRow.Silent requests) = with_taker w (record w.taker { requests = requests })
+taker_does w reply (TakerRow.Repeats requests answer) = sending (with_taker w (record w.taker { requests = requests })) answer
+taker_does w reply (TakerRow.TakesUp requests m head body) = takes w requests m head body reply
+
+-- what the node that asks does with a packet
+abbrev pub asker_does : LaneOf → AskerRow → LaneOf
+asker_does w (AskerRow.Ignores replies) = with_asker w (record w.asker { replies = replies })
+asker_does w (AskerRow.Learns replies caller reply) =
+    noted (with_asker w (record w.asker { caller = caller; replies = replies })) (EntryOf.Learnt reply)
+
+-- the row of the node that answers, for these bytes
+abbrev pub taker_row_in : LaneOf → List ℕ → TakerRow
+taker_row_in w bytes = taker_row w.taker_eid w.asker_eid w.taker bytes
+
+-- the row of the node that asks, for these bytes
+abbrev pub asker_row_in : LaneOf → List ℕ → AskerRow
+asker_row_in w bytes = asker_row w.asker_eid w.taker_eid w.asker bytes
+
+-- An end hears these bytes, and answers a new request with this reply.
+abbrev pub lane_hears : LaneOf → End → List ℕ → (reply : List ℕ) → LaneOf
+lane_hears w ends.Asker bytes reply = asker_does w (asker_row_in w bytes)
+lane_hears w ends.Taker bytes reply = taker_does w reply (taker_row_in w bytes)
+
+-- A packet comes to an end; it stays in the list, so that it can come again.
+abbrev pub delivers : LaneOf → End → (reply : List ℕ) → Option Sent → LaneOf
+delivers w end reply None = w
+delivers w end reply (Some p) = lane_hears w end p.bytes reply
+
+-- what a tick does to the node that asks; what it sends is dated with the new time
+abbrev pub asker_ticks : LaneOf → AskerTick → LaneOf
+asker_ticks w (AskerTick.Waits a) = with_asker w a
+asker_ticks w (AskerTick.Resends a m) = sending (with_asker w a) m
+asker_ticks w (AskerTick.GivesUp a) = with_asker w a
+
+-- A unit passes: the time rises, the clocks go on, and each end that counts it ticks.
+abbrev pub tick_begins : LaneOf → (asker taker : Bool) → LaneOf
+tick_begins w asker taker =
+    record w {
+      now = w.now + 1;
+      asker = record w.asker { since_miss = (beat asker (asker_clock w)).since_miss };
+      taker = taker_tick taker (record w.taker { since_miss = (beat taker (taker_clock w)).since_miss });
+    }
+
+-- the row of the node that asks, for a tick
+abbrev pub asker_tick_in : LaneOf → (asker taker : Bool) → AskerTick
+asker_tick_in w asker taker = asker_tick asker (tick_begins w asker taker).asker
+
+abbrev pub lane_ticks : LaneOf → (asker taker : Bool) → LaneOf
+lane_ticks w asker taker = asker_ticks (tick_begins w asker taker) (asker_tick_in w asker taker)
+
+-- An end starts anew, and is deaf for 40 ticks; nothing that was sent is lost by it.
+abbrev pub restarts : LaneOf → End → LaneOf
+restarts w ends.Asker = with_asker w (asker_new w.asker_eid w.taker_eid 40 w.asker.since_miss)
+restarts w ends.Taker = with_taker w (taker_new 40 w.taker.since_miss)
+
+-- the lane after a step
+abbrev pub lane_after : LaneOf → StepOf → LaneOf
+lane_after w (StepOf.Begin command body) = begins w command body
+lane_after w StepOf.Abandon = abandons w
+lane_after w (StepOf.Deliver number end reply) = delivers w end reply (numbered w.packets number)
+lane_after w (StepOf.Tick asker taker) = lane_ticks w asker taker
+lane_after w (StepOf.Restart end) = restarts w end
+
+-- the lane after these steps, one after another
+abbrev pub lane_run : LaneOf → List StepOf → LaneOf
+lane_run w [] = w
+lane_run w (s ∷ ss) = lane_run (lane_after w s) ss
+
+-- a packet may come for 8 units after its sending
+abbrev pub may_deliver : ℕ → Option Sent → Option LaneFault
+may_deliver now None = Some faults.NoSuchPacket
+may_deliver now (Some p) = if nat_lt (p.date + 8) now then Some faults.Dead else None
+
+-- Why a step may not be taken; None where it may.
+abbrev pub may_step : LaneOf → StepOf → Option LaneFault
+may_step w (StepOf.Begin command body) =
+    if (w.asker.deaf == 0) && may_begin w.asker.caller then None else Some faults.NotNow
+may_step w StepOf.Abandon = if is_some w.asker.caller.asked then None else Some faults.NotNow
+may_step w (StepOf.Deliver number end reply) = may_deliver w.now (numbered w.packets number)
+may_step w (StepOf.Tick asker taker) = if nat_lt w.now (2 ^ 32 - 1) then None else Some faults.NotNow
+may_step w (StepOf.Restart end) = None
+
+-- request data and a reply with its code have at most 252 bytes, so that their messages have at most 256 (DSP0240's
+-- header of four bytes stands before them)
+abbrev pub IsStep : StepOf → Type 0
+IsStep (StepOf.Begin command body) = length body ≤ 252
+IsStep StepOf.Abandon = Unit {0}
+IsStep (StepOf.Deliver number end reply) = length reply ≤ 252
+IsStep (StepOf.Tick asker taker) = Unit {0}
+IsStep (StepOf.Restart end) = Unit {0}
+
+-- the ends' clocks allow the step
+abbrev pub MayBeats : LaneOf → StepOf → Type 0
+MayBeats w (StepOf.Begin command body) = Unit {0}
+MayBeats w StepOf.Abandon = Unit {0}
+MayBeats w (StepOf.Deliver number end reply) = Unit {0}
+MayBeats w (StepOf.Tick asker taker) = MayBeat asker (asker_clock w) × MayBeat taker (taker_clock w)
+MayBeats w (StepOf.Restart end) = Unit {0}
+
+-- the step may be taken
+pub record MayTake (w : LaneOf) (s : StepOf) : Type 0 where
+  pub lawful : IsStep s
+  pub may : may_step w s ≡ None
+  pub beats : MayBeats w s
+
+-- each of these steps may be taken where it stands
+abbrev pub MayRun : LaneOf → List StepOf → Type 0
+MayRun w [] = Unit {0}
+MayRun w (s ∷ ss) = MayTake w s × MayRun (lane_after w s) ss
