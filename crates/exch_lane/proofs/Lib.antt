@@ -1,6 +1,8 @@
 mod AskerTicks
 mod Deliveries
 mod Elapsed
+mod Ghosts
+mod Lifts
 mod Pieces
 mod Tags
 mod TakerTicks

@@ -1,0 +1,31 @@
+-- From lists of eight to one tag, and facts of all packets.
+use Rattle.std.proofs.Common.{◌≡◌, ◌≢◌, ◌+◌, ◌≤◌, ◌<◌, ◌==◌, ℕ, zero, suc, Bool, true, false, if◌then◌else◌, List, [], ◌∷◌, ◌++◌, Option, Some, None, length, map, replicate, get_or, slice_get, slice_set, inl, inr, refl, arith}
+use Rattle.std.specs.List.{AllByRecursion}
+use Rattle.std.proofs.lemmas.Bool.{ne_eqb, eq-eqb}
+use Rattle.std.proofs.lemmas.Bool.Decides.{eqb_tells}
+use Rattle.std.proofs.lemmas.List.{get_or-replicate, get_or-set_other, get_or-set_same, length-set}
+
+-- what stands under a tag after a tick
+pub at_map : {A : Type 0} (f : Option A → Option A) → f None ≡ None → (xs : List (Option A)) (t : ℕ) → get_or (map f xs) t None ≡ f (get_or xs t None)
+at_map f none [] t = rw none refl
+at_map f none (x ∷ xs) zero = refl
+at_map f none (x ∷ xs) (suc t) = at_map f none xs t
+
+-- facts of all elements
+pub all_maps : {A : Type 0} (P Q : A → Type 0) (xs : List A) → AllByRecursion P xs → ((x : A) → P x → Q x) → AllByRecursion Q xs
+all_maps P Q [] h f = tt
+all_maps P Q (x ∷ xs) h f = (f x h.0, all_maps P Q xs h.1 f)
+
+pub all_append : {A : Type 0} (P : A → Type 0) (xs ys : List A) → AllByRecursion P xs → AllByRecursion P ys → AllByRecursion P (xs ++ ys)
+all_append P [] ys h k = k
+all_append P (x ∷ xs) ys h k = (h.0, all_append P xs ys h.1 k)
+
+pub all_at : {A : Type 0} (P : A → Type 0) (xs : List A) (i : ℕ) (x : A) → AllByRecursion P xs → slice_get xs i ≡ Some x → P x
+all_at P [] i x h e = absurd (cc)
+all_at P (y ∷ ys) zero x h e = let is : y ≡ x = cc in rw is at h.0
+all_at P (y ∷ ys) (suc i) x h e = all_at P ys i x h.1 e
+
+-- what is made of each element
+pub all_made : {A B C : Type 0} (P : C → Type 0) (f : B → C) (g : A → B) (xs : List A) → ((i : ℕ) (x : A) → slice_get xs i ≡ Some x → P (f (g x))) → AllByRecursion P (map f (map g xs))
+all_made P f g [] h = tt
+all_made P f g (x ∷ xs) h = (h 0 x refl, all_made P f g xs (λ i y e. h (suc i) y e))
