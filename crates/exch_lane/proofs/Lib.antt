@@ -3,6 +3,7 @@ mod Deliveries
 mod Elapsed
 mod Ghosts
 mod Lifts
+mod Packets
 mod Pieces
 mod Tags
 mod TakerTicks
