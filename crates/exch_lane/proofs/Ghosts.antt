@@ -22,7 +22,7 @@ put tag e exchanges t = if t == tag then Some e else exchanges t
 
 abbrev pub is_at : Option ℕ → ℕ → Bool
 is_at None t = false
-is_at (Some tag) t = tag == t
+is_at (Some tag) t = t == tag
 
 -- one tag of a lane
 abbrev pub ends_of : LaneOf → ℕ → Ends
@@ -93,10 +93,13 @@ pub record IsOpenOf (c : Clock) (x : Ends) (o : Open) (e : Exchange) : Type 0 wh
   pub message : o.message ≡ request_of x e
   pub soon : elapsed c e.first o.age
 
-pub record IsOpenRequest (w : LaneOf) (g : Ghost) (o : Open) : Type 0 where
-  pub hears : w.asker.deaf ≡ 0
+pub record IsOpenRequest (c : Clock) (asker taker deaf : ℕ) (g : Ghost) (o : Open) : Type 0 where
+  pub hears : deaf ≡ 0
   pub current : g.current ≡ Some o.tag
-  pub of : IsSomeAnd (g.exchanges o.tag) (IsOpenOf (asker_clock w) (ends_of w o.tag) o)
+  pub of : IsSomeAnd (g.exchanges o.tag) (IsOpenOf c (record { asker = asker; taker = taker; tag = o.tag }) o)
+
+abbrev pub IsAskedOf : LaneOf → Ghost → Open → Type 0
+IsAskedOf w g o = IsOpenRequest (asker_clock w) w.asker_eid w.taker_eid w.asker.deaf g o
 
 pub record IsCurrent (g : Ghost) (t : ℕ) : Type 0 where
   pub low : t < 8
@@ -115,7 +118,7 @@ pub record LaneBody (w : LaneOf) (g : Ghost) : Type 0 where
   pub caller : IsCaller w.asker.caller
   pub tags : (t : ℕ) → t < 8 → TagOf (view_of w g.current t) (g.exchanges t)
   pub packets : AllByRecursion (IsLiving w.now w.asker_eid w.taker_eid g.exchanges) w.packets
-  pub asked : IfSome w.asker.caller.asked (IsOpenRequest w g)
+  pub asked : IfSome w.asker.caller.asked (IsAskedOf w g)
   pub current : IfSome g.current (IsCurrent g)
   pub deaf : 0 < w.asker.deaf → w.asker.caller ≡ fresh w.asker_eid w.taker_eid
 

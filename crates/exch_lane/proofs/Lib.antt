@@ -1,10 +1,12 @@
 mod AskerTicks
+mod Begins
 mod Deliveries
 mod Elapsed
 mod Ghosts
 mod Lifts
 mod Packets
 mod Pieces
+mod Restarts
 mod Tags
 mod TakerTicks
 mod Views

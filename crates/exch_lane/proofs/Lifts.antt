@@ -4,6 +4,11 @@ use Rattle.std.specs.List.{AllByRecursion}
 use Rattle.std.proofs.lemmas.Bool.{ne_eqb, eq-eqb}
 use Rattle.std.proofs.lemmas.Bool.Decides.{eqb_tells}
 use Rattle.std.proofs.lemmas.List.{get_or-replicate, get_or-set_other, get_or-set_same, length-set}
+use Rattle.mctp_reasm.specs.Held.{Held}
+use Rattle.pldm_exch.specs.Caller.{fresh, rest_at}
+use Rattle.pldm_exch.specs.Kept.{Kept, kept_at, none_kept}
+use Rattle.exch_lane.specs.Lanes.{none_held}
+use Rattle.exch_lane.specs.Sides.{held_at}
 
 -- what stands under a tag after a tick
 pub at_map : {A : Type 0} (f : Option A → Option A) → f None ≡ None → (xs : List (Option A)) (t : ℕ) → get_or (map f xs) t None ≡ f (get_or xs t None)
@@ -29,3 +34,13 @@ all_at P (y ∷ ys) (suc i) x h e = all_at P ys i x h.1 e
 pub all_made : {A B C : Type 0} (P : C → Type 0) (f : B → C) (g : A → B) (xs : List A) → ((i : ℕ) (x : A) → slice_get xs i ≡ Some x → P (f (g x))) → AllByRecursion P (map f (map g xs))
 all_made P f g [] h = tt
 all_made P f g (x ∷ xs) h = (h 0 x refl, all_made P f g xs (λ i y e. h (suc i) y e))
+
+-- what new ends hold under a tag
+pub no_rest : (own peer t : ℕ) → t < 8 → rest_at (fresh own peer) t ≡ 0
+no_rest own peer t lt = get_or-replicate {A = ℕ} 8 t 0 0 lt
+
+pub nothing_held_at : (t : ℕ) → t < 8 → held_at none_held t ≡ None
+nothing_held_at t lt = get_or-replicate {A = Option Held} 8 t None None lt
+
+pub nothing_kept_at : (t : ℕ) → t < 8 → kept_at none_kept t ≡ None
+nothing_kept_at t lt = get_or-replicate {A = Option Kept} 8 t None None lt
