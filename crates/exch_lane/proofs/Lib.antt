@@ -1,3 +1,4 @@
+mod Arrivals
 mod AskerTicks
 mod Begins
 mod Deliveries
@@ -8,6 +9,7 @@ mod Packets
 mod Pieces
 mod Restarts
 mod Tags
+mod TakerHears
 mod TakerTicks
 mod Views
 mod Worked

@@ -1,5 +1,5 @@
 -- From lists of eight to one tag, and facts of all packets.
-use Rattle.std.proofs.Common.{◌≡◌, ◌≢◌, ◌+◌, ◌≤◌, ◌<◌, ◌==◌, ℕ, zero, suc, Bool, true, false, if◌then◌else◌, List, [], ◌∷◌, ◌++◌, Option, Some, None, length, map, replicate, get_or, slice_get, slice_set, inl, inr, refl, arith}
+use Rattle.std.proofs.Common.{◌≡◌, ◌≢◌, ◌∙◌, ◌+◌, ◌≤◌, ◌<◌, ◌==◌, ℕ, zero, suc, Bool, true, false, if◌then◌else◌, List, [], ◌∷◌, ◌++◌, Option, Some, None, length, map, replicate, get_or, slice_get, slice_set, inl, inr, refl, arith}
 use Rattle.std.specs.List.{AllByRecursion}
 use Rattle.std.proofs.lemmas.Bool.{ne_eqb, eq-eqb}
 use Rattle.std.proofs.lemmas.Bool.Decides.{eqb_tells}
@@ -44,3 +44,13 @@ nothing_held_at t lt = get_or-replicate {A = Option Held} 8 t None None lt
 
 pub nothing_kept_at : (t : ℕ) → t < 8 → kept_at none_kept t ≡ None
 nothing_kept_at t lt = get_or-replicate {A = Option Kept} 8 t None None lt
+
+-- what a tag holds where something was put under it
+pub set_here : {A : Type 0} (xs : List (Option A)) (tag : ℕ) (x : Option A) → length xs ≡ 8 → tag < 8 → get_or (slice_set xs tag x) tag None ≡ x
+set_here xs tag x long low = get_or-set_same xs tag x None (omega (arith, long, low))
+
+pub set_there : {A : Type 0} (xs : List (Option A)) (tag t : ℕ) (x : Option A) → t ≢ tag → get_or (slice_set xs tag x) t None ≡ get_or xs t None
+set_there xs tag t x other = get_or-set_other xs tag t x None other
+
+pub set_length : {A : Type 0} (xs : List (Option A)) (tag : ℕ) (x : Option A) → length xs ≡ 8 → length (slice_set xs tag x) ≡ 8
+set_length xs tag x long = length-set xs tag x ∙ long

@@ -1,0 +1,36 @@
+-- How a packet of a message arrives at an end.
+use Rattle.std.proofs.Common.{◌≡◌, ◌≢◌, ◌∙◌, ◌+◌, ◌<◌, ◌==◌, ◌&&◌, ℕ, Bool, true, false, not, if◌then◌else◌, List, Option, Some, None, Result, Ok, Err, slice_get, refl, sym, ap, arith}
+use Rattle.std.proofs.lemmas.Bool.{eq-eqb, ne_eqb}
+use Rattle.mctp_wire.specs.Packet as wire
+use Rattle.mctp_wire.specs.declared.layout.Head.{Head}
+use Rattle.mctp_reasm.specs.Pieces.{IsMessage, MessageOf, PacketOf, message_route, pieces, route_of, spelled}
+use Rattle.exch_lane.specs.Sides.{for_end, is_for, packet_for}
+use Rattle.exch_lane.proofs.Pieces.{Laws, piece_reads}
+
+-- a packet is for its destination alone
+is_for_it : (own peer : ℕ) (to : Bool) (h : Head) → h.dest ≡ own → h.source ≡ peer → h.to ≡ to → is_for own peer to h ≡ true
+is_for_it own peer true h dest source to = rw (eq-eqb h.dest own dest, eq-eqb h.source peer source, to) refl
+is_for_it own peer false h dest source to = rw (eq-eqb h.dest own dest, eq-eqb h.source peer source, to) refl
+
+not_for_it : (own peer : ℕ) (to : Bool) (h : Head) → h.dest ≢ own → is_for own peer to h ≡ false
+not_for_it own peer to h other = rw (ne_eqb h.dest own other) refl
+
+pub packet_arrives : (l : Laws) (own peer : ℕ) (to : Bool) (m : MessageOf) (i : ℕ) (p : PacketOf) (bytes : List ℕ) → IsMessage m → m.tag < 8 → m.dest ≡ own → m.source ≡ peer → m.to ≡ to → slice_get (pieces m) i ≡ Some p → bytes ≡ spelled p
+    → packet_for own peer to bytes ≡ Some p
+packet_arrives l own peer to m i p bytes lawful low dest source side at is =
+    let route = ((l.pieces m lawful).each i p at).route in
+    let reads : wire.packet_of bytes ≡ Ok (p.head, p.body) = ap wire.packet_of is ∙ piece_reads l m i p lawful low at in
+    let here : is_for own peer to p.head ≡ true = is_for_it own peer to p.head (ap (λ r. r.dest) route ∙ dest) (ap (λ r. r.source) route ∙ source) (ap (λ r. r.to) route ∙ side) in
+    ap (for_end own peer to) reads ∙ rw here refl
+
+pub packet_misses : (l : Laws) (own peer : ℕ) (to : Bool) (m : MessageOf) (i : ℕ) (p : PacketOf) (bytes : List ℕ) → IsMessage m → m.tag < 8 → m.dest ≢ own → slice_get (pieces m) i ≡ Some p → bytes ≡ spelled p
+    → packet_for own peer to bytes ≡ None
+packet_misses l own peer to m i p bytes lawful low other at is =
+    let route = ((l.pieces m lawful).each i p at).route in
+    let reads : wire.packet_of bytes ≡ Ok (p.head, p.body) = ap wire.packet_of is ∙ piece_reads l m i p lawful low at in
+    let elsewhere : is_for own peer to p.head ≡ false = not_for_it own peer to p.head (λ e. other (sym (ap (λ r. r.dest) route) ∙ e)) in
+    ap (for_end own peer to) reads ∙ rw elsewhere refl
+
+-- its tag is that of the message
+pub piece_tag : (l : Laws) (m : MessageOf) (i : ℕ) (p : PacketOf) → IsMessage m → slice_get (pieces m) i ≡ Some p → p.head.tag ≡ m.tag
+piece_tag l m i p lawful at = ap (λ r. r.tag) ((l.pieces m lawful).each i p at).route

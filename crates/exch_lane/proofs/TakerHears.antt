@@ -1,0 +1,84 @@
+-- A packet of a request comes to the taker.
+use Rattle.std.proofs.Common.{◌≡◌, ◌≢◌, ◌∙◌, ◌+◌, ◌≤◌, ◌<◌, ◌==◌, ◌&&◌, ◌++◌, ◌∷◌, [], ℕ, Bool, true, false, if◌then◌else◌, List, Option, Some, None, IfSome, IsSomeAnd, is_none, is_some, Result, Ok, Err, length, slice_get, slice_set, inl, inr, refl, sym, ap, subst, arith}
+use Rattle.std.specs.List.{AllByRecursion}
+use Rattle.std.proofs.lemmas.Bool.{eq-eqb, eqb-true}
+use Rattle.std.proofs.lemmas.Bool.Decides.{eqb_tells}
+use Rattle.std.proofs.lemmas.Cmp.{nat_list_eq_equiv}
+use Rattle.mctp_reasm.specs.Pieces.{MessageOf, PacketOf, pieces, spelled}
+use Rattle.mctp_reasm.specs.Held.{Held, fed, held_after}
+use Rattle.mctp_reasm.specs.declared.outcomes.Fed.{Fed}
+use Rattle.mctp_reasm.specs.declared.outcomes.Fed.TheVariants.{Dropped, Open, Whole}
+use Rattle.pldm_base.specs.declared.header.PldmHead.{PldmHead}
+use Rattle.pldm_exch.specs.Caller as callers
+use Rattle.pldm_exch.specs.Kept.{Kept, asked_as, identifier_in, identifier_of, kept_as, kept_at, kept_with, request_heard}
+use Rattle.pldm_exch.specs.declared.answerer.Asked.TheVariants as asks
+use Rattle.exch_lane.specs.Cells.{CellRun, cell_at_taker, cell_take}
+use Rattle.exch_lane.specs.Clocks.{Clock}
+use Rattle.exch_lane.specs.Lanes.{EntryOf, LaneOf, Sent, TakerOf, asker_clock, taker_clock}
+use Rattle.exch_lane.specs.Sides.{TakerRow, held_at, packet_for, taker_asked, taker_fed, taker_read, taker_row}
+use Rattle.exch_lane.specs.Steps.{sendings, taker_does, taker_row_in, takes}
+use Rattle.exch_lane.proofs.AskerTicks.{some_maps}
+use Rattle.exch_lane.proofs.Arrivals.{packet_arrives, packet_misses, piece_tag}
+use Rattle.exch_lane.proofs.Deliveries.{holds_requests, new_is_unanswered, reply_reads, request_is, request_reads, unanswered_is_current, view_taker_holds, view_takes}
+use Rattle.exch_lane.proofs.Elapsed.{IsClock}
+use Rattle.exch_lane.proofs.Ghosts.{Ghost, GoesOn, IsAskedOf, IsCurrent, IsLiving, IsOpenOf, IsOpenRequest, IsPacketOf, LaneBody, LaneGood, ends_of, is_at, put, run_of, view_of}
+use Rattle.exch_lane.proofs.Lifts.{set_here, set_length, set_there}
+use Rattle.exch_lane.proofs.Packets.{grown, packets_grow, reply_sent}
+use Rattle.exch_lane.proofs.Pieces.{Comes, Laws, piece_comes}
+use Rattle.exch_lane.proofs.Views.{Ends, Exchange, IsExchange, IsKept, IsRequests, IsWording, TagOf, answered_with, reply_of, request_of}
+
+-- nothing happens
+pub goes_nowhere : (w : LaneOf) (g : Ghost) → LaneGood w g → GoesOn w (Some (run_of w g))
+goes_nowhere w g h = record { ghost = g; good = h; runs = refl }
+
+-- only the taker, the packets and the history change
+abbrev pub taker_turned : LaneOf → TakerOf → List Sent → List EntryOf → LaneOf
+taker_turned w taker packets entries = record w { taker = taker; packets = packets; entries = entries }
+
+pub taker_turns : (w : LaneOf) (g : Ghost) (exchanges : ℕ → Option Exchange) (taker : TakerOf) (packets : List Sent) (entries : List EntryOf) → LaneGood w g
+    → length taker.kept ≡ 8 → length taker.requests ≡ 8 → taker.since_miss ≡ w.taker.since_miss
+    → ((t : ℕ) → t < 8 → TagOf (view_of (taker_turned w taker packets entries) g.current t) (exchanges t))
+    → AllByRecursion (IsLiving w.now w.asker_eid w.taker_eid exchanges) packets
+    → IfSome w.asker.caller.asked (IsAskedOf w (record { exchanges = exchanges; current = g.current })) → IfSome g.current (IsCurrent (record { exchanges = exchanges; current = g.current }))
+    → LaneGood (taker_turned w taker packets entries) (record { exchanges = exchanges; current = g.current })
+taker_turns w g exchanges taker packets entries h kept requests same tags living asked current = record {
+  body = record {
+    differ = h.body.differ;
+    own = h.body.own;
+    peer = h.body.peer;
+    replies = h.body.replies;
+    kept = kept;
+    requests = requests;
+    asker_time = h.body.asker_time;
+    taker_time = rw same h.body.taker_time;
+    caller = h.body.caller;
+    tags = tags;
+    packets = living;
+    asked = asked;
+    current = current;
+    deaf = h.body.deaf;
+  };
+  last = h.last;
+  quiet = h.quiet;
+}
+
+-- what is held of a request changes
+silent_tags : (w : LaneOf) (g : Ghost) (tag : ℕ) (e : Exchange) (o : Option Held) (packets : List Sent) → tag < 8 → g.exchanges tag ≡ Some e → w.taker.deaf ≡ 0 → IfSome o (IsRequests (taker_clock w) (ends_of w tag) e) → LaneGood w g
+    → (t : ℕ) → t < 8 → TagOf (view_of (taker_turned w (record w.taker { requests = slice_set w.taker.requests tag o }) packets w.entries) g.current t) (g.exchanges t)
+silent_tags w g tag e o packets low is hears holds h t lt = elim (eqb_tells t tag) [
+  | inl same ↦
+      let here : TagOf (view_of (taker_turned w (record w.taker { requests = slice_set w.taker.requests tag o }) packets w.entries) g.current tag) (g.exchanges tag)
+      = rw (is, set_here w.taker.requests tag o h.body.requests low) (view_taker_holds (view_of w g.current tag) e o hears holds (rw is at (h.body.tags tag low))) in
+      subst (λ t. TagOf (view_of (taker_turned w (record w.taker { requests = slice_set w.taker.requests tag o }) packets w.entries) g.current t) (g.exchanges t)) (sym same.1) here
+  | inr other ↦ rw (set_there w.taker.requests tag t o other.1) (h.body.tags t lt)
+]
+
+taker_holds : (w : LaneOf) (g : Ghost) (tag : ℕ) (e : Exchange) (o : Option Held) (packets : List Sent) → tag < 8 → g.exchanges tag ≡ Some e → w.taker.deaf ≡ 0 → IfSome o (IsRequests (taker_clock w) (ends_of w tag) e)
+    → AllByRecursion (IsLiving w.now w.asker_eid w.taker_eid g.exchanges) packets → LaneGood w g
+    → GoesOn (taker_turned w (record w.taker { requests = slice_set w.taker.requests tag o }) packets w.entries) (Some (run_of w g))
+taker_holds w g tag e o packets low is hears holds living h = record {
+  ghost = g;
+  good = taker_turns w g g.exchanges (record w.taker { requests = slice_set w.taker.requests tag o }) packets w.entries h h.body.kept (set_length w.taker.requests tag o h.body.requests) refl
+      (silent_tags w g tag e o packets low is hears holds h) living h.body.asked h.body.current;
+  runs = refl;
+}
