@@ -4,12 +4,14 @@ mod Begins
 mod Deliveries
 mod Elapsed
 mod Ghosts
+mod Growing
 mod Lifts
 mod Packets
 mod Pieces
 mod Restarts
 mod Tags
 mod TakerHears
+mod TakerTakes
 mod TakerTicks
 mod Views
 mod Worked

@@ -73,7 +73,7 @@ silent_tags w g tag e o packets low is hears holds h t lt = elim (eqb_tells t ta
   | inr other ↦ rw (set_there w.taker.requests tag t o other.1) (h.body.tags t lt)
 ]
 
-taker_holds : (w : LaneOf) (g : Ghost) (tag : ℕ) (e : Exchange) (o : Option Held) (packets : List Sent) → tag < 8 → g.exchanges tag ≡ Some e → w.taker.deaf ≡ 0 → IfSome o (IsRequests (taker_clock w) (ends_of w tag) e)
+pub taker_holds : (w : LaneOf) (g : Ghost) (tag : ℕ) (e : Exchange) (o : Option Held) (packets : List Sent) → tag < 8 → g.exchanges tag ≡ Some e → w.taker.deaf ≡ 0 → IfSome o (IsRequests (taker_clock w) (ends_of w tag) e)
     → AllByRecursion (IsLiving w.now w.asker_eid w.taker_eid g.exchanges) packets → LaneGood w g
     → GoesOn (taker_turned w (record w.taker { requests = slice_set w.taker.requests tag o }) packets w.entries) (Some (run_of w g))
 taker_holds w g tag e o packets low is hears holds living h = record {
