@@ -11,6 +11,7 @@ mod Pieces
 mod Restarts
 mod Tags
 mod TakerHears
+mod TakerRows
 mod TakerTakes
 mod TakerTicks
 mod Views

@@ -45,7 +45,7 @@ again_from w g tag e k (Some r) is reply c h =
     subst (λ m. AllByRecursion (IsLiving w.now w.asker_eid w.taker_eid g.exchanges) (w.packets ++ sendings w.now m)) (sym reply)
     (reply_sent w.now w.asker_eid w.taker_eid g.exchanges tag e r w.packets c.low c.is is c.soon h.body.packets)
 
-taker_repeats : (w : LaneOf) (g : Ghost) (tag : ℕ) (e : Exchange) (k : Kept) → IsKept (taker_clock w) (ends_of w tag) e k → RequestCame w g tag e → LaneGood w g
+pub taker_repeats : (w : LaneOf) (g : Ghost) (tag : ℕ) (e : Exchange) (k : Kept) → IsKept (taker_clock w) (ends_of w tag) e k → RequestCame w g tag e → LaneGood w g
     → GoesOn (taker_turned w (record w.taker { requests = slice_set w.taker.requests tag None }) (w.packets ++ sendings w.now k.reply) w.entries) (Some (run_of w g))
 taker_repeats w g tag e k kept c h = taker_holds w g tag e None (w.packets ++ sendings w.now k.reply) c.low c.is c.hears tt (again_from w g tag e k e.reply refl kept.reply c h) h
 
@@ -91,7 +91,7 @@ takes_runs : (w : LaneOf) (g : Ghost) (tag : ℕ) (e : Exchange) (reply : List �
     → cell_take e.command e.body reply (run_of w g) ≡ Some (run_of (taken_lane w tag e reply) (record { exchanges = put tag (answered_with reply e) g.exchanges; current = g.current }))
 takes_runs w g tag e reply none is current = rw (current, is, none, eq-eqb e.command e.command refl, nat_list_eq_equiv.refl e.body, eq-eqb tag tag refl) refl
 
-taker_takes : (w : LaneOf) (g : Ghost) (tag : ℕ) (e : Exchange) (reply : List ℕ) → length reply ≤ 252 → kept_at w.taker.kept tag ≡ None → RequestCame w g tag e → LaneGood w g
+pub taker_takes : (w : LaneOf) (g : Ghost) (tag : ℕ) (e : Exchange) (reply : List ℕ) → length reply ≤ 252 → kept_at w.taker.kept tag ≡ None → RequestCame w g tag e → LaneGood w g
     → GoesOn (taken_lane w tag e reply) (cell_take e.command e.body reply (run_of w g))
 taker_takes w g tag e reply few new c h =
     let k = came_of w g tag e c.low c.is h in
