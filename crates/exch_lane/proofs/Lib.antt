@@ -1,4 +1,6 @@
 mod Arrivals
+mod AskerHears
+mod AskerRows
 mod AskerTicks
 mod Begins
 mod Deliveries
