@@ -85,7 +85,7 @@ part_from : (c : Clock) (x : Ends) (e : Exchange) (r : List ℕ) (o : Option Hel
 part_from c x e r None is h = tt
 part_from c x e r (Some held) is h = rw is at h.part
 
-few_of : (e : Exchange) (r : List ℕ) → e.reply ≡ Some r → IsWording e → length r ≤ 252
+pub few_of : (e : Exchange) (r : List ℕ) → e.reply ≡ Some r → IsWording e → length r ≤ 252
 few_of e r is h = rw is at h.reply
 
 -- a packet of a reply comes to the hearing asker

@@ -4,6 +4,7 @@ mod AskerRows
 mod AskerTicks
 mod Begins
 mod Deliveries
+mod Delivers
 mod Elapsed
 mod Ghosts
 mod Growing
