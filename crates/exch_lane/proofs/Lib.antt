@@ -17,5 +17,7 @@ mod TakerHears
 mod TakerRows
 mod TakerTakes
 mod TakerTicks
+mod TickViews
+mod Ticked
 mod Views
 mod Worked
