@@ -68,7 +68,7 @@ learnt_caller c = record c { asked = None; answered = true }
 abbrev pub learnt_lane : LaneOf → ℕ → List ℕ → LaneOf
 learnt_lane w tag r = record w { asker = record w.asker { caller = learnt_caller w.asker.caller; replies = slice_set w.asker.replies tag None }; entries = w.entries ++ EntryOf.Learnt r ∷ [] }
 
-settled_of : (o : Option Exchange) (v : TagView) → v.is_current ≡ false → TagOf v o → IfSome o (IsSettled v.now)
+pub settled_of : (o : Option Exchange) (v : TagView) → v.is_current ≡ false → TagOf v o → IfSome o (IsSettled v.now)
 settled_of None v other h = tt
 settled_of (Some e) v other h = h.settled other
 

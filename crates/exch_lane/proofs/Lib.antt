@@ -20,4 +20,5 @@ mod TakerTicks
 mod TickViews
 mod Ticked
 mod Views
+mod Waits
 mod Worked

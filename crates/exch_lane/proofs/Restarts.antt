@@ -38,7 +38,7 @@ rests_on c o h =
     let same : rest_at c (last_tag c) ≡ rest_at c o.tag = ap (rest_at c) (sym h.tag) in
     ne_eqb (rest_at c (last_tag c)) 0 (λ z. absurd (omega (arith, rest, same, z)))
 
-there_at : (g : Ghost) (tag : ℕ) → g.current ≡ Some tag → IfSome g.current (IsCurrent g) → is_some (g.exchanges tag) ≡ true
+pub there_at : (g : Ghost) (tag : ℕ) → g.current ≡ Some tag → IfSome g.current (IsCurrent g) → is_some (g.exchanges tag) ≡ true
 there_at g tag is h = let k = rw is at h in k.there
 
 -- the open request is given up
