@@ -11,6 +11,7 @@ mod Growing
 mod Lifts
 mod Packets
 mod Pieces
+mod Quiets
 mod Restarts
 mod Tags
 mod TakerHears
