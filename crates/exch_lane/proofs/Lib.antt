@@ -8,6 +8,7 @@ mod Delivers
 mod Elapsed
 mod Ghosts
 mod Growing
+mod Hearing
 mod Lifts
 mod Packets
 mod Pieces

@@ -34,7 +34,7 @@ abbrev pub beaten : LaneOf → Bool → AskerOf
 beaten w asker = record w.asker { since_miss = (beat asker (asker_clock w)).since_miss }
 
 -- a quiet asker has nothing in its cell
-none_current : (w : LaneOf) (g : Ghost) (P : ℕ → Type 0) → w.asker.deaf ≡ 0 → is_quiet w.asker.caller ≡ true → LaneGood w g → IfSome g.current P
+pub none_current : (w : LaneOf) (g : Ghost) (P : ℕ → Type 0) → w.asker.deaf ≡ 0 → is_quiet w.asker.caller ≡ true → LaneGood w g → IfSome g.current P
 none_current w g P hears quiet h = let none : g.current ≡ None = none_is g.current (sym (h.quiet hears) ∙ quiet) in rw none tt
 
 -- a tick that it misses
@@ -74,10 +74,10 @@ heard_view w c less fell t = ap (λ rests. get_or rests t 0) fell ∙ rest_falls
 abbrev pub rested_caller : CallerState → CallerState
 rested_caller c = record c { rests = fallen c.rests }
 
-zero_falls : (c : CallerState) (t : ℕ) → rest_at c t ≡ 0 → rest_at (rested_caller c) t ≡ 0
+pub zero_falls : (c : CallerState) (t : ℕ) → rest_at c t ≡ 0 → rest_at (rested_caller c) t ≡ 0
 zero_falls c t z = let falls = rest_falls c.rests t in omega (arith, z, falls)
 
-quiet_stays : (c : CallerState) → c.asked ≡ None → is_quiet c ≡ true → is_quiet (rested_caller c) ≡ true
+pub quiet_stays : (c : CallerState) → c.asked ≡ None → is_quiet c ≡ true → is_quiet (rested_caller c) ≡ true
 quiet_stays c none quiet = elim (bool_cases c.answered) [
   | inl answered ↦ rw (none, answered) refl
   | inr waits ↦
@@ -87,7 +87,7 @@ quiet_stays c none quiet = elim (bool_cases c.answered) [
 ]
 
 -- a caller that is quiet now and wasn't: the rest of its last tag is over
-rest_over : (c : CallerState) → c.asked ≡ None → is_quiet c ≡ false → is_quiet (rested_caller c) ≡ true → rest_at (rested_caller c) (last_tag c) ≡ 0
+pub rest_over : (c : CallerState) → c.asked ≡ None → is_quiet c ≡ false → is_quiet (rested_caller c) ≡ true → rest_at (rested_caller c) (last_tag c) ≡ 0
 rest_over c none busy quiet = elim (bool_cases c.answered) [
   | inl answered ↦ absurd (let clash : true ≡ false = rw (none, answered) at busy in true≢false clash)
   | inr waits ↦ let left : (rest_at (rested_caller c) (last_tag c) == 0) ≡ true = rw (none, waits) at quiet in eqb-true (rest_at (rested_caller c) (last_tag c)) 0 left
