@@ -19,7 +19,7 @@ use Rattle.exch_lane.proofs.Ticked.{IsAskedThen, IsTicked, ticked_lane}
 use Rattle.exch_lane.proofs.Waits.{IsWaiting, TicksRow, bool_cases, waiting_body}
 
 -- its caller stays lawful
-caller_ticks : (l : Laws) (c : CallerState) (o : Option Open) → c.asked ≡ o → IsCaller c → IsCaller (ticked c o).0
+pub caller_ticks : (l : Laws) (c : CallerState) (o : Option Open) → c.asked ≡ o → IsCaller c → IsCaller (ticked c o).0
 caller_ticks l c o is h = subst (λ o. IsCaller (ticked c o).0) is (l.callers.after c CallerStep.Tick h)
 
 -- no request is open

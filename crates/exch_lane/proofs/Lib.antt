@@ -13,6 +13,7 @@ mod Lifts
 mod Packets
 mod Pieces
 mod Quiets
+mod Resends
 mod Restarts
 mod Tags
 mod TakerHears

@@ -52,10 +52,10 @@ ticks_body w g asker taker a exchanges packets may allowed h k tags living asked
 }
 
 -- the view of a tag after a tick
-abbrev made : (now am tm : ℕ) → Ends → AskerView → TakerView → Bool → TagView
+abbrev pub made : (now am tm : ℕ) → Ends → AskerView → TakerView → Bool → TagView
 made now am tm x a k b = record { now = now; asker_miss = am; taker_miss = tm; ends = x; asker = a; taker = k; is_current = b }
 
-made_same : (now am am2 tm tm2 : ℕ) (x : Ends) (a a2 : AskerView) (k k2 : TakerView) (b : Bool) → am ≡ am2 → tm ≡ tm2 → a ≡ a2 → k ≡ k2 → made now am tm x a k b ≡ made now am2 tm2 x a2 k2 b
+pub made_same : (now am am2 tm tm2 : ℕ) (x : Ends) (a a2 : AskerView) (k k2 : TakerView) (b : Bool) → am ≡ am2 → tm ≡ tm2 → a ≡ a2 → k ≡ k2 → made now am tm x a k b ≡ made now am2 tm2 x a2 k2 b
 made_same now am am2 tm tm2 x a a2 k k2 b e f p q = rw (e, f, p, q) refl
 
 -- a tag whose asker's side ticks
