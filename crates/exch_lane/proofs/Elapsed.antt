@@ -41,3 +41,8 @@ within_repeats c date count h le = omega arith
 pub within_keeping : (c : Clock) (date count : ℕ) → elapsed c date count → count ≤ 24 → c.now ≤ date + 29
 unfolding elapsed
 within_keeping c date count h le = omega arith
+
+-- a clock that didn't run yet
+pub clock_new : IsClock (record { now = 0; since_miss = 0 })
+unfolding IsClock
+clock_new = tt

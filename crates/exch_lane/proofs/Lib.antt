@@ -15,6 +15,7 @@ mod Pieces
 mod Quiets
 mod Resends
 mod Restarts
+mod Runs
 mod Tags
 mod TakerHears
 mod TakerRows
@@ -22,6 +23,7 @@ mod TakerTakes
 mod TakerTicks
 mod TickViews
 mod Ticked
+mod Ticks
 mod Views
 mod Waits
 mod Worked

@@ -1,0 +1,71 @@
+-- Lane refinement: a new lane is an empty cell, each step goes on, and so does every list of steps.
+use Rattle.std.proofs.Common.{◌≡◌, ◌≢◌, ◌∙◌, ◌+◌, ◌≤◌, ◌<◌, ◌==◌, ℕ, Bool, true, false, if◌then◌else◌, List, [], ◌∷◌, Option, Some, None, IfSome, IsSomeAnd, is_none, is_some, length, inl, inr, refl, sym, ap, subst, arith}
+use Rattle.std.specs.Option.{option_and_then}
+use Rattle.pldm_exch.specs.Caller.{is_quiet}
+use Rattle.exch_lane.specs.Cells.{Cell, CellRun, cell_along, cells_along, no_cell_yet}
+use Rattle.exch_lane.specs.Clocks.{Clock}
+use Rattle.exch_lane.specs.Lanes.{AreEnds, LaneOf, StepOf, asker_clock, lane_new, taker_clock}
+use Rattle.exch_lane.specs.Laws.{IsCellOf, LaneIsACell, StaysACell}
+use Rattle.exch_lane.specs.Steps.{MayRun, MayTake, lane_after, lane_run}
+use Rattle.exch_lane.specs.declared.step.End.{End}
+use Rattle.exch_lane.specs.declared.step.End.TheVariants as ends
+use Rattle.exch_lane.proofs.Begins.{goes_begin, none_is}
+use Rattle.exch_lane.proofs.Delivers.{goes_deliver}
+use Rattle.exch_lane.proofs.Elapsed.{IsClock, clock_new}
+use Rattle.exch_lane.proofs.Ghosts.{Ghost, GoesOn, LaneBody, LaneGood, run_of}
+use Rattle.exch_lane.proofs.Lifts.{nothing_held_at, nothing_kept_at}
+use Rattle.exch_lane.proofs.Pieces.{Laws}
+use Rattle.exch_lane.proofs.Restarts.{goes_abandon, goes_restart_asker, goes_restart_taker}
+use Rattle.exch_lane.proofs.Ticks.{goes_tick}
+
+-- nothing explains a new lane
+abbrev pub ghost_new : Ghost
+ghost_new = record { exchanges = λ t. None; current = None }
+
+new_good : (l : Laws) (asker taker : ℕ) → asker ≢ taker → LaneGood (lane_new asker taker) ghost_new
+new_good l asker taker differ = record {
+  body = record {
+    differ = differ;
+    own = refl;
+    peer = refl;
+    replies = refl;
+    kept = refl;
+    requests = refl;
+    asker_time = clock_new;
+    taker_time = clock_new;
+    caller = l.callers.first asker taker;
+    tags = λ t lt. (nothing_held_at t lt, nothing_held_at t lt, nothing_kept_at t lt);
+    packets = tt;
+    asked = tt;
+    current = tt;
+    deaf = λ z. absurd (omega (arith, z));
+  };
+  last = λ _. tt;
+  quiet = λ _. refl;
+}
+
+-- each step goes on
+step_goes : (l : Laws) (w : LaneOf) (g : Ghost) (s : StepOf) → MayTake w s → LaneGood w g → GoesOn (lane_after w s) (cell_along w s (run_of w g))
+step_goes l w g (StepOf.Begin command body) may h = goes_begin l w g command body may.lawful may.may h
+step_goes l w g StepOf.Abandon may h = goes_abandon l w g may.may h
+step_goes l w g (StepOf.Deliver number end reply) may h = goes_deliver l w g number end reply may.may may.lawful h
+step_goes l w g (StepOf.Tick asker taker) may h = goes_tick l w g asker taker may.beats.0 may.beats.1 h
+step_goes l w g (StepOf.Restart ends.Asker) may h = goes_restart_asker l w g h
+step_goes l w g (StepOf.Restart ends.Taker) may h = goes_restart_taker w g h
+
+-- a lane that is explained has its cell
+cell_of_good : (w : LaneOf) (g : Ghost) → LaneGood w g → IsCellOf w (run_of w g)
+cell_of_good w g h = record {
+  entries = refl;
+  quiet = λ hears quiet. let none : g.current ≡ None = none_is g.current (sym (h.quiet hears) ∙ quiet) in rw none refl;
+}
+
+-- every list of steps goes on
+run_goes : (l : Laws) (w : LaneOf) (g : Ghost) (ss : List StepOf) → MayRun w ss → LaneGood w g → IsSomeAnd (cells_along w ss (Some (run_of w g))) (IsCellOf (lane_run w ss))
+run_goes l w g [] may h = cell_of_good w g h
+run_goes l w g (s ∷ ss) may h =
+    let next = step_goes l w g s may.0 h in
+    subst (λ run. IsSomeAnd (cells_along (lane_after w s) ss run) (IsCellOf (lane_run (lane_after w s) ss))) (sym next.runs) (run_goes l (lane_after w s) next.ghost ss may.1 next.good)
+
+pub lane_is_a_cell : Laws → LaneIsACell
+lane_is_a_cell l asker taker steps ends_are may = run_goes l (lane_new asker taker) ghost_new steps may (new_good l asker taker ends_are.differ)
