@@ -1,1 +1,3 @@
+mod Routes
 mod Worked
+mod SideRows

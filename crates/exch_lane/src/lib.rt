@@ -2,8 +2,12 @@
 //! reordered and late, with the exchanges of PLDM messages (DSP0240) at both ends.
 #![tactic(auto)]
 
+mod asker;
 mod entry;
+mod inbox;
 mod step;
+mod taker;
+mod times;
 
 pub use entry::LaneEntry;
 pub use step::{End, LaneFault, LaneStep};
