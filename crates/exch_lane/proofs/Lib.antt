@@ -1,3 +1,4 @@
 mod Routes
 mod Worked
 mod SideRows
+mod Journals

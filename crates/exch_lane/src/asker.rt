@@ -141,7 +141,7 @@ impl Asker {
 
     /// Starts anew, and is deaf for 40 ticks.
     pub(crate) fn restart(&mut self)
-        ensures { self.new ≡ record self.old { state = asker_new self.old.own self.old.peer 40 0 } }
+        ensures { self.new ≡ record self.old { state = asker_new self.old.own self.old.peer 40 self.old.state.since_miss } }
     {
         let (own, peer) = (self.own(), self.peer());
         self.caller = Caller::new(own, peer);

@@ -5,6 +5,7 @@
 mod asker;
 mod entry;
 mod inbox;
+mod journal;
 mod step;
 mod taker;
 mod times;

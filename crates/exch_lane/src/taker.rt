@@ -118,7 +118,7 @@ impl Taker {
 
     /// Starts anew, and is deaf for 40 ticks.
     pub(crate) fn restart(&mut self)
-        ensures { self.new ≡ record self.old { state = taker_new 40 0 } }
+        ensures { self.new ≡ record self.old { state = taker_new 40 self.old.state.since_miss } }
     {
         let (own, peer) = (self.inbox.own(), self.inbox.peer());
         self.answerer = Answerer::new();
