@@ -2,3 +2,5 @@ mod Routes
 mod Worked
 mod SideRows
 mod Journals
+mod LaneRows
+mod Running

@@ -1,12 +1,12 @@
 -- What an inbox holds stays on its routes.
-use Rattle.std.proofs.Common.{◌≡◌, ◌+◌, ◌<◌, ◌≤◌, ◌⊎◌, ℕ, zero, suc, Bool, true, false, not, ◌&&◌, ◌∙◌, if◌then◌else◌, List, [], ◌∷◌, ◌++◌, ◌==◌, length, map, get_or, slice_set, Option, Some, None, refl, sym, ap, arith, inl, inr}
+use Rattle.std.proofs.Common.{◌≡◌, ◌+◌, ℕ, zero, suc, Bool, true, false, not, ◌&&◌, ◌∙◌, if◌then◌else◌, List, [], ◌∷◌, ◌++◌, ◌==◌, map, get_or, slice_set, Option, Some, None, refl, sym, arith, inl, inr}
 use Rattle.std.proofs.lemmas.Bool.Decides.{eqb_tells}
 use Rattle.std.proofs.lemmas.List.{length-map, length-set}
 use Rattle.mctp_wire.specs.declared.layout.Head.{Head}
-use Rattle.mctp_reasm.specs.Held.{Held, IsOfSame, held_after, held_as, held_tick, packets_of, cause_of, joined, base_of}
+use Rattle.mctp_reasm.specs.Held.{Held, IsOfSame, held_after, held_as, held_tick, packets_of, cause_of, joined}
 use Rattle.mctp_reasm.specs.declared.outcomes.DropCause.{DropCause}
-use Rattle.mctp_reasm.specs.Pieces.{PacketOf, Route, packet_of, route_of}
-use Rattle.exch_lane.specs.Inboxes.{AreOnRoutes, InboxOf, IsInbox, IsOnRoute, inbox_route}
+use Rattle.mctp_reasm.specs.Pieces.{PacketOf, Route, route_of}
+use Rattle.exch_lane.specs.Inboxes.{AreOnRoutes, IsInbox, IsOnRoute, inbox_route}
 use Rattle.exch_lane.specs.Sides.{held_at, held_with, is_for}
 
 -- one place
@@ -103,10 +103,10 @@ pub inbox_with : (own peer : ℕ) (to : Bool) (hs gs : List (Option Held)) (p : 
 inbox_with own peer to hs gs p same k e = rw same (record {
   places = length-set hs p.head.tag (held_after (held_at hs p.head.tag) p) ∙ k.places;
   routes =
-    let zero_more : 0 + p.head.tag ≡ p.head.tag = omega arith in
-    routes_set own peer to 0 p.head.tag hs (held_after (held_at hs p.head.tag) p) k.routes
-    (rw zero_more (on_after (inbox_route own peer to p.head.tag) (held_at hs p.head.tag) p (for_route own peer to p.head e)
-    (routes_here own peer to p.head.tag hs k.routes)));
+      let zero_more : 0 + p.head.tag ≡ p.head.tag = omega arith in
+      routes_set own peer to 0 p.head.tag hs (held_after (held_at hs p.head.tag) p) k.routes
+      (rw zero_more (on_after (inbox_route own peer to p.head.tag) (held_at hs p.head.tag) p (for_route own peer to p.head e)
+      (routes_here own peer to p.head.tag hs k.routes)));
 })
 
 pub ruleset routes = (inbox_tick, inbox_same, inbox_with)

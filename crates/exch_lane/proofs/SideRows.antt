@@ -1,9 +1,9 @@
 -- Rows of the ends, from what is known of a packet.
-use Rattle.std.proofs.Common.{◌≡◌, ◌==◌, ℕ, Bool, true, false, List, Option, Some, None, refl, sym}
+use Rattle.std.proofs.Common.{◌≡◌, ◌==◌, ℕ, true, false, List, Option, Some, None, refl, sym}
 use Rattle.mctp_reasm.specs.Pieces.{MessageOf, PacketOf}
 use Rattle.mctp_reasm.specs.declared.outcomes.Fed.TheVariants as outcomes
 use Rattle.pldm_base.specs.Header.{pldm_of}
-use Rattle.pldm_exch.specs.Caller.{CallerState, Heard, Open, answer_body, answer_heard, closed_by, heard_as}
+use Rattle.pldm_exch.specs.Caller.{CallerState, Open, answer_body, answer_heard, closed_by, heard_as}
 use Rattle.exch_lane.specs.Lanes.{AskerOf, TakerOf}
 use Rattle.exch_lane.specs.Sides.{AskerRow, asker_row, fed_at, held_with, packet_for, taker_read, taker_row}
 

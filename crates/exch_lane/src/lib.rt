@@ -6,9 +6,14 @@ mod asker;
 mod entry;
 mod inbox;
 mod journal;
+mod lane;
+mod replay;
 mod step;
 mod taker;
 mod times;
 
 pub use entry::LaneEntry;
+pub use journal::SentPacket;
+pub use lane::Lane;
+pub use replay::lane_replay;
 pub use step::{End, LaneFault, LaneStep};
