@@ -118,3 +118,15 @@ taker_clock w = record { now = w.now; since_miss = w.taker.since_miss }
 -- what a list that is counted from 1 has at a number
 abbrev pub numbered : {A : Type 0} → List A → ℕ → Option A
 numbered xs number = if nat_lt 0 number then slice_get xs (number - 1) else None
+
+-- a node that asks, its own endpoint and that of its peer
+pub record AskerNode : Type 0 where
+  pub own : ℕ
+  pub peer : ℕ
+  pub state : AskerOf
+
+-- a node that answers, its own endpoint and that of its peer
+pub record TakerNode : Type 0 where
+  pub own : ℕ
+  pub peer : ℕ
+  pub state : TakerOf

@@ -2,8 +2,20 @@
 //! reordered and late, with the exchanges of PLDM messages (DSP0240) at both ends.
 #![tactic(auto)]
 
+mod asker;
 mod entry;
+mod inbox;
+mod journal;
+mod lane;
+mod laws;
+mod replay;
 mod step;
+mod taker;
+mod times;
 
 pub use entry::LaneEntry;
+pub use journal::SentPacket;
+pub use lane::Lane;
+pub use laws::lane_is_a_cell;
+pub use replay::lane_replay;
 pub use step::{End, LaneFault, LaneStep};

@@ -1,0 +1,45 @@
+-- What a step of a lane makes of it, by the rows of its ends.
+use Rattle.std.proofs.Common.{◌≡◌, ℕ, List, ◌++◌, refl}
+use Rattle.mctp_reasm.specs.Pieces.{MessageOf}
+use Rattle.pldm_exch.specs.declared.caller.CallTick.TheVariants as ticks
+use Rattle.exch_lane.specs.Lanes.{LaneOf}
+use Rattle.exch_lane.specs.Sides.{AskerRow, AskerTick, TakerRow}
+use Rattle.exch_lane.specs.Steps.{asker_does, asker_ticks, sendings, taker_does, with_asker}
+use Rattle.exch_lane.specs.Code.{asker_after, asker_ticked, call_tick_of, heard_in, learnt_in, taker_after, with_learnt, with_sent, with_taken}
+
+-- a packet at the node that asks
+pub asker_does_is : (w : LaneOf) (row : AskerRow)
+    → asker_does w row ≡ record w { asker = asker_after w.asker row; entries = with_learnt w.entries (learnt_in row) }
+asker_does_is w (AskerRow.Ignores replies) = refl
+asker_does_is w (AskerRow.Learns replies caller reply) = refl
+
+-- a packet at the node that answers
+pub taker_does_is : (w : LaneOf) (reply : List ℕ) (row : TakerRow)
+    → taker_does w reply row
+    ≡ record w {
+      taker = taker_after w.taker reply row;
+      packets = with_sent w.now w.packets (heard_in reply row);
+      entries = with_taken reply w.entries (heard_in reply row);
+    }
+taker_does_is w reply (TakerRow.Silent requests) = refl
+taker_does_is w reply (TakerRow.Repeats requests answer) = refl
+taker_does_is w reply (TakerRow.TakesUp requests m head body) = refl
+
+-- a tick of the node that asks
+pub resends_is : (w : LaneOf) (row : AskerTick) (m : MessageOf) → ticks.Send m ≡ call_tick_of row
+    → asker_ticks w row ≡ record w { asker = asker_ticked row; packets = w.packets ++ sendings w.now m }
+resends_is w (AskerTick.Waits a) m e = absurd (cc)
+resends_is w (AskerTick.Resends a n) m e = let same : n ≡ m = cc in rw same refl
+resends_is w (AskerTick.GivesUp a) m e = absurd (cc)
+
+pub waits_is : (w : LaneOf) (row : AskerTick) → ticks.Nothing ≡ call_tick_of row → asker_ticks w row ≡ with_asker w (asker_ticked row)
+waits_is w (AskerTick.Waits a) e = refl
+waits_is w (AskerTick.Resends a n) e = absurd (cc)
+waits_is w (AskerTick.GivesUp a) e = absurd (cc)
+
+pub gives_up_is : (w : LaneOf) (row : AskerTick) → ticks.GaveUp ≡ call_tick_of row → asker_ticks w row ≡ with_asker w (asker_ticked row)
+gives_up_is w (AskerTick.Waits a) e = absurd (cc)
+gives_up_is w (AskerTick.Resends a n) e = absurd (cc)
+gives_up_is w (AskerTick.GivesUp a) e = refl
+
+pub ruleset rows = (asker_does_is, taker_does_is, resends_is, waits_is, gives_up_is)

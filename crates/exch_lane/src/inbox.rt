@@ -1,0 +1,135 @@
+//! The messages that an end hears, put together from their packets.
+
+ghost use Rattle.std.specs.Prelude.{◌≡◌, ◌≤◌, IfSome, false, length, map, option_map, true};
+ghost use Rattle.mctp_reasm.specs.Held.{IsOfSame, held_tick, packets_of};
+ghost use Rattle.mctp_reasm.specs.Pieces.{packet_of};
+ghost use Rattle.exch_lane.specs.Inboxes.{AreOnRoutes, IsInbox};
+ghost use Rattle.exch_lane.specs.Lanes.{none_held};
+ghost use Rattle.exch_lane.specs.Sides.{fed_at, held_at, held_with, is_for, packet_for};
+
+use mctp_reasm::{Assembly, Fed};
+use mctp_wire::{Head, Packet};
+use std::marker::Model;
+
+/// Tags of a direction: the tag of a message has three bits (DSP0236).
+const TAGS: usize = 8;
+
+/// The assemblies of the messages that an end hears from its peer, one a tag.
+#[derive(Debug, Drop)]
+pub(crate) struct Inbox {
+    own: u8,
+    peer: u8,
+    to: bool,
+    places: [Assembly; TAGS],
+}
+
+impl Model for Inbox {
+    ghost use Rattle.exch_lane.specs.Inboxes.{InboxOf, IsInbox};
+
+    ghost Value = { InboxOf };
+
+    ghost view = { λ b. record { own = b.own; peer = b.peer; to = b.to; held = b.places } };
+
+    ghost invariant = { λ b. IsInbox (record { own = b.own; peer = b.peer; to = b.to; held = b.places }) };
+}
+
+impl Inbox {
+    /// An inbox of `own` that holds nothing: it hears requests of `peer` where `to` is set, and else replies.
+    pub(crate) fn new(own: u8, peer: u8, to: bool) -> Inbox
+        ensures { result ≡ record { own = own; peer = peer; to = to; held = none_held } }
+    {
+        Inbox {
+            own,
+            peer,
+            to,
+            places: [
+                Assembly::new(),
+                Assembly::new(),
+                Assembly::new(),
+                Assembly::new(),
+                Assembly::new(),
+                Assembly::new(),
+                Assembly::new(),
+                Assembly::new(),
+            ],
+        }
+    }
+
+    /// The end's own endpoint.
+    pub(crate) fn own(&self) -> u8
+        ensures { result ≡ self.now.own }
+    {
+        self.own
+    }
+
+    /// The endpoint that it hears.
+    pub(crate) fn peer(&self) -> u8
+        ensures { result ≡ self.now.peer }
+    {
+        self.peer
+    }
+
+    /// Whether a packet is for this end: it goes to it, comes from its peer, and TO is set where requests are heard.
+    fn is_for(&self, head: &Head) -> bool
+        ensures { result ≡ is_for self.now.own self.now.peer self.now.to head.now }
+    {
+        head.dest == self.own && head.source == self.peer && head.to == self.to
+    }
+
+    /// The packet that these bytes are, where it is for this end.
+    pub(crate) fn packet_in<'b>(&self, bytes: &'b [u8]) -> Option<Packet<'b>>
+        ensures value { option_map (λ p. packet_of p.head p.body.now) result ≡ packet_for self.now.own self.now.peer self.now.to bytes.now }
+        ensures mine { IfSome result (λ p. is_for self.now.own self.now.peer self.now.to p.head ≡ true) }
+        ensures body { IfSome result (λ p. (1 ≤ length p.body.now) × (length p.body.now ≤ 64)) }
+        ensures tag { IfSome result (λ p. p.head.tag ≤ 7) }
+    {
+        let Ok(packet) = mctp_wire::decode(bytes) else {
+            return None;
+        };
+        if !self.is_for(&packet.head) {
+            return None;
+        }
+        Some(packet)
+    }
+
+    /// Feeds a packet to the assembly of its tag.
+    #[tactic(auto, using(crate::proofs::Routes::routes))]
+    pub(crate) fn feed(&mut self, packet: &Packet<'_>) -> Fed
+        requires mine { is_for self.old.own self.old.peer self.old.to packet.now.head ≡ true }
+        requires body { (1 ≤ length packet.now.body.now) × (length packet.now.body.now ≤ 64) }
+        requires tag { packet.now.head.tag ≤ 7 }
+        ensures answer { result ≡ fed_at self.old.held (packet_of packet.now.head packet.now.body.now) }
+        ensures after { self.new ≡ record self.old { held = held_with self.old.held (packet_of packet.now.head packet.now.body.now) } }
+    {
+        feed_to(&mut self.places, packet)
+    }
+
+    /// A tick passes.
+    #[tactic(auto, using(crate::proofs::Routes::routes))]
+    pub(crate) fn tick(&mut self)
+        ensures { self.new ≡ record self.old { held = map held_tick self.old.held } }
+    {
+        tick_all(&mut self.places);
+    }
+}
+
+/// A tick passes for each of these.
+fn tick_all(places: &mut [Assembly])
+    ensures { places.new ≡ map held_tick places.old }
+{
+    for place in places.iter_mut() {
+        place.tick();
+    }
+}
+
+/// Feeds a packet to the assembly of its tag.
+fn feed_to(places: &mut [Assembly], packet: &Packet<'_>) -> Fed
+    requires places { length places.old ≡ 8 }
+    requires body { (1 ≤ length packet.now.body.now) × (length packet.now.body.now ≤ 64) }
+    requires tag { packet.now.head.tag ≤ 7 }
+    requires same { IsOfSame (packets_of (held_at places.old packet.now.head.tag)) packet.now.head }
+    ensures answer { result ≡ fed_at places.old (packet_of packet.now.head packet.now.body.now) }
+    ensures after { places.new ≡ held_with places.old (packet_of packet.now.head packet.now.body.now) }
+{
+    places[usize::from(packet.head.tag)].feed(packet)
+}

@@ -1,0 +1,242 @@
+//! A lane.
+
+ghost use Rattle.std.specs.Prelude.{◌&&◌, ◌==◌, ◌≡◌, ◌≢◌, ◌≤◌, IfErr, None, OnErr, OnOk, is_some, length, map, true};
+ghost use Rattle.pldm_exch.specs.Caller.{is_quiet, may_begin};
+ghost use Rattle.exch_lane.specs.Code.{HasRoom, IsCause, asker_after, heard_in, is_deaf_in, learnt_in, sent_of, taker_after, with_learnt, with_sent, with_taken};
+ghost use Rattle.exch_lane.specs.Lanes.{AreEnds, StepOf, entry_of, lane_new, step_of};
+ghost use Rattle.exch_lane.specs.Sides.{asker_row, taker_row};
+ghost use Rattle.exch_lane.specs.Steps.{MayTake, abandons, begins, lane_after, lane_hears, lane_ticks, may_step, restarts};
+
+use crate::asker::Asker;
+use crate::entry::LaneEntry;
+use crate::journal::{Journal, SentPacket};
+use crate::step::{End, LaneFault, LaneStep};
+use crate::taker::{Heard, Taker, data_of};
+use pldm_exch::CallTick;
+use std::alloc::Global;
+use std::marker::Model;
+
+/// One direction of requests between two nodes: both ends, and every packet that was ever sent between them.
+#[derive(Debug, Drop)]
+pub struct Lane {
+    asker: Asker,
+    taker: Taker,
+    journal: Journal,
+}
+
+impl Model for Lane {
+    ghost use Rattle.std.specs.Prelude.{◌≡◌, map};
+    ghost use Rattle.exch_lane.specs.Code.{sent_of};
+    ghost use Rattle.exch_lane.specs.Lanes.{LaneOf, entry_of};
+
+    ghost Value = { LaneOf };
+
+    ghost view = { λ l. record { asker_eid = l.asker.own; taker_eid = l.asker.peer; now = l.journal.time; asker = l.asker.state; taker = l.taker.state; packets = map sent_of l.journal.packets.items; entries = map entry_of l.journal.entries.items } };
+
+    ghost invariant = { λ l. (l.taker.own ≡ l.asker.peer) × (l.taker.peer ≡ l.asker.own) };
+}
+
+impl Lane {
+    /// A lane in which nothing happened yet, between two different nodes with endpoints of 8 to 254.
+    pub fn new(alloc: Global, asker: u8, taker: u8) -> Lane
+        requires { AreEnds asker taker }
+        ensures { result ≡ lane_new asker taker }
+    {
+        Lane {
+            asker: Asker::new(asker, taker),
+            taker: Taker::new(taker, asker),
+            journal: Journal::new(alloc),
+        }
+    }
+
+    /// The units that have passed, at most 4,294,967,295.
+    pub fn now(&self) -> u32
+        ensures { result ≡ self.now.now }
+    {
+        self.journal.time
+    }
+
+    /// Every packet that was sent, in the order of sending: what a Deliver numbers from 1.
+    pub fn packets(&self) -> &[SentPacket]
+        ensures { map sent_of result.now ≡ self.now.packets }
+    {
+        self.journal.packets.as_slice()
+    }
+
+    /// All that happened, in order.
+    pub fn history(&self) -> &[LaneEntry]
+        ensures { map entry_of result.now ≡ self.now.entries }
+    {
+        self.journal.entries.as_slice()
+    }
+
+    /// Whether an end drops every packet, since it started anew less than 40 ticks ago.
+    pub fn is_deaf(&self, end: End) -> bool
+        ensures { result ≡ is_deaf_in self.now end }
+    {
+        match end {
+            End::Asker => self.asker.is_deaf(),
+            End::Taker => self.taker.is_deaf(),
+        }
+    }
+
+    /// Whether a request waits for its reply.
+    pub fn is_open(&self) -> bool
+        ensures { result ≡ is_some self.now.asker.caller.asked }
+    {
+        self.asker.is_open()
+    }
+
+    /// Whether nothing of the asker's last request can come any more: no request is open, and the last one was answered,
+    /// or its tag has rested.
+    pub fn is_quiet(&self) -> bool
+        ensures { result ≡ is_quiet self.now.asker.caller }
+    {
+        self.asker.is_quiet()
+    }
+
+    /// Whether a request may begin: the asker hears and is quiet, and the next tag has rested.
+    pub fn can_begin(&self) -> bool
+        ensures { result ≡ ((self.now.asker.deaf == 0) && may_begin self.now.asker.caller) }
+    {
+        self.asker.can_begin()
+    }
+
+    /// Takes one step, or leaves the lane as it is.
+    pub(crate) fn step(&mut self, step: &LaneStep) -> Result<(), LaneFault>
+        ensures ok { OnOk result (MayTake self.old (step_of step.now) × (self.new ≡ lane_after self.old (step_of step.now))) }
+        ensures err { OnErr result (self.new ≡ self.old) }
+        ensures cause { IfErr result (λ e. IsCause self.old (step_of step.now) e) }
+    {
+        match step {
+            LaneStep::Begin(command, body) => self.begin(*command, body.as_slice()),
+            LaneStep::Abandon => self.abandon(),
+            LaneStep::Deliver(number, end, reply) => self.deliver(*number, *end, reply.as_slice()),
+            LaneStep::Tick => self.tick(),
+            LaneStep::Restart(end) => {
+                self.restart(*end);
+                Ok(())
+            }
+        }
+    }
+
+    /// The asker begins a request.
+    #[tactic(auto, using(crate::proofs::LaneRows::rows))]
+    fn begin(&mut self, command: u8, body: &[u8]) -> Result<(), LaneFault>
+        requires { length body.now ≤ 252 }
+        ensures ok { OnOk result ((may_step self.old (StepOf.Begin command body.now) ≡ None) × (self.new ≡ begins self.old command body.now)) }
+        ensures err { OnErr result (self.new ≡ self.old) }
+        ensures cause { IfErr result (λ e. IsCause self.old (StepOf.Begin command body.now) e) }
+    {
+        if !self.asker.can_begin() {
+            return Err(LaneFault::NotNow);
+        }
+        let Ok(()) = self.journal.make_room() else {
+            return Err(LaneFault::Memory);
+        };
+        let message = self.asker.begin(command, body);
+        self.journal.send(&message);
+        self.journal.note(LaneEntry::Asked(command, data_of(body)));
+        Ok(())
+    }
+
+    /// The asker gives its open request up.
+    fn abandon(&mut self) -> Result<(), LaneFault>
+        ensures ok { OnOk result ((may_step self.old StepOf.Abandon ≡ None) × (self.new ≡ abandons self.old)) }
+        ensures err { OnErr result (self.new ≡ self.old) }
+        ensures cause { IfErr result (λ e. IsCause self.old StepOf.Abandon e) }
+    {
+        if !self.asker.is_open() {
+            return Err(LaneFault::NotNow);
+        }
+        self.asker.abandon();
+        Ok(())
+    }
+
+    /// A packet comes to an end.
+    fn deliver(&mut self, number: usize, end: End, reply: &[u8]) -> Result<(), LaneFault>
+        requires { length reply.now ≤ 252 }
+        ensures ok { OnOk result ((may_step self.old (StepOf.Deliver number end reply.now) ≡ None) × (self.new ≡ lane_after self.old (StepOf.Deliver number end reply.now))) }
+        ensures err { OnErr result (self.new ≡ self.old) }
+        ensures cause { IfErr result (λ e. IsCause self.old (StepOf.Deliver number end reply.now) e) }
+    {
+        let packet = match self.journal.living(number) {
+            Ok(packet) => packet,
+            Err(fault) => return Err(fault),
+        };
+        let Ok(()) = self.journal.make_room() else {
+            return Err(LaneFault::Memory);
+        };
+        let bytes = packet.bytes.as_slice();
+        match end {
+            End::Asker => asker_hears(&mut self.asker, &mut self.journal, bytes),
+            End::Taker => taker_hears(&mut self.taker, &mut self.journal, bytes, reply),
+        }
+        Ok(())
+    }
+
+    /// A unit of time passes.
+    #[tactic(auto, using(crate::proofs::LaneRows::rows))]
+    fn tick(&mut self) -> Result<(), LaneFault>
+        ensures ok { OnOk result ((may_step self.old (StepOf.Tick true true) ≡ None) × (self.new ≡ lane_ticks self.old true true)) }
+        ensures err { OnErr result (self.new ≡ self.old) }
+        ensures cause { IfErr result (λ e. IsCause self.old (StepOf.Tick true true) e) }
+    {
+        let Some(time) = self.journal.time.checked_add(1) else {
+            return Err(LaneFault::NotNow);
+        };
+        let Ok(()) = self.journal.make_room() else {
+            return Err(LaneFault::Memory);
+        };
+        self.journal.time = time;
+        self.taker.tick();
+        if let CallTick::Send(message) = self.asker.tick() {
+            self.journal.send(&message);
+        }
+        Ok(())
+    }
+
+    /// An end starts anew.
+    fn restart(&mut self, end: End)
+        ensures { self.new ≡ restarts self.old end }
+    {
+        match end {
+            End::Asker => self.asker.restart(),
+            End::Taker => self.taker.restart(),
+        }
+    }
+}
+
+/// The asker hears the bytes of a packet.
+#[tactic(auto, using(crate::proofs::LaneRows::rows))]
+fn asker_hears(asker: &mut Asker, journal: &mut Journal, bytes: &[u8])
+    requires room { HasRoom journal.old }
+    ensures asker { asker.new ≡ record asker.old { state = asker_after asker.old.state (asker_row asker.old.own asker.old.peer asker.old.state bytes.now) } }
+    ensures packets { journal.new.packets ≡ journal.old.packets }
+    ensures entries { map entry_of journal.new.entries.items ≡ with_learnt (map entry_of journal.old.entries.items) (learnt_in (asker_row asker.old.own asker.old.peer asker.old.state bytes.now)) }
+    ensures time { journal.new.time ≡ journal.old.time }
+{
+    if let Some(reply) = asker.hear(bytes) {
+        journal.note(LaneEntry::Learnt(reply));
+    }
+}
+
+/// The taker hears the bytes of a packet.
+#[tactic(auto, using(crate::proofs::LaneRows::rows))]
+fn taker_hears(taker: &mut Taker, journal: &mut Journal, bytes: &[u8], reply: &[u8])
+    requires room { HasRoom journal.old }
+    requires reply { length reply.now ≤ 252 }
+    ensures taker { taker.new ≡ record taker.old { state = taker_after taker.old.state reply.now (taker_row taker.old.own taker.old.peer taker.old.state bytes.now) } }
+    ensures packets { map sent_of journal.new.packets.items ≡ with_sent journal.old.time (map sent_of journal.old.packets.items) (heard_in reply.now (taker_row taker.old.own taker.old.peer taker.old.state bytes.now)) }
+    ensures entries { map entry_of journal.new.entries.items ≡ with_taken reply.now (map entry_of journal.old.entries.items) (heard_in reply.now (taker_row taker.old.own taker.old.peer taker.old.state bytes.now)) }
+    ensures time { journal.new.time ≡ journal.old.time }
+{
+    match taker.hear(bytes, reply) {
+        Heard::Nothing => {}
+        Heard::Again(answer) => journal.send(&answer),
+        Heard::New(command, body, answer) => {
+            journal.send(&answer);
+            journal.note(LaneEntry::Taken(command, body, data_of(reply)));
+        }
+    }
+}

@@ -1,0 +1,27 @@
+//! Steps of a lane, one after another.
+
+ghost use Rattle.std.specs.Prelude.{◌≡◌, ◌<◌, IfErr, IsSomeAnd, OnOk, length, slice_get, take};
+ghost use Rattle.exch_lane.specs.Code.{IsCause};
+ghost use Rattle.exch_lane.specs.Lanes.{step_of, steps_of};
+ghost use Rattle.exch_lane.specs.Steps.{MayRun, lane_run};
+
+use crate::lane::Lane;
+use crate::step::{LaneFault, LaneStep};
+
+/// Takes steps in order, up to the first that the lane refuses.
+///
+/// # Errors
+/// The number of steps that were taken, and why the next one wasn't. The lane is that after those steps.
+pub fn lane_replay(lane: &mut Lane, steps: &[LaneStep]) -> Result<(), (usize, LaneFault)>
+    ensures ok { OnOk result (MayRun lane.old (steps_of steps.now) × (lane.new ≡ lane_run lane.old (steps_of steps.now))) }
+    ensures stopped { IfErr result (λ e. (e.0 < length steps.now) × MayRun lane.old (steps_of (take e.0 steps.now))
+        × (lane.new ≡ lane_run lane.old (steps_of (take e.0 steps.now)))
+        × IsSomeAnd (slice_get steps.now e.0) (λ s. IsCause lane.new (step_of s) e.1)) }
+{
+    for (number, step) in steps.iter().enumerate() {
+        if let Err(fault) = lane.step(step) {
+            return Err((number, fault));
+        }
+    }
+    Ok(())
+}
