@@ -67,5 +67,5 @@ run_goes l w g (s ∷ ss) may h =
     let next = step_goes l w g s may.0 h in
     subst (λ run. IsSomeAnd (cells_along (lane_after w s) ss run) (IsCellOf (lane_run (lane_after w s) ss))) (sym next.runs) (run_goes l (lane_after w s) next.ghost ss may.1 next.good)
 
-pub lane_is_a_cell : Laws → LaneIsACell
-lane_is_a_cell l asker taker steps ends_are may = run_goes l (lane_new asker taker) ghost_new steps may (new_good l asker taker ends_are.differ)
+pub lane_refinement : Laws → LaneIsACell
+lane_refinement l asker taker steps ends_are may = run_goes l (lane_new asker taker) ghost_new steps may (new_good l asker taker ends_are.differ)
