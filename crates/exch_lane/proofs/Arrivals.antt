@@ -1,9 +1,9 @@
 -- How a packet of a message arrives at an end.
-use Rattle.std.proofs.Common.{◌≡◌, ◌≢◌, ◌∙◌, ◌+◌, ◌<◌, ◌==◌, ◌&&◌, ℕ, Bool, true, false, not, if◌then◌else◌, List, Option, Some, None, Result, Ok, Err, slice_get, refl, sym, ap, arith}
+use Rattle.std.proofs.Common.{◌≡◌, ◌≢◌, ◌∙◌, ◌<◌, ℕ, Bool, true, false, List, Some, None, Ok, slice_get, refl, sym, ap}
 use Rattle.std.proofs.lemmas.Bool.{eq-eqb, ne_eqb}
 use Rattle.mctp_wire.specs.Packet as wire
 use Rattle.mctp_wire.specs.declared.layout.Head.{Head}
-use Rattle.mctp_reasm.specs.Pieces.{IsMessage, MessageOf, PacketOf, message_route, pieces, route_of, spelled}
+use Rattle.mctp_reasm.specs.Pieces.{IsMessage, MessageOf, PacketOf, pieces, spelled}
 use Rattle.exch_lane.specs.Sides.{for_end, is_for, packet_for}
 use Rattle.exch_lane.proofs.Pieces.{Laws, piece_reads}
 

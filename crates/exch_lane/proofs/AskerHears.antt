@@ -1,17 +1,16 @@
 -- A packet of a reply comes to the asker: it is held or dropped, or its reply is learnt and is that of the cell.
-use Rattle.std.proofs.Common.{◌≡◌, ◌≢◌, ◌∙◌, ◌+◌, ◌≤◌, ◌<◌, ◌==◌, ◌&&◌, ◌||◌, ◌++◌, ◌∷◌, [], not, ℕ, Bool, true, false, if◌then◌else◌, List, Option, Some, None, IfSome, IsSomeAnd, is_none, is_some, Result, Ok, Err, length, slice_get, slice_set, inl, inr, refl, sym, ap, subst, arith}
-use Rattle.std.proofs.lemmas.Bool.{eq-eqb}
+use Rattle.std.proofs.Common.{◌≡◌, ◌∙◌, ◌+◌, ◌≤◌, ◌<◌, ◌++◌, ◌∷◌, [], ℕ, true, false, List, Option, Some, None, IfSome, slice_set, inl, inr, refl, sym, ap, subst, arith}
 use Rattle.std.proofs.lemmas.Bool.Decides.{eqb_tells}
 use Rattle.std.proofs.lemmas.Cmp.{nat_list_eq_equiv}
 use Rattle.mctp_reasm.specs.Held.{Held}
-use Rattle.pldm_exch.specs.Caller.{CallerState, IsCaller, Open}
+use Rattle.pldm_exch.specs.Caller.{CallerState, Open}
 use Rattle.exch_lane.specs.Cells.{cell_learn}
-use Rattle.exch_lane.specs.Lanes.{AskerOf, EntryOf, LaneOf, asker_clock}
+use Rattle.exch_lane.specs.Lanes.{EntryOf, LaneOf, asker_clock}
 use Rattle.exch_lane.proofs.Deliveries.{view_asker_holds}
-use Rattle.exch_lane.proofs.Ghosts.{Ghost, GoesOn, IsAskedOf, LaneBody, LaneGood, ends_of, is_at, run_of, view_of}
+use Rattle.exch_lane.proofs.Ghosts.{Ghost, GoesOn, LaneGood, ends_of, run_of, view_of}
 use Rattle.exch_lane.proofs.Lifts.{set_here, set_length, set_there}
 use Rattle.exch_lane.proofs.Tags.{view_leaves}
-use Rattle.exch_lane.proofs.Views.{Exchange, IsExchange, IsReplies, IsSettled, TagOf, TagView}
+use Rattle.exch_lane.proofs.Views.{Exchange, IsReplies, IsSettled, TagOf, TagView}
 
 -- where a packet of the reply of an exchange came to the hearing asker
 pub record ReplyCame (w : LaneOf) (g : Ghost) (tag : ℕ) (e : Exchange) (r : List ℕ) : Type 0 where

@@ -1,27 +1,25 @@
 -- What a packet of a reply is for the asker.
-use Rattle.std.proofs.Common.{◌≡◌, ◌≢◌, ◌∙◌, ◌+◌, ◌≤◌, ◌<◌, ◌==◌, ◌&&◌, not, ℕ, Bool, true, false, if◌then◌else◌, List, Option, Some, None, IfSome, IsSomeAnd, Result, Ok, Err, length, slice_get, slice_set, inl, inr, refl, sym, ap, subst, arith}
+use Rattle.std.proofs.Common.{◌≡◌, ◌∙◌, ◌≤◌, ◌<◌, ◌==◌, ℕ, false, List, Option, Some, None, IfSome, length, slice_set, inl, inr, refl, sym, ap, subst}
 use Rattle.std.proofs.lemmas.Bool.{eq-eqb}
 use Rattle.std.proofs.lemmas.Bool.Decides.{eqb_tells}
-use Rattle.mctp_reasm.specs.Pieces.{MessageOf, PacketOf, pieces, spelled}
 use Rattle.mctp_reasm.specs.Held.{Held, fed, held_after}
 use Rattle.mctp_reasm.specs.declared.outcomes.Fed.{Fed}
 use Rattle.mctp_reasm.specs.declared.outcomes.Fed.TheVariants.{Dropped, Whole}
 use Rattle.mctp_reasm.specs.declared.outcomes.Fed.TheVariants as outcomes
-use Rattle.pldm_base.specs.Header.{pldm_of}
-use Rattle.pldm_exch.specs.Caller.{CallerState, Heard, Open, answer_body, answer_heard, answer_in, closed_by, heard_as, is_answer_head}
-use Rattle.exch_lane.specs.Cells.{cell_at_asker, cell_learn}
+use Rattle.pldm_exch.specs.Caller.{Open, answer_body, answer_in, closed_by, heard_as}
+use Rattle.exch_lane.specs.Cells.{cell_at_asker}
 use Rattle.exch_lane.specs.Clocks.{Clock}
 use Rattle.exch_lane.specs.Lanes.{LaneOf, Sent, asker_clock}
-use Rattle.exch_lane.specs.Sides.{AskerRow, asker_answered, asker_fed, asker_row, held_at, packet_for}
+use Rattle.exch_lane.specs.Sides.{AskerRow, asker_answered, asker_fed, held_at}
 use Rattle.exch_lane.specs.Steps.{asker_does, asker_row_in}
 use Rattle.exch_lane.proofs.Arrivals.{packet_arrives, piece_tag}
 use Rattle.exch_lane.proofs.AskerHears.{ReplyCame, asker_holds, asker_learns}
 use Rattle.exch_lane.proofs.Deliveries.{holds_replies, reply_is, reply_reads}
-use Rattle.exch_lane.proofs.Ghosts.{Ghost, GoesOn, IsAskedOf, IsOpenOf, IsPacketOf, LaneBody, LaneGood, ends_of, run_of}
+use Rattle.exch_lane.proofs.Ghosts.{Ghost, GoesOn, IsAskedOf, IsOpenOf, IsPacketOf, LaneGood, ends_of, run_of}
 use Rattle.exch_lane.proofs.Pieces.{Comes, Laws, piece_comes}
 use Rattle.exch_lane.proofs.TakerHears.{goes_nowhere}
 use Rattle.exch_lane.proofs.TakerTakes.{came_of}
-use Rattle.exch_lane.proofs.Views.{Ends, Exchange, IsExchange, IsPart, IsReplies, IsWording, reply_of}
+use Rattle.exch_lane.proofs.Views.{Ends, Exchange, IsPart, IsReplies, IsWording, reply_of}
 
 -- what the asker does by a row, and what that is for the cell
 abbrev pub HearsRow : LaneOf → Ghost → AskerRow → Type 0

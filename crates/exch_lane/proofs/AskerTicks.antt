@@ -1,13 +1,13 @@
 -- How time goes on for the asker's side of one tag.
-use Rattle.std.proofs.Common.{◌≡◌, ◌+◌, ◌-◌, ◌≤◌, ◌<◌, ℕ, Bool, true, false, Option, Some, None, IfSome, IsSomeAnd, inl, inr, refl, arith}
+use Rattle.std.proofs.Common.{◌≡◌, ◌+◌, ◌-◌, ◌≤◌, ◌<◌, ℕ, Bool, true, false, Option, Some, None, IfSome, inl, inr, refl, arith}
 use Rattle.std.proofs.lemmas.Bool.{cases_lt, lt-leb, le-leb}
 use Rattle.std.proofs.lemmas.Bool.Decides.{eqb_tells}
 use Rattle.mctp_reasm.specs.Held.{Held, held_tick}
 use Rattle.exch_lane.specs.Clocks.{Clock, MayBeat, beat}
-use Rattle.exch_lane.proofs.Elapsed.{elapsed, elapsed_counted, elapsed_later, elapsed_missed, within_assembly}
-use Rattle.exch_lane.proofs.Views.{AskerView, Ends, Exchange, IsAsker, IsPart, IsReplies, IsSpan, asker_at, asker_view_tick, reply_of, resent, rested}
+use Rattle.exch_lane.proofs.Elapsed.{elapsed_counted, elapsed_later, elapsed_missed, within_assembly}
+use Rattle.exch_lane.proofs.Views.{AskerView, Ends, Exchange, IsAsker, IsReplies, IsSpan, asker_at, asker_view_tick, resent, rested}
 
-lt_from : (a b : ℕ) → a ≤ b → (a ≡ b → ⊥) → a < b
+pub lt_from : (a b : ℕ) → a ≤ b → (a ≡ b → ⊥) → a < b
 lt_from a b le ne = elim (cases_lt a b) [ inl lt ↦ lt | inr ge ↦ let is : a ≡ b = omega arith in absurd (ne is) ]
 
 -- what is held ages only below its limit

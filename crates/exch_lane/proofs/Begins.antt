@@ -1,9 +1,9 @@
 -- A request begins.
-use Rattle.std.proofs.Common.{◌≡◌, ◌∙◌, ◌+◌, ◌≤◌, ◌<◌, ◌==◌, ◌&&◌, ◌||◌, ◌%◌, ◌++◌, ◌∷◌, [], ℕ, Bool, true, false, if◌then◌else◌, List, Option, Some, None, IfSome, IsSomeAnd, is_none, is_some, length, get_or, slice_set, inl, inr, refl, sym, ap, subst, arith}
+use Rattle.std.proofs.Common.{◌≡◌, ◌∙◌, ◌+◌, ◌≤◌, ◌<◌, ◌==◌, ◌&&◌, ◌%◌, ◌++◌, ℕ, Bool, true, false, if◌then◌else◌, List, Option, Some, None, IfSome, is_none, is_some, length, inl, inr, refl, sym, subst, arith}
 use Rattle.std.specs.List.{AllByRecursion}
 use Rattle.std.proofs.lemmas.Bool.{eq-eqb, eqb-true}
 use Rattle.std.proofs.lemmas.Bool.Decides.{eqb_tells}
-use Rattle.pldm_exch.specs.Caller.{CallerState, begun, is_quiet, last_tag, may_begin, next_tag, rest_at}
+use Rattle.pldm_exch.specs.Caller.{CallerState, begun, is_quiet, may_begin, next_tag, rest_at}
 use Rattle.pldm_exch.specs.Laws.{CallerStep}
 use Rattle.exch_lane.specs.Cells.{cell_ask}
 use Rattle.exch_lane.specs.Lanes.{LaneOf, asker_clock}
@@ -11,11 +11,12 @@ use Rattle.exch_lane.specs.Steps.{begins, sendings}
 use Rattle.exch_lane.specs.declared.step.LaneFault.{LaneFault}
 use Rattle.exch_lane.specs.declared.step.LaneFault.TheVariants as faults
 use Rattle.exch_lane.proofs.Elapsed.{elapsed_start}
-use Rattle.exch_lane.proofs.Ghosts.{Ghost, GoesOn, IsLiving, IsAskedOf, LaneBody, LaneGood, ends_of, is_at, put, run_of, view_of}
+use Rattle.exch_lane.proofs.Ghosts.{Ghost, GoesOn, IsLiving, IsAskedOf, LaneBody, LaneGood, ends_of, put, run_of, view_of}
+use Rattle.exch_lane.proofs.Growing.{put_here}
 use Rattle.exch_lane.proofs.Packets.{packets_begin, request_sent}
 use Rattle.exch_lane.proofs.Pieces.{Laws}
 use Rattle.exch_lane.proofs.Tags.{view_begins}
-use Rattle.exch_lane.proofs.Views.{Exchange, IsExchange, TagOf, TagView, request_of}
+use Rattle.exch_lane.proofs.Views.{Exchange, TagOf, TagView, request_of}
 
 -- what a test told
 pub may_of : (b : Bool) (x : LaneFault) → (if b then None else Some x) ≡ None → b ≡ true
@@ -43,7 +44,6 @@ begins_tag : (l : Laws) (w : LaneOf) (g : Ghost) (command : ℕ) (body : List �
     → (t : ℕ) → t < 8 → TagOf (view_of (begins w command body) (Some (next_tag w.asker.caller)) t) (put (next_tag w.asker.caller) (exchange_of w command body) g.exchanges t)
 unfolding exchange_of
 begins_tag l w g command body few hears rest none h t lt =
-    let c : CallerState = w.asker.caller in
     let set = l.rests.begin w.asker.caller 5 command body t h.body.caller in
     elim (eqb_tells t (next_tag w.asker.caller)) [
       | inl same ↦
@@ -57,7 +57,7 @@ begins_tag l w g command body few hears rest none h t lt =
 last_begun : (n : ℕ) → n ≤ 31 → n % 8 ≡ ((n + 1) % 32 + 31) % 32 % 8
 last_begun n le = omega arith
 
-tag_low : (n : ℕ) → n % 8 < 8
+pub tag_low : (n : ℕ) → n % 8 < 8
 tag_low n = omega arith
 
 -- the request that is sent
@@ -68,9 +68,6 @@ begins_message w command body own peer = rw (own, peer) refl
 begins_now : (w : LaneOf) (command : ℕ) (body : List ℕ) → (exchange_of w command body).last ≡ w.now
 unfolding exchange_of
 begins_now w command body = refl
-
-begins_put : (tag : ℕ) (e : Exchange) (exchanges : ℕ → Option Exchange) → put tag e exchanges tag ≡ Some e
-begins_put tag e exchanges = rw (eq-eqb tag tag refl) refl
 
 begins_there : (tag : ℕ) (e : Exchange) (exchanges : ℕ → Option Exchange) → is_some (put tag e exchanges tag) ≡ true
 begins_there tag e exchanges = rw (eq-eqb tag tag refl) refl
@@ -115,7 +112,7 @@ begins_body l w g command body few hears rest none h =
       caller = l.callers.after w.asker.caller (CallerStep.Begin 5 command body) h.body.caller;
       tags = begins_tag l w g command body few hears rest none h;
       packets = subst (λ x. AllByRecursion (IsLiving w.now w.asker_eid w.taker_eid (put tag e g.exchanges)) (w.packets ++ sendings w.now x)) (sym m)
-          (request_sent w.now w.asker_eid w.taker_eid (put tag e g.exchanges) tag e w.packets low (begins_put tag e g.exchanges) (omega (arith, now))
+          (request_sent w.now w.asker_eid w.taker_eid (put tag e g.exchanges) tag e w.packets low (put_here tag e g.exchanges) (omega (arith, now))
           (packets_begin w.now w.asker_eid w.taker_eid g.exchanges tag e w.packets (rested_far (g.exchanges tag) (view_of w g.current tag) hears rest (h.body.tags tag low)) h.body.packets));
       asked = begins_asked w g command body hears h;
       current = record { low = low; there = begins_there tag e g.exchanges };

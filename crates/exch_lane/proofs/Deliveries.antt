@@ -1,16 +1,15 @@
 -- What one delivery makes of a tag.
-use Rattle.std.proofs.Common.{◌≡◌, ◌∙◌, ◌+◌, ◌≤◌, ◌<◌, ℕ, Bool, true, false, List, Option, Some, None, IfSome, IsSomeAnd, is_some, Result, Ok, length, inl, inr, refl, sym, ap, arith}
-use Rattle.mctp_reasm.specs.Pieces.{IsMessage, MessageOf, PacketOf, pieces}
+use Rattle.std.proofs.Common.{◌≡◌, ◌∙◌, ◌+◌, ◌≤◌, ℕ, Bool, true, false, List, Option, Some, None, IfSome, IsSomeAnd, is_some, Ok, length, inl, inr, refl, sym, arith}
+use Rattle.mctp_reasm.specs.Pieces.{IsMessage}
 use Rattle.mctp_reasm.specs.Held.{Held}
 use Rattle.mctp_reasm.specs.declared.outcomes.Fed.{Fed}
 use Rattle.mctp_reasm.specs.declared.outcomes.Fed.TheVariants.{Dropped, Open, Whole}
 use Rattle.pldm_base.specs.Header.{pldm_of}
-use Rattle.pldm_exch.specs.Kept.{Kept}
 use Rattle.exch_lane.specs.Clocks.{Clock}
-use Rattle.exch_lane.proofs.AskerTicks.{none_of, some_maps}
-use Rattle.exch_lane.proofs.Elapsed.{IsClock, elapsed, elapsed_later, elapsed_start}
+use Rattle.exch_lane.proofs.AskerTicks.{none_of}
+use Rattle.exch_lane.proofs.Elapsed.{IsClock, elapsed_start}
 use Rattle.exch_lane.proofs.Pieces.{Comes, Laws}
-use Rattle.exch_lane.proofs.Views.{AskerView, Ends, Exchange, IsAsker, IsExchange, IsKept, IsPart, IsReplies, IsRequests, IsSettled, IsSpan, IsTaker, IsWording, TagView, TakerView, answered_with, asker_time, reply_of, request_of, taker_time}
+use Rattle.exch_lane.proofs.Views.{AskerView, Ends, Exchange, IsAsker, IsExchange, IsPart, IsReplies, IsRequests, IsSpan, IsTaker, IsWording, TagView, TakerView, answered_with, asker_time, reply_of, request_of, taker_time}
 
 -- the messages of an exchange read back
 pub request_is : (x : Ends) (e : Exchange) → IsWording e → IsMessage (request_of x e)

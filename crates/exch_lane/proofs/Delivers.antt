@@ -1,27 +1,23 @@
 -- A packet comes to an end.
-use Rattle.std.proofs.Common.{◌≡◌, ◌≢◌, ◌∙◌, ◌+◌, ◌-◌, ◌≤◌, ◌<◌, ◌==◌, nat_lt, ℕ, Bool, true, false, if◌then◌else◌, List, Option, Some, None, IfSome, IsSomeAnd, length, slice_get, ◌⊎◌, inl, inr, refl, sym, ap, subst, arith}
-use Rattle.std.specs.List.{AllByRecursion}
+use Rattle.std.proofs.Common.{◌≡◌, ◌+◌, ◌-◌, ◌≤◌, ◌<◌, ℕ, true, false, List, Option, Some, None, IsSomeAnd, length, slice_get, inl, inr, refl, sym, arith}
 use Rattle.std.proofs.lemmas.Bool.{cases_lt, le-ltb, lt-ltb}
 use Rattle.std.proofs.lemmas.Bool.Decides.{eqb_tells}
-use Rattle.mctp_reasm.specs.Pieces.{MessageOf}
 use Rattle.exch_lane.specs.Cells.{cell_delivers, cell_hears}
 use Rattle.exch_lane.specs.Lanes.{LaneOf, Sent, numbered}
-use Rattle.exch_lane.specs.Sides.{AskerRow, TakerRow, asker_packet, packet_for, taker_packet}
+use Rattle.exch_lane.specs.Sides.{packet_for}
 use Rattle.exch_lane.specs.Steps.{asker_row_in, delivers, lane_hears, may_deliver, taker_row_in}
 use Rattle.exch_lane.specs.declared.step.End.{End}
 use Rattle.exch_lane.specs.declared.step.End.TheVariants as ends
-use Rattle.exch_lane.specs.declared.step.LaneFault.{LaneFault}
 use Rattle.exch_lane.specs.declared.step.LaneFault.TheVariants as faults
 use Rattle.exch_lane.proofs.Arrivals.{packet_misses}
-use Rattle.exch_lane.proofs.AskerHears.{ReplyCame}
 use Rattle.exch_lane.proofs.AskerRows.{asker_silent, few_of, hears_reply}
 use Rattle.exch_lane.proofs.Deliveries.{reply_is, request_is}
-use Rattle.exch_lane.proofs.Ghosts.{Ghost, GoesOn, IsExplained, IsLiving, IsOfExchange, IsPacketOf, LaneBody, LaneGood, ends_of, run_of}
+use Rattle.exch_lane.proofs.Ghosts.{Ghost, GoesOn, IsExplained, IsLiving, IsOfExchange, IsPacketOf, LaneGood, ends_of, run_of}
 use Rattle.exch_lane.proofs.Lifts.{all_at}
 use Rattle.exch_lane.proofs.Pieces.{Laws}
 use Rattle.exch_lane.proofs.TakerRows.{hears_request, taker_silent}
-use Rattle.exch_lane.proofs.TakerTakes.{RequestCame, came_of}
-use Rattle.exch_lane.proofs.Views.{Ends, Exchange, IsWording, reply_of, request_of}
+use Rattle.exch_lane.proofs.TakerTakes.{came_of}
+use Rattle.exch_lane.proofs.Views.{Exchange, reply_of, request_of}
 
 -- what an end does with bytes, and what that is for the cell
 abbrev pub Hears : LaneOf → Ghost → End → List ℕ → List ℕ → Type 0

@@ -2,7 +2,7 @@
 use Rattle.std.proofs.Common.{◌≡◌, ◌≢◌, ◌+◌, ◌≤◌, ◌<◌, ◌==◌, ℕ, Bool, true, false, if◌then◌else◌, List, Option, Some, None, IfSome, IsSomeAnd, is_none, is_some, length, slice_get, ◌⊎◌}
 use Rattle.std.specs.List.{AllByRecursion}
 use Rattle.mctp_reasm.specs.Pieces.{MessageOf, PacketOf, pieces, spelled}
-use Rattle.pldm_exch.specs.Caller.{CallerState, IsCaller, Open, fresh, is_quiet, last_tag, rest_at}
+use Rattle.pldm_exch.specs.Caller.{IsCaller, Open, fresh, is_quiet, last_tag, rest_at}
 use Rattle.pldm_exch.specs.Kept.{kept_at}
 use Rattle.exch_lane.specs.Cells.{Cell, CellRun}
 use Rattle.exch_lane.specs.Clocks.{Clock}

@@ -1,21 +1,19 @@
 -- What is true of the hearing asker after a tick.
-use Rattle.std.proofs.Common.{◌≡◌, ◌≢◌, ◌∙◌, ◌+◌, ◌-◌, ◌%◌, ◌≤◌, ◌<◌, ◌==◌, ◌&&◌, ◌||◌, ◌⊎◌, ℕ, Bool, true, false, true≢false, if◌then◌else◌, List, Option, Some, None, IfSome, IsSomeAnd, is_none, is_some, length, map, get_or, slice_set, inl, inr, refl, sym, ap, subst, arith}
-use Rattle.std.proofs.lemmas.Bool.{cases_lt, eq-eqb, eqb-true, ne_eqb}
-use Rattle.pldm_exch.specs.Caller.{CallerState, IsCaller, IsOpen, Open, caller_tick, fresh, is_quiet, last_tag, older, rest_at, sends_at, ticked}
+use Rattle.std.proofs.Common.{◌≡◌, ◌∙◌, ◌+◌, ◌≤◌, ◌<◌, ◌==◌, ℕ, Bool, true, false, true≢false, Option, Some, None, IfSome, is_none, inl, inr, refl, sym, ap, subst, arith}
+use Rattle.std.proofs.lemmas.Bool.{cases_lt, eqb-true, ne_eqb}
+use Rattle.pldm_exch.specs.Caller.{CallerState, IsCaller, IsOpen, Open, fresh, is_quiet, last_tag, older, rest_at, sends_at, ticked}
 use Rattle.pldm_exch.specs.Laws.{CallerStep}
 use Rattle.pldm_exch.specs.Rests.{fallen}
-use Rattle.exch_lane.specs.Cells.{cell_close, cell_give_up}
-use Rattle.exch_lane.specs.Clocks.{Clock, MayBeat, beat}
-use Rattle.exch_lane.specs.Lanes.{AskerOf, LaneOf, asker_clock, taker_clock}
+use Rattle.exch_lane.specs.Clocks.{MayBeat, beat}
+use Rattle.exch_lane.specs.Lanes.{LaneOf, asker_clock, taker_clock}
 use Rattle.exch_lane.specs.Sides.{AskerTick}
 use Rattle.exch_lane.proofs.AskerTicks.{some_maps}
-use Rattle.exch_lane.proofs.Ghosts.{Ghost, GoesOn, IsAskedOf, IsCurrent, IsOpenOf, IsOpenRequest, LaneBody, LaneGood, cell_from, run_of}
+use Rattle.exch_lane.proofs.Ghosts.{Ghost, IsAskedOf, IsCurrent, LaneGood, cell_from}
 use Rattle.exch_lane.proofs.Lifts.{no_rest}
 use Rattle.exch_lane.proofs.Pieces.{Laws}
 use Rattle.exch_lane.proofs.Quiets.{heard_tick, heard_ticked, none_current, open_counts, quiet_stays, rest_over, rested_caller, zero_falls}
 use Rattle.exch_lane.proofs.Restarts.{cell_closes, there_at}
 use Rattle.exch_lane.proofs.TickViews.{asker_hear_view, rest_falls}
-use Rattle.exch_lane.proofs.Ticked.{IsAskedThen, IsTicked, ticked_lane}
 use Rattle.exch_lane.proofs.Waits.{IsWaiting, TicksRow, bool_cases, waiting_body}
 
 -- its caller stays lawful

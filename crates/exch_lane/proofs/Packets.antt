@@ -1,11 +1,11 @@
 -- How what is known of packets goes on.
-use Rattle.std.proofs.Common.{◌≡◌, ◌∙◌, ◌+◌, ◌≤◌, ◌<◌, ◌==◌, ◌++◌, ℕ, Bool, true, false, if◌then◌else◌, List, Option, Some, None, IfSome, IsSomeAnd, slice_get, ◌⊎◌, inl, inr, refl, ap, arith}
+use Rattle.std.proofs.Common.{◌≡◌, ◌∙◌, ◌+◌, ◌≤◌, ◌<◌, ◌++◌, ℕ, List, Option, Some, None, IfSome, IsSomeAnd, inl, inr, refl, ap, arith}
 use Rattle.std.specs.List.{AllByRecursion}
 use Rattle.std.proofs.lemmas.Bool.Decides.{eqb_tells}
-use Rattle.mctp_reasm.specs.Pieces.{MessageOf, PacketOf, pieces, spelled}
+use Rattle.mctp_reasm.specs.Pieces.{MessageOf, pieces, spelled}
 use Rattle.exch_lane.specs.Lanes.{Sent}
 use Rattle.exch_lane.specs.Steps.{sendings, sent_at}
-use Rattle.exch_lane.proofs.Ghosts.{IsExplained, IsLiving, IsOfExchange, IsPacketOf, put}
+use Rattle.exch_lane.proofs.Ghosts.{IsLiving, IsOfExchange, IsPacketOf, put}
 use Rattle.exch_lane.proofs.Lifts.{all_append, all_made, all_maps}
 use Rattle.exch_lane.proofs.Views.{Ends, Exchange, reply_of, request_of}
 

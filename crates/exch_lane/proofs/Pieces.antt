@@ -1,18 +1,18 @@
 -- The pieces of a message: how each reads back, and what an assembly that holds a beginning of the message makes of one.
-use Rattle.std.proofs.Common.{◌≡◌, ◌∙◌, ◌+◌, ◌*◌, ◌-◌, ◌≤◌, ◌<◌, ◌==◌, ℕ, zero, suc, Bool, true, false, if◌then◌else◌, List, [], ◌∷◌, Option, Some, None, IfSome, IsSomeAnd, Result, Ok, Err, length, take, drop, slice_get, ◌⊎◌, inl, inr, refl, sym, ap, subst, arith}
+use Rattle.std.proofs.Common.{◌≡◌, ◌+◌, ◌*◌, ◌-◌, ◌≤◌, ◌<◌, ℕ, zero, suc, true, false, List, [], ◌∷◌, Option, Some, None, IfSome, IsSomeAnd, Ok, length, take, drop, slice_get, ◌⊎◌, inl, inr, refl, sym, ap, subst, arith}
 use Rattle.std.proofs.lemmas.Bool.{cases_lt, le-leb, lt-leb, ne_eqb}
 use Rattle.std.proofs.lemmas.Bool.Decides.{eqb_tells}
 use Rattle.std.proofs.lemmas.List.{length-drop, length-take-le}
 use Rattle.std.proofs.lemmas.Option.{slice_get_within}
 use Rattle.mctp_wire.specs.Packet.{ReadsPackets, WritesPackets, packet_of}
-use Rattle.mctp_reasm.specs.Pieces.{IsMessage, MessageOf, PacketOf, Route, message_route, piece, pieces, pieces_from, route_of, spelled}
+use Rattle.mctp_reasm.specs.Pieces.{IsMessage, MessageOf, PacketOf, Route, message_route, piece, pieces, pieces_from, spelled}
 use Rattle.mctp_reasm.specs.Held.{Held, fed, held_after}
 use Rattle.mctp_reasm.specs.Laws.{FeedsNext, FeedsOther, PiecesOfAMessage, holding}
-use Rattle.mctp_reasm.specs.declared.outcomes.DropCause.{DropCause}
 use Rattle.mctp_reasm.specs.declared.outcomes.Fed.{Fed}
 use Rattle.mctp_reasm.specs.declared.outcomes.Fed.TheVariants.{Dropped, Open, Whole}
 use Rattle.pldm_base.specs.Header.{ReadsMessages, WritesMessages}
 use Rattle.pldm_exch.specs.Laws.{CallersStayLawful, RestsChange}
+use Rattle.exch_lane.proofs.AskerTicks.{lt_from}
 use Rattle.exch_lane.proofs.Views.{IsPart}
 
 -- what the crates below promise
@@ -69,16 +69,13 @@ Comes m (Whole whole) held = (whole ≡ m) × (held ≡ None)
 Comes m Open held = IsSomeAnd held (λ h. IsPart m h.packets × (h.age ≡ 0))
 Comes m (Dropped cause) held = held ≡ None
 
-comes_less : (a b : ℕ) → a ≤ b → (a ≡ b → ⊥) → a < b
-comes_less a b le ne = elim (cases_lt a b) [ inl lt ↦ lt | inr ge ↦ let is : a ≡ b = omega arith in absurd (ne is) ]
-
 comes_next : (l : Laws) (m : MessageOf) (k i age : ℕ) (p : PacketOf) → IsMessage m → k < length (pieces m) → slice_get (pieces m) i ≡ Some p → (i ≡ 0) ⊎ (i ≡ k) → Comes m (fed (holding m k age) p) (held_after (holding m k age) p)
 comes_next l m k i age p lawful lt h next =
     let f = l.feeds_next m k i age p lawful lt h next in
     let within = slice_get_within (pieces m) i p h in
     elim (eqb_tells (i + 1) (length (pieces m))) [
       | inl last ↦ rw (f.0, f.1, last.0) (refl, refl)
-      | inr more ↦ rw (f.0, f.1, more.0, ne_eqb (i + 1) 0 (λ e. absurd (omega (arith, e)))) (record { count = i + 1; some = omega arith; proper = comes_less (i + 1) (length (pieces m)) (omega arith) more.1; is = refl }, refl)
+      | inr more ↦ rw (f.0, f.1, more.0, ne_eqb (i + 1) 0 (λ e. absurd (omega (arith, e)))) (record { count = i + 1; some = omega arith; proper = lt_from (i + 1) (length (pieces m)) (omega arith) more.1; is = refl }, refl)
     ]
 
 comes_other : (l : Laws) (m : MessageOf) (k i age : ℕ) (p : PacketOf) → IsMessage m → k < length (pieces m) → slice_get (pieces m) i ≡ Some p → (i ≡ 0 → ⊥) → (i ≡ k → ⊥) → Comes m (fed (holding m k age) p) (held_after (holding m k age) p)

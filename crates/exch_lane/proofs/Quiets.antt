@@ -1,21 +1,17 @@
 -- What is true of the asker after a tick that it misses, in which it is still deaf, or in which no request is open.
-use Rattle.std.proofs.Common.{◌≡◌, ◌≢◌, ◌∙◌, ◌+◌, ◌-◌, ◌≤◌, ◌<◌, ◌==◌, ◌&&◌, ◌||◌, ◌⊎◌, ℕ, Bool, true, false, true≢false, if◌then◌else◌, List, Option, Some, None, IfSome, IsSomeAnd, is_none, is_some, length, map, get_or, inl, inr, refl, sym, ap, subst, arith}
-use Rattle.std.proofs.lemmas.Bool.{eq-eqb, eqb-true, ne_eqb}
-use Rattle.std.proofs.lemmas.Bool.Decides.{eqb_tells}
+use Rattle.std.proofs.Common.{◌≡◌, ◌∙◌, ◌-◌, ◌≤◌, ◌<◌, ◌==◌, ℕ, Bool, true, false, true≢false, Option, Some, None, IfSome, IsSomeAnd, length, map, get_or, inl, inr, refl, sym, ap, arith}
+use Rattle.std.proofs.lemmas.Bool.{eq-eqb, eqb-true}
 use Rattle.std.proofs.lemmas.List.{length-map}
-use Rattle.mctp_reasm.specs.Held.{Held, held_tick}
-use Rattle.pldm_exch.specs.Caller.{CallerState, IsCaller, IsOpen, Open, fresh, is_quiet, last_tag, older, rest_at, ticked}
-use Rattle.pldm_exch.specs.Laws.{CallerStep}
+use Rattle.mctp_reasm.specs.Held.{held_tick}
+use Rattle.pldm_exch.specs.Caller.{CallerState, IsCaller, Open, is_quiet, last_tag, older, rest_at}
 use Rattle.pldm_exch.specs.Rests.{fallen}
 use Rattle.exch_lane.specs.Clocks.{Clock, MayBeat, beat}
 use Rattle.exch_lane.specs.Lanes.{AskerOf, LaneOf, asker_clock}
 use Rattle.exch_lane.proofs.AskerTicks.{some_maps}
-use Rattle.exch_lane.proofs.Begins.{both, none_is}
+use Rattle.exch_lane.proofs.Begins.{none_is}
 use Rattle.exch_lane.proofs.Elapsed.{elapsed_counted, elapsed_missed}
-use Rattle.exch_lane.proofs.Ghosts.{Ghost, IsAskedOf, IsCurrent, IsOpenOf, IsOpenRequest, LaneBody, LaneGood}
-use Rattle.exch_lane.proofs.Lifts.{no_rest}
-use Rattle.exch_lane.proofs.Pieces.{Laws}
-use Rattle.exch_lane.proofs.TickViews.{asker_hear_view, asker_wait_view, rest_falls}
+use Rattle.exch_lane.proofs.Ghosts.{Ghost, IsAskedOf, IsOpenOf, LaneGood}
+use Rattle.exch_lane.proofs.TickViews.{asker_wait_view, rest_falls}
 use Rattle.exch_lane.proofs.Ticked.{IsAskedThen, IsTicked}
 use Rattle.exch_lane.proofs.Views.{Ends, Exchange}
 use Rattle.exch_lane.proofs.Waits.{IsWaiting, bool_cases}

@@ -1,18 +1,17 @@
 -- A tick in which the open request is sent again.
-use Rattle.std.proofs.Common.{◌≡◌, ◌≢◌, ◌∙◌, ◌+◌, ◌-◌, ◌%◌, ◌≤◌, ◌<◌, ◌==◌, ◌&&◌, ◌||◌, ◌⊎◌, ◌++◌, ℕ, Bool, true, false, true≢false, if◌then◌else◌, List, Option, Some, None, IfSome, IsSomeAnd, is_none, is_some, length, map, get_or, slice_set, inl, inr, refl, sym, ap, subst, arith}
+use Rattle.std.proofs.Common.{◌≡◌, ◌∙◌, ◌+◌, ◌-◌, ◌≤◌, ◌<◌, ◌++◌, ℕ, Bool, true, true≢false, List, Option, Some, None, slice_set, inl, inr, refl, sym, ap, subst, arith}
 use Rattle.std.specs.List.{AllByRecursion}
-use Rattle.std.proofs.lemmas.Bool.{cases_lt, eq-eqb, eqb-true, le-leb, ne_eqb}
+use Rattle.std.proofs.lemmas.Bool.{eq-eqb, le-leb}
 use Rattle.std.proofs.lemmas.Bool.Decides.{eqb_tells}
-use Rattle.pldm_exch.specs.Caller.{CallerState, IsCaller, IsOpen, Open, is_quiet, last_tag, older, rest_at, sends_at, ticked}
+use Rattle.pldm_exch.specs.Caller.{CallerState, IsCaller, Open, older, rest_at, sends_at}
 use Rattle.pldm_exch.specs.Rests.{fallen}
-use Rattle.exch_lane.specs.Cells.{Cell, CellRun}
-use Rattle.exch_lane.specs.Clocks.{Clock, MayBeat, beat}
-use Rattle.exch_lane.specs.Lanes.{AskerOf, LaneOf, Sent, asker_clock, taker_clock}
+use Rattle.exch_lane.specs.Clocks.{MayBeat, beat}
+use Rattle.exch_lane.specs.Lanes.{LaneOf, asker_clock, taker_clock}
 use Rattle.exch_lane.specs.Sides.{AskerTick}
 use Rattle.exch_lane.specs.Steps.{sendings}
 use Rattle.exch_lane.proofs.AskerTicks.{some_maps}
 use Rattle.exch_lane.proofs.Elapsed.{elapsed_counted}
-use Rattle.exch_lane.proofs.Ghosts.{Ghost, GoesOn, IsAskedOf, IsCurrent, IsLiving, IsOpenOf, IsOpenRequest, LaneBody, LaneGood, asker_view, cell_from, cell_with, ends_of, exchange_at, is_at, put, run_of, taker_view, view_of}
+use Rattle.exch_lane.proofs.Ghosts.{Ghost, IsCurrent, IsLiving, IsOpenOf, LaneBody, LaneGood, asker_view, cell_with, ends_of, is_at, put, run_of, taker_view, view_of}
 use Rattle.exch_lane.proofs.Growing.{current_grows, put_here}
 use Rattle.exch_lane.proofs.Hearing.{caller_ticks}
 use Rattle.exch_lane.proofs.Packets.{packets_grow, packets_later, request_sent}
@@ -20,9 +19,9 @@ use Rattle.exch_lane.proofs.Pieces.{Laws}
 use Rattle.exch_lane.proofs.Quiets.{heard_tick, heard_ticked}
 use Rattle.exch_lane.proofs.Tags.{view_resends, view_ticks}
 use Rattle.exch_lane.proofs.TickViews.{asker_hear_view, asker_send_view, rest_anew, rest_of_others, taker_tick_miss, taker_tick_view}
-use Rattle.exch_lane.proofs.Ticked.{IsAskedThen, IsTicked, made, made_same, tag_ticks, ticked_lane, ticks_body}
-use Rattle.exch_lane.proofs.Views.{AskerView, Ends, Exchange, IsExchange, TagOf, TagView, TakerView, asker_at, asker_time, request_of, resent, rested, taker_at, view_ticked}
-use Rattle.exch_lane.proofs.Waits.{TicksRow, bool_cases}
+use Rattle.exch_lane.proofs.Ticked.{IsAskedThen, made_same, tag_ticks, ticked_lane, ticks_body}
+use Rattle.exch_lane.proofs.Views.{Exchange, IsExchange, TagOf, TagView, asker_at, resent, rested, taker_at, view_ticked}
+use Rattle.exch_lane.proofs.Waits.{TicksRow}
 
 -- its caller afterwards
 abbrev pub sent_caller : CallerState → Open → CallerState
@@ -59,7 +58,6 @@ sent_ghost w g o e = record { exchanges = put o.tag (resent (w.now + 1) e) g.exc
 sent_view : (w : LaneOf) (g : Ghost) (taker : Bool) (o : Open) (e : Exchange) → MayBeat true (asker_clock w) → MayBeat taker (taker_clock w) → IsDue w g o e → LaneBody w g
     → IsExchange (record (view_ticked (view_of w g.current o.tag) true taker) { asker = rested (asker_at true (asker_view w.asker o.tag)) }) (resent (w.now + 1) e)
 sent_view w g taker o e may allowed d h =
-    let v : TagView = view_ticked (view_of w g.current o.tag) true taker in
     let ticks : IsExchange (view_ticked (view_of w g.current o.tag) true taker) e = rw d.is at (view_ticks (g.exchanges o.tag) (view_of w g.current o.tag) true taker may allowed (h.tags o.tag d.low)) in
     let hears : (asker_at true (asker_view w.asker o.tag)).deaf ≡ 0 = rw (le-leb w.asker.deaf 1 (omega (arith, d.hears))) refl in
     let current : is_at g.current o.tag ≡ true = rw d.current (eq-eqb o.tag o.tag refl) in
@@ -71,9 +69,9 @@ sent_here w g taker o e may allowed d h =
     let anew : rest_at (sent_caller w.asker.caller o) o.tag ≡ 40 = rest_anew w.asker.caller.rests o.tag h.caller.rests d.low in
     let same : view_of (sent_lane w taker o) g.current o.tag ≡ record (view_ticked (view_of w g.current o.tag) true taker) { asker = rested (asker_at true (asker_view w.asker o.tag)) }
     = made_same (w.now + 1) (beat true (asker_clock w)).since_miss (beat true (asker_clock w)).since_miss (sent_lane w taker o).taker.since_miss (beat taker (taker_clock w)).since_miss (ends_of w o.tag) (asker_view (heard_tick w (sent_caller w.asker.caller o)) o.tag)
-      (rested (asker_at true (asker_view w.asker o.tag))) (taker_view (sent_lane w taker o).taker o.tag) (taker_at taker (taker_view w.taker o.tag)) (is_at g.current o.tag) refl
-      (taker_tick_miss taker w.taker (beat taker (taker_clock w)).since_miss) (asker_send_view w.asker (beat true (asker_clock w)).since_miss o.tag (sent_caller w.asker.caller o) (omega (arith, d.hears)) anew)
-      (taker_tick_view taker w.taker (beat taker (taker_clock w)).since_miss o.tag) in
+    (rested (asker_at true (asker_view w.asker o.tag))) (taker_view (sent_lane w taker o).taker o.tag) (taker_at taker (taker_view w.taker o.tag)) (is_at g.current o.tag) refl
+    (taker_tick_miss taker w.taker (beat taker (taker_clock w)).since_miss) (asker_send_view w.asker (beat true (asker_clock w)).since_miss o.tag (sent_caller w.asker.caller o) (omega (arith, d.hears)) anew)
+    (taker_tick_view taker w.taker (beat taker (taker_clock w)).since_miss o.tag) in
     rw (eq-eqb o.tag o.tag refl) (subst (λ v. IsExchange v (resent (w.now + 1) e)) (sym same) (sent_view w g taker o e may allowed d h))
 
 sent_tags : (w : LaneOf) (g : Ghost) (taker : Bool) (o : Open) (e : Exchange) → MayBeat true (asker_clock w) → MayBeat taker (taker_clock w) → IsDue w g o e → LaneBody w g
@@ -91,7 +89,6 @@ sent_tags w g taker o e may allowed d h t lt = elim (eqb_tells t o.tag) [
 sent_packets : (w : LaneOf) (g : Ghost) (o : Open) (e : Exchange) → IsDue w g o e → LaneBody w g → e.last ≤ w.now
     → AllByRecursion (IsLiving (w.now + 1) w.asker_eid w.taker_eid (put o.tag (resent (w.now + 1) e) g.exchanges)) (w.packets ++ sendings (w.now + 1) o.message)
 sent_packets w g o e d h past =
-    let exchanges : ℕ → Option Exchange = put o.tag (resent (w.now + 1) e) g.exchanges in
     let old = packets_grow (w.now + 1) w.asker_eid w.taker_eid g.exchanges o.tag e (w.now + 1) e.reply w.packets d.is (omega arith) (λ r is. is) (packets_later w.now w.asker_eid w.taker_eid g.exchanges w.packets h.packets) in
     subst (λ m. AllByRecursion (IsLiving (w.now + 1) w.asker_eid w.taker_eid (put o.tag (resent (w.now + 1) e) g.exchanges)) (w.packets ++ sendings (w.now + 1) m)) (sym d.of.message)
     (request_sent (w.now + 1) w.asker_eid w.taker_eid (put o.tag (resent (w.now + 1) e) g.exchanges) o.tag (resent (w.now + 1) e) w.packets d.low (put_here o.tag (resent (w.now + 1) e) g.exchanges) (omega arith) old)
@@ -116,7 +113,6 @@ cell_resent e now live (Some r) = refl
 
 sent_runs : (w : LaneOf) (g : Ghost) (taker : Bool) (o : Open) (e : Exchange) → IsDue w g o e → Some (run_of w g) ≡ Some (run_of (sent_lane w taker o) (sent_ghost w g o e))
 sent_runs w g taker o e d =
-    let cell = cell_resent e (w.now + 1) true e.reply in
     rw (d.asked, d.current, d.is, eq-eqb o.tag o.tag refl) (ap (λ cell. Some (record { cell = cell; entries = w.entries })) (cell_resent e (w.now + 1) true e.reply))
 
 past_of : (w : LaneOf) (g : Ghost) (o : Open) (e : Exchange) → IsDue w g o e → LaneBody w g → e.last ≤ w.now

@@ -1,15 +1,14 @@
 -- The steps that send nothing and deliver nothing: an open request is given up, an end restarts.
-use Rattle.std.proofs.Common.{◌≡◌, ◌∙◌, ◌+◌, ◌≤◌, ◌<◌, ◌==◌, ◌&&◌, ◌||◌, ◌%◌, ◌++◌, ℕ, Bool, true, false, if◌then◌else◌, List, Option, Some, None, IfSome, IsSomeAnd, is_none, is_some, length, get_or, replicate, refl, sym, ap, arith}
+use Rattle.std.proofs.Common.{◌≡◌, ◌==◌, ℕ, true, false, if◌then◌else◌, List, Option, Some, None, IfSome, is_some, refl, sym, ap, arith}
 use Rattle.std.proofs.lemmas.Bool.{ne_eqb}
-use Rattle.pldm_exch.specs.Caller.{CallerState, IsOpen, Open, abandoned, fresh, is_quiet, last_tag, rest_at}
+use Rattle.pldm_exch.specs.Caller.{CallerState, IsOpen, Open, last_tag, rest_at}
 use Rattle.pldm_exch.specs.Laws.{CallerStep}
 use Rattle.exch_lane.specs.Cells.{Cell, CellRun, cell_close, cell_closes_if, close_in, drop_in, is_empty_cell}
-use Rattle.exch_lane.specs.Lanes.{LaneOf, asker_new, none_held, taker_new}
+use Rattle.exch_lane.specs.Lanes.{LaneOf}
 use Rattle.exch_lane.specs.Steps.{abandons, restarts}
 use Rattle.exch_lane.specs.declared.step.End.TheVariants as ends
-use Rattle.exch_lane.specs.declared.step.LaneFault.{LaneFault}
 use Rattle.exch_lane.specs.declared.step.LaneFault.TheVariants as faults
-use Rattle.exch_lane.proofs.Ghosts.{Ghost, GoesOn, IsAskedOf, IsCurrent, LaneBody, LaneGood, cell_from, cell_with, exchange_at, run_of, view_of}
+use Rattle.exch_lane.proofs.Ghosts.{Ghost, GoesOn, IsAskedOf, IsCurrent, LaneGood, cell_from, cell_with, run_of, view_of}
 use Rattle.exch_lane.proofs.Lifts.{no_rest, nothing_held_at, nothing_kept_at}
 use Rattle.exch_lane.proofs.Pieces.{Laws}
 use Rattle.exch_lane.proofs.Tags.{view_asker_restarts, view_taker_restarts}

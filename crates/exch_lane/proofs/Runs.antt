@@ -1,18 +1,14 @@
 -- Lane refinement: a new lane is an empty cell, each step goes on, and so does every list of steps.
-use Rattle.std.proofs.Common.{◌≡◌, ◌≢◌, ◌∙◌, ◌+◌, ◌≤◌, ◌<◌, ◌==◌, ℕ, Bool, true, false, if◌then◌else◌, List, [], ◌∷◌, Option, Some, None, IfSome, IsSomeAnd, is_none, is_some, length, inl, inr, refl, sym, ap, subst, arith}
-use Rattle.std.specs.Option.{option_and_then}
-use Rattle.pldm_exch.specs.Caller.{is_quiet}
-use Rattle.exch_lane.specs.Cells.{Cell, CellRun, cell_along, cells_along, no_cell_yet}
-use Rattle.exch_lane.specs.Clocks.{Clock}
-use Rattle.exch_lane.specs.Lanes.{AreEnds, LaneOf, StepOf, asker_clock, lane_new, taker_clock}
-use Rattle.exch_lane.specs.Laws.{IsCellOf, LaneIsACell, StaysACell}
+use Rattle.std.proofs.Common.{◌≡◌, ◌≢◌, ◌∙◌, ℕ, List, [], ◌∷◌, Some, None, IsSomeAnd, refl, sym, subst, arith}
+use Rattle.exch_lane.specs.Cells.{cell_along, cells_along}
+use Rattle.exch_lane.specs.Lanes.{LaneOf, StepOf, lane_new}
+use Rattle.exch_lane.specs.Laws.{IsCellOf, LaneIsACell}
 use Rattle.exch_lane.specs.Steps.{MayRun, MayTake, lane_after, lane_run}
-use Rattle.exch_lane.specs.declared.step.End.{End}
 use Rattle.exch_lane.specs.declared.step.End.TheVariants as ends
 use Rattle.exch_lane.proofs.Begins.{goes_begin, none_is}
 use Rattle.exch_lane.proofs.Delivers.{goes_deliver}
-use Rattle.exch_lane.proofs.Elapsed.{IsClock, clock_new}
-use Rattle.exch_lane.proofs.Ghosts.{Ghost, GoesOn, LaneBody, LaneGood, run_of}
+use Rattle.exch_lane.proofs.Elapsed.{clock_new}
+use Rattle.exch_lane.proofs.Ghosts.{Ghost, GoesOn, LaneGood, run_of}
 use Rattle.exch_lane.proofs.Lifts.{nothing_held_at, nothing_kept_at}
 use Rattle.exch_lane.proofs.Pieces.{Laws}
 use Rattle.exch_lane.proofs.Restarts.{goes_abandon, goes_restart_asker, goes_restart_taker}

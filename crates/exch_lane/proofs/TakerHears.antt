@@ -1,31 +1,13 @@
 -- A packet of a request comes to the taker.
-use Rattle.std.proofs.Common.{◌≡◌, ◌≢◌, ◌∙◌, ◌+◌, ◌≤◌, ◌<◌, ◌==◌, ◌&&◌, ◌++◌, ◌∷◌, [], ℕ, Bool, true, false, if◌then◌else◌, List, Option, Some, None, IfSome, IsSomeAnd, is_none, is_some, Result, Ok, Err, length, slice_get, slice_set, inl, inr, refl, sym, ap, subst, arith}
+use Rattle.std.proofs.Common.{◌≡◌, ◌<◌, ℕ, List, Option, Some, IfSome, length, slice_set, inl, inr, refl, sym, subst}
 use Rattle.std.specs.List.{AllByRecursion}
-use Rattle.std.proofs.lemmas.Bool.{eq-eqb, eqb-true}
 use Rattle.std.proofs.lemmas.Bool.Decides.{eqb_tells}
-use Rattle.std.proofs.lemmas.Cmp.{nat_list_eq_equiv}
-use Rattle.mctp_reasm.specs.Pieces.{MessageOf, PacketOf, pieces, spelled}
-use Rattle.mctp_reasm.specs.Held.{Held, fed, held_after}
-use Rattle.mctp_reasm.specs.declared.outcomes.Fed.{Fed}
-use Rattle.mctp_reasm.specs.declared.outcomes.Fed.TheVariants.{Dropped, Open, Whole}
-use Rattle.pldm_base.specs.declared.header.PldmHead.{PldmHead}
-use Rattle.pldm_exch.specs.Caller as callers
-use Rattle.pldm_exch.specs.Kept.{Kept, asked_as, identifier_in, identifier_of, kept_as, kept_at, kept_with, request_heard}
-use Rattle.pldm_exch.specs.declared.answerer.Asked.TheVariants as asks
-use Rattle.exch_lane.specs.Cells.{CellRun, cell_at_taker, cell_take}
-use Rattle.exch_lane.specs.Clocks.{Clock}
-use Rattle.exch_lane.specs.Lanes.{EntryOf, LaneOf, Sent, TakerOf, asker_clock, taker_clock}
-use Rattle.exch_lane.specs.Sides.{TakerRow, held_at, packet_for, taker_asked, taker_fed, taker_read, taker_row}
-use Rattle.exch_lane.specs.Steps.{sendings, taker_does, taker_row_in, takes}
-use Rattle.exch_lane.proofs.AskerTicks.{some_maps}
-use Rattle.exch_lane.proofs.Arrivals.{packet_arrives, packet_misses, piece_tag}
-use Rattle.exch_lane.proofs.Deliveries.{holds_requests, new_is_unanswered, reply_reads, request_is, request_reads, unanswered_is_current, view_taker_holds, view_takes}
-use Rattle.exch_lane.proofs.Elapsed.{IsClock}
-use Rattle.exch_lane.proofs.Ghosts.{Ghost, GoesOn, IsAskedOf, IsCurrent, IsLiving, IsOpenOf, IsOpenRequest, IsPacketOf, LaneBody, LaneGood, ends_of, is_at, put, run_of, view_of}
+use Rattle.mctp_reasm.specs.Held.{Held}
+use Rattle.exch_lane.specs.Lanes.{EntryOf, LaneOf, Sent, TakerOf, taker_clock}
+use Rattle.exch_lane.proofs.Deliveries.{view_taker_holds}
+use Rattle.exch_lane.proofs.Ghosts.{Ghost, GoesOn, IsAskedOf, IsCurrent, IsLiving, LaneGood, ends_of, run_of, view_of}
 use Rattle.exch_lane.proofs.Lifts.{set_here, set_length, set_there}
-use Rattle.exch_lane.proofs.Packets.{grown, packets_grow, reply_sent}
-use Rattle.exch_lane.proofs.Pieces.{Comes, Laws, piece_comes}
-use Rattle.exch_lane.proofs.Views.{Ends, Exchange, IsExchange, IsKept, IsRequests, IsWording, TagOf, answered_with, reply_of, request_of}
+use Rattle.exch_lane.proofs.Views.{Exchange, IsRequests, TagOf}
 
 -- nothing happens
 pub goes_nowhere : (w : LaneOf) (g : Ghost) → LaneGood w g → GoesOn w (Some (run_of w g))

@@ -1,26 +1,24 @@
 -- What a packet of a request is for the taker.
-use Rattle.std.proofs.Common.{◌≡◌, ◌≢◌, ◌∙◌, ◌+◌, ◌≤◌, ◌<◌, ◌==◌, ◌++◌, ◌∷◌, [], ℕ, Bool, true, false, if◌then◌else◌, List, Option, Some, None, IfSome, Result, Ok, Err, length, slice_get, slice_set, refl, sym, ap, subst, arith}
+use Rattle.std.proofs.Common.{◌≡◌, ◌≤◌, ◌<◌, ◌++◌, ◌∷◌, [], ℕ, true, List, Option, Some, None, IfSome, length, slice_set, refl, sym, ap, subst}
 use Rattle.std.proofs.lemmas.Bool.{eq-eqb}
-use Rattle.mctp_reasm.specs.Pieces.{MessageOf, PacketOf, pieces, spelled}
+use Rattle.mctp_reasm.specs.Pieces.{MessageOf}
 use Rattle.mctp_reasm.specs.Held.{Held, fed, held_after}
 use Rattle.mctp_reasm.specs.declared.outcomes.Fed.{Fed}
 use Rattle.mctp_reasm.specs.declared.outcomes.Fed.TheVariants.{Dropped, Open, Whole}
 use Rattle.pldm_base.specs.Header.{pldm_of}
 use Rattle.pldm_base.specs.declared.header.PldmHead.{PldmHead}
 use Rattle.pldm_exch.specs.Kept.{Kept, asked_as, identifier_in, identifier_of, kept_as, kept_at, kept_with, request_heard}
-use Rattle.pldm_exch.specs.declared.answerer.Asked.{Asked}
-use Rattle.pldm_exch.specs.declared.answerer.Asked.TheVariants as asks
-use Rattle.exch_lane.specs.Cells.{CellRun, cell_at_taker, cell_take}
-use Rattle.exch_lane.specs.Lanes.{EntryOf, LaneOf, Sent, TakerOf, taker_clock}
-use Rattle.exch_lane.specs.Sides.{TakerRow, held_at, packet_for, taker_asked, taker_fed, taker_read, taker_row}
-use Rattle.exch_lane.specs.Steps.{reply_message, sendings, taker_does, taker_row_in, takes}
+use Rattle.exch_lane.specs.Cells.{cell_at_taker, cell_take}
+use Rattle.exch_lane.specs.Lanes.{EntryOf, LaneOf, Sent, taker_clock}
+use Rattle.exch_lane.specs.Sides.{TakerRow, held_at, taker_asked, taker_fed, taker_read}
+use Rattle.exch_lane.specs.Steps.{sendings, taker_does, taker_row_in}
 use Rattle.exch_lane.proofs.AskerTicks.{some_maps}
-use Rattle.exch_lane.proofs.Arrivals.{packet_arrives, packet_misses, piece_tag}
+use Rattle.exch_lane.proofs.Arrivals.{packet_arrives, piece_tag}
 use Rattle.exch_lane.proofs.Deliveries.{holds_requests, reply_reads, request_is, request_reads}
-use Rattle.exch_lane.proofs.Ghosts.{Ghost, GoesOn, IsPacketOf, LaneBody, LaneGood, ends_of, run_of, view_of}
+use Rattle.exch_lane.proofs.Ghosts.{Ghost, GoesOn, IsPacketOf, LaneGood, ends_of, run_of}
 use Rattle.exch_lane.proofs.Pieces.{Comes, Laws, piece_comes}
 use Rattle.exch_lane.proofs.TakerHears.{goes_nowhere, taker_holds, taker_turned}
-use Rattle.exch_lane.proofs.TakerTakes.{RequestCame, came_of, taken_lane, taker_repeats, taker_takes}
+use Rattle.exch_lane.proofs.TakerTakes.{RequestCame, came_of, taker_repeats, taker_takes}
 use Rattle.exch_lane.proofs.Views.{Ends, Exchange, IsKept, IsPart, IsRequests, IsWording, reply_of, request_of}
 
 -- what the taker does by a row, and what that is for the cell
@@ -50,8 +48,8 @@ row_new l w g tag e reply few new c h =
     = ap (kept_as w.taker.kept (reply_of (ends_of w tag) e reply)) (reply_identifier l (ends_of w tag) e reply k.wording) in
     subst
     (λ kept. GoesOn
-        (taker_turned w (record w.taker { kept = kept; requests = slice_set w.taker.requests tag None }) (w.packets ++ sendings w.now (reply_of (ends_of w tag) e reply)) (w.entries ++ EntryOf.Taken e.command e.body reply ∷ []))
-        (cell_take e.command e.body reply (run_of w g)))
+    (taker_turned w (record w.taker { kept = kept; requests = slice_set w.taker.requests tag None }) (w.packets ++ sendings w.now (reply_of (ends_of w tag) e reply)) (w.entries ++ EntryOf.Taken e.command e.body reply ∷ []))
+    (cell_take e.command e.body reply (run_of w g)))
     (sym kept) (taker_takes w g tag e reply few new c h)
 
 row_asked : (l : Laws) (w : LaneOf) (g : Ghost) (tag : ℕ) (e : Exchange) (reply : List ℕ) (k : Option Kept) → kept_at w.taker.kept tag ≡ k → IfSome k (IsKept (taker_clock w) (ends_of w tag) e) → length reply ≤ 252 → RequestCame w g tag e → LaneGood w g
@@ -63,7 +61,6 @@ row_whole : (l : Laws) (w : LaneOf) (g : Ghost) (tag : ℕ) (e : Exchange) (repl
     → DoesRow w g reply (taker_read (slice_set w.taker.requests tag None) w.taker.kept (request_of (ends_of w tag) e) (pldm_of (request_of (ends_of w tag) e).bytes))
 row_whole l w g tag e reply few c h =
     let k = came_of w g tag e c.low c.is h in
-    let m : MessageOf = request_of (ends_of w tag) e in
     let heard : request_heard w.taker.kept (request_of (ends_of w tag) e) ≡ asked_as (kept_at w.taker.kept tag) (Some e.identifier)
     = ap (asked_as (kept_at w.taker.kept tag)) (request_identifier l (ends_of w tag) e k.wording) in
     subst (λ r. DoesRow w g reply (taker_read (slice_set w.taker.requests tag None) w.taker.kept (request_of (ends_of w tag) e) r)) (sym (request_reads l (ends_of w tag) e k.wording))
@@ -85,7 +82,6 @@ row_fed l w g tag e reply (Dropped cause) o comes few c h =
 row_is : (l : Laws) (w : LaneOf) (tag : ℕ) (e : Exchange) (s : Sent) (p : IsPacketOf (request_of (ends_of w tag) e) s.bytes) → w.taker.deaf ≡ 0 → IsWording e → tag < 8
     → taker_row_in w s.bytes ≡ taker_fed (slice_set w.taker.requests tag (held_after (held_at w.taker.requests tag) p.packet)) w.taker.kept (fed (held_at w.taker.requests tag) p.packet)
 row_is l w tag e s p hears wording low =
-    let m : MessageOf = request_of (ends_of w tag) e in
     let lawful = request_is (ends_of w tag) e wording in
     let arrives = packet_arrives l w.taker_eid w.asker_eid true (request_of (ends_of w tag) e) p.number p.packet s.bytes lawful low refl refl refl p.at p.is in
     let under : p.packet.head.tag ≡ tag = piece_tag l (request_of (ends_of w tag) e) p.number p.packet lawful p.at in
@@ -96,7 +92,6 @@ pub hears_request : (l : Laws) (w : LaneOf) (g : Ghost) (tag : ℕ) (e : Exchang
     → DoesRow w g reply (taker_row_in w s.bytes)
 hears_request l w g tag e reply s p few c h =
     let k = came_of w g tag e c.low c.is h in
-    let held : Option Held = held_at w.taker.requests tag in
     let part = some_maps (held_at w.taker.requests tag) (IsRequests (taker_clock w) (ends_of w tag) e) (λ o. IsPart (request_of (ends_of w tag) e) o.packets) k.taker.requests (λ o r. r.part) in
     let comes = piece_comes l (request_of (ends_of w tag) e) p.number p.packet (held_at w.taker.requests tag) (request_is (ends_of w tag) e k.wording) p.at part in
     subst (DoesRow w g reply) (sym (row_is l w tag e s p c.hears k.wording c.low))

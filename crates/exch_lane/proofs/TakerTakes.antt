@@ -1,30 +1,21 @@
 -- A whole request comes to the taker: it is there again, or it is new and is that of the cell.
-use Rattle.std.proofs.Common.{◌≡◌, ◌≢◌, ◌∙◌, ◌+◌, ◌≤◌, ◌<◌, ◌==◌, ◌&&◌, ◌++◌, ◌∷◌, [], ℕ, Bool, true, false, if◌then◌else◌, List, Option, Some, None, IfSome, IsSomeAnd, is_none, is_some, Result, Ok, Err, length, slice_get, slice_set, inl, inr, refl, sym, ap, subst, arith}
+use Rattle.std.proofs.Common.{◌≡◌, ◌∙◌, ◌+◌, ◌≤◌, ◌<◌, ◌++◌, ◌∷◌, [], ℕ, List, Option, Some, None, IsSomeAnd, length, slice_set, inl, inr, refl, sym, subst, arith}
 use Rattle.std.specs.List.{AllByRecursion}
 use Rattle.std.proofs.lemmas.Bool.{eq-eqb}
 use Rattle.std.proofs.lemmas.Bool.Decides.{eqb_tells}
 use Rattle.std.proofs.lemmas.Cmp.{nat_list_eq_equiv}
-use Rattle.mctp_reasm.specs.Pieces.{MessageOf, PacketOf, pieces, spelled}
-use Rattle.mctp_reasm.specs.Held.{Held, fed, held_after}
-use Rattle.mctp_reasm.specs.declared.outcomes.Fed.{Fed}
-use Rattle.mctp_reasm.specs.declared.outcomes.Fed.TheVariants.{Dropped, Open, Whole}
-use Rattle.pldm_base.specs.declared.header.PldmHead.{PldmHead}
-use Rattle.pldm_exch.specs.Kept.{Kept, asked_as, identifier_in, identifier_of, kept_as, kept_at, kept_with, request_heard}
-use Rattle.pldm_exch.specs.declared.answerer.Asked.{Asked}
-use Rattle.pldm_exch.specs.declared.answerer.Asked.TheVariants as asks
-use Rattle.exch_lane.specs.Cells.{CellRun, cell_at_taker, cell_take}
-use Rattle.exch_lane.specs.Lanes.{EntryOf, LaneOf, Sent, TakerOf, asker_clock, taker_clock}
-use Rattle.exch_lane.specs.Sides.{TakerRow, held_at, packet_for, taker_asked, taker_fed, taker_read, taker_row}
-use Rattle.exch_lane.specs.Steps.{sendings, taker_does, taker_row_in, takes}
+use Rattle.pldm_exch.specs.Kept.{Kept, kept_at}
+use Rattle.exch_lane.specs.Cells.{cell_take}
+use Rattle.exch_lane.specs.Lanes.{EntryOf, LaneOf, TakerOf, asker_clock, taker_clock}
+use Rattle.exch_lane.specs.Steps.{sendings}
 use Rattle.exch_lane.proofs.AskerTicks.{some_maps}
-use Rattle.exch_lane.proofs.Deliveries.{holds_requests, new_is_unanswered, reply_reads, request_is, request_reads, unanswered_is_current, view_taker_holds, view_takes}
-use Rattle.exch_lane.proofs.Ghosts.{Ghost, GoesOn, IsAskedOf, IsCurrent, IsLiving, LaneBody, LaneGood, ends_of, is_at, put, run_of, view_of}
+use Rattle.exch_lane.proofs.Deliveries.{new_is_unanswered, unanswered_is_current, view_takes}
+use Rattle.exch_lane.proofs.Ghosts.{Ghost, GoesOn, IsAskedOf, IsCurrent, IsLiving, LaneGood, ends_of, put, run_of, view_of}
 use Rattle.exch_lane.proofs.Growing.{asked_grows, current_grows, current_is, put_here}
 use Rattle.exch_lane.proofs.Lifts.{set_here, set_length, set_there}
-use Rattle.exch_lane.proofs.Packets.{grown, packets_grow, reply_sent}
-use Rattle.exch_lane.proofs.Pieces.{Comes, Laws}
+use Rattle.exch_lane.proofs.Packets.{packets_grow, reply_sent}
 use Rattle.exch_lane.proofs.TakerHears.{taker_holds, taker_turned, taker_turns}
-use Rattle.exch_lane.proofs.Views.{Ends, Exchange, IsExchange, IsKept, IsRequests, IsWording, TagOf, answered_with, reply_of, request_of}
+use Rattle.exch_lane.proofs.Views.{Exchange, IsExchange, IsKept, TagOf, answered_with, reply_of}
 
 -- where a packet of the request of an exchange came to the hearing taker
 pub record RequestCame (w : LaneOf) (g : Ghost) (tag : ℕ) (e : Exchange) : Type 0 where
@@ -67,7 +58,7 @@ takes_tags w g tag e reply few none c h t lt = elim (eqb_tells t tag) [
   | inl same ↦
       let here : TagOf (view_of (taken_lane w tag e reply) g.current tag) (put tag (answered_with reply e) g.exchanges tag)
       = rw (eq-eqb tag tag refl, set_here w.taker.requests tag None h.body.requests c.low, set_here w.taker.kept tag (Some (record { identifier = e.identifier; reply = reply_of (ends_of w tag) e reply; age = 0 })) h.body.kept c.low)
-        (view_takes (view_of w g.current tag) e reply h.body.taker_time c.hears none few c.soon (came_of w g tag e c.low c.is h)) in
+      (view_takes (view_of w g.current tag) e reply h.body.taker_time c.hears none few c.soon (came_of w g tag e c.low c.is h)) in
       subst (λ t. TagOf (view_of (taken_lane w tag e reply) g.current t) (put tag (answered_with reply e) g.exchanges t)) (sym same.1) here
   | inr other ↦ rw (other.0, set_there w.taker.requests tag t None other.1, set_there w.taker.kept tag t (Some (record { identifier = e.identifier; reply = reply_of (ends_of w tag) e reply; age = 0 })) other.1) (h.body.tags t lt)
 ]
@@ -75,7 +66,6 @@ takes_tags w g tag e reply few none c h t lt = elim (eqb_tells t tag) [
 takes_good : (w : LaneOf) (g : Ghost) (tag : ℕ) (e : Exchange) (reply : List ℕ) → length reply ≤ 252 → e.reply ≡ None → RequestCame w g tag e → LaneGood w g
     → LaneGood (taken_lane w tag e reply) (record { exchanges = put tag (answered_with reply e) g.exchanges; current = g.current })
 takes_good w g tag e reply few none c h =
-    let exchanges : ℕ → Option Exchange = put tag (answered_with reply e) g.exchanges in
     let living = packets_grow w.now w.asker_eid w.taker_eid g.exchanges tag e e.last (Some reply) w.packets c.is (omega arith) (λ r is. absurd (let clash : None ≡ Some r = sym none ∙ is in cc)) h.body.packets in
     taker_turns w g (put tag (answered_with reply e) g.exchanges) (taker_after w tag e reply) (w.packets ++ sendings w.now (reply_of (ends_of w tag) e reply)) (w.entries ++ EntryOf.Taken e.command e.body reply ∷ []) h
     (set_length w.taker.kept tag (Some (record { identifier = e.identifier; reply = reply_of (ends_of w tag) e reply; age = 0 })) h.body.kept)

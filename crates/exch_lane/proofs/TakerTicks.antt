@@ -1,12 +1,12 @@
 -- How time goes on for the taker's side of one tag.
-use Rattle.std.proofs.Common.{◌≡◌, ◌∙◌, ◌+◌, ◌-◌, ◌≤◌, ◌<◌, ℕ, Bool, true, false, Option, Some, None, IfSome, IsSomeAnd, is_some, inl, inr, refl, sym, arith}
+use Rattle.std.proofs.Common.{◌≡◌, ◌∙◌, ◌+◌, ◌-◌, ◌≤◌, ◌<◌, Bool, true, false, Option, Some, None, IfSome, is_some, inl, inr, refl, sym, arith}
 use Rattle.std.proofs.lemmas.Bool.{cases_lt, lt-leb, le-leb, lt-ltb, le-ltb}
-use Rattle.mctp_reasm.specs.Held.{Held, held_tick}
+use Rattle.mctp_reasm.specs.Held.{held_tick}
 use Rattle.pldm_exch.specs.Kept.{Kept, kept_tick}
 use Rattle.exch_lane.specs.Clocks.{Clock, MayBeat, beat}
 use Rattle.exch_lane.proofs.AskerTicks.{held_ages, none_of, some_maps}
-use Rattle.exch_lane.proofs.Elapsed.{elapsed, elapsed_counted, elapsed_later, elapsed_missed, within_assembly, within_keeping}
-use Rattle.exch_lane.proofs.Views.{Ends, Exchange, IsKept, IsPart, IsRequests, IsSpan, IsTaker, TakerView, request_of, resent, taker_at, taker_view_tick}
+use Rattle.exch_lane.proofs.Elapsed.{elapsed_counted, elapsed_later, elapsed_missed, within_assembly, within_keeping}
+use Rattle.exch_lane.proofs.Views.{Ends, Exchange, IsKept, IsRequests, IsSpan, IsTaker, TakerView, resent, taker_at, taker_view_tick}
 
 -- a kept answer ages only below its limit
 kept_ages : (o : Option Kept) (P Q : Kept → Type 0) → IfSome o P → ((k : Kept) → P k → k.age < 24 → Q (record { identifier = k.identifier; reply = k.reply; age = k.age + 1 })) → IfSome (kept_tick o) Q

@@ -1,16 +1,16 @@
 -- What a tick makes of an end is what it makes of each tag.
-use Rattle.std.proofs.Common.{◌≡◌, ◌≢◌, ◌∙◌, ◌+◌, ◌-◌, ◌≤◌, ◌<◌, ◌==◌, nat_le, ℕ, zero, suc, Bool, true, false, if◌then◌else◌, List, [], ◌∷◌, Option, Some, None, length, map, get_or, slice_set, inl, inr, refl, sym, ap, arith}
+use Rattle.std.proofs.Common.{◌≡◌, ◌≢◌, ◌∙◌, ◌-◌, ◌≤◌, ◌<◌, ℕ, zero, suc, Bool, true, false, List, [], ◌∷◌, length, map, get_or, slice_set, inl, inr, refl, arith}
 use Rattle.std.proofs.lemmas.Bool.{cases_lt, le-leb, lt-leb}
 use Rattle.std.proofs.lemmas.List.{get_or-set_other, get_or-set_same, length-map}
-use Rattle.mctp_reasm.specs.Held.{Held, held_tick}
+use Rattle.mctp_reasm.specs.Held.{held_tick}
 use Rattle.pldm_exch.specs.Caller.{CallerState, rest_at}
-use Rattle.pldm_exch.specs.Kept.{Kept, answerer_tick, kept_at, kept_tick}
+use Rattle.pldm_exch.specs.Kept.{kept_tick}
 use Rattle.pldm_exch.specs.Rests.{AreRests, fallen}
 use Rattle.exch_lane.specs.Lanes.{AskerOf, TakerOf}
-use Rattle.exch_lane.specs.Sides.{held_at, taker_tick}
+use Rattle.exch_lane.specs.Sides.{taker_tick}
 use Rattle.exch_lane.proofs.Ghosts.{asker_view, taker_view}
 use Rattle.exch_lane.proofs.Lifts.{at_map}
-use Rattle.exch_lane.proofs.Views.{AskerView, TakerView, asker_at, asker_view_tick, rested, taker_at}
+use Rattle.exch_lane.proofs.Views.{asker_at, rested, taker_at}
 
 -- the taker
 pub taker_tick_view : (counts : Bool) (a : TakerOf) (miss t : ℕ) → taker_view (taker_tick counts (record a { since_miss = miss })) t ≡ taker_at counts (taker_view a t)

@@ -1,13 +1,12 @@
 -- What a tick makes of a lane, whatever its asker does.
-use Rattle.std.proofs.Common.{◌≡◌, ◌≢◌, ◌∙◌, ◌+◌, ◌-◌, ◌≤◌, ◌<◌, ◌==◌, ℕ, Bool, true, false, if◌then◌else◌, List, Option, Some, None, IfSome, IsSomeAnd, is_none, is_some, length, inl, inr, refl, sym, ap, subst, arith}
+use Rattle.std.proofs.Common.{◌≡◌, ◌+◌, ◌<◌, ℕ, Bool, List, Option, IfSome, length, refl, sym, subst}
 use Rattle.std.specs.List.{AllByRecursion}
-use Rattle.pldm_exch.specs.Caller.{CallerState, IsCaller, Open, fresh, is_quiet, last_tag, rest_at}
-use Rattle.exch_lane.specs.Clocks.{Clock, MayBeat, beat}
+use Rattle.pldm_exch.specs.Caller.{IsCaller, Open, fresh}
+use Rattle.exch_lane.specs.Clocks.{MayBeat, beat}
 use Rattle.exch_lane.specs.Lanes.{AskerOf, LaneOf, Sent, asker_clock, taker_clock}
 use Rattle.exch_lane.specs.Steps.{tick_begins}
-use Rattle.exch_lane.proofs.Elapsed.{IsClock, beat_clock}
-use Rattle.exch_lane.proofs.Ghosts.{Ghost, IsAskedOf, IsCurrent, IsLiving, IsOpenRequest, LaneBody, LaneGood, asker_view, ends_of, is_at, taker_view, view_of}
-use Rattle.exch_lane.proofs.Packets.{packets_later}
+use Rattle.exch_lane.proofs.Elapsed.{beat_clock}
+use Rattle.exch_lane.proofs.Ghosts.{Ghost, IsCurrent, IsLiving, IsOpenRequest, LaneBody, asker_view, ends_of, is_at, taker_view, view_of}
 use Rattle.exch_lane.proofs.Tags.{view_ticks}
 use Rattle.exch_lane.proofs.TickViews.{taker_tick_kept, taker_tick_miss, taker_tick_requests, taker_tick_view}
 use Rattle.exch_lane.proofs.Views.{AskerView, Ends, Exchange, TagOf, TagView, TakerView, asker_at, taker_at, view_ticked}
@@ -64,6 +63,6 @@ pub tag_ticks : (w : LaneOf) (g : Ghost) (asker taker : Bool) (a : AskerOf) (pac
 tag_ticks w g asker taker a packets t may allowed h miss lt view =
     let same : view_of (ticked_lane w asker taker a packets) g.current t ≡ view_ticked (view_of w g.current t) asker taker
     = made_same (w.now + 1) a.since_miss (beat asker (asker_clock w)).since_miss (ticked_lane w asker taker a packets).taker.since_miss (beat taker (taker_clock w)).since_miss (ends_of w t) (asker_view a t) (asker_at asker (asker_view w.asker t))
-      (taker_view (ticked_lane w asker taker a packets).taker t) (taker_at taker (taker_view w.taker t)) (is_at g.current t) miss
-      (taker_tick_miss taker w.taker (beat taker (taker_clock w)).since_miss) view (taker_tick_view taker w.taker (beat taker (taker_clock w)).since_miss t) in
+    (taker_view (ticked_lane w asker taker a packets).taker t) (taker_at taker (taker_view w.taker t)) (is_at g.current t) miss
+    (taker_tick_miss taker w.taker (beat taker (taker_clock w)).since_miss) view (taker_tick_view taker w.taker (beat taker (taker_clock w)).since_miss t) in
     subst (λ v. TagOf v (g.exchanges t)) (sym same) (view_ticks (g.exchanges t) (view_of w g.current t) asker taker may allowed (h.tags t lt))

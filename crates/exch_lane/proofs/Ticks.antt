@@ -1,27 +1,24 @@
 -- A tick of a lane.
-use Rattle.std.proofs.Common.{◌≡◌, ◌≢◌, ◌∙◌, ◌+◌, ◌-◌, ◌%◌, ◌≤◌, ◌<◌, ◌==◌, ◌⊎◌, nat_le, ℕ, Bool, true, false, if◌then◌else◌, List, Option, Some, None, IfSome, IsSomeAnd, is_some, map, inl, inr, refl, sym, ap, subst, arith}
+use Rattle.std.proofs.Common.{◌≡◌, ◌+◌, ◌-◌, ◌%◌, ◌≤◌, ◌<◌, ◌==◌, ℕ, Bool, true, false, Option, Some, None, IfSome, IsSomeAnd, is_some, inl, inr, refl, sym, ap, arith}
 use Rattle.std.proofs.lemmas.Bool.{cases_lt, le-leb, lt-leb}
-use Rattle.mctp_reasm.specs.Held.{held_tick}
-use Rattle.pldm_exch.specs.Caller.{CallerState, IsOpen, Open, caller_tick, last_tag, sends_at, ticked}
+use Rattle.pldm_exch.specs.Caller.{IsOpen, Open, sends_at, ticked}
 use Rattle.exch_lane.specs.Cells.{cell_ticks}
-use Rattle.exch_lane.specs.Clocks.{Clock, MayBeat, beat}
+use Rattle.exch_lane.specs.Clocks.{MayBeat}
 use Rattle.exch_lane.specs.Lanes.{LaneOf, asker_clock, taker_clock}
-use Rattle.exch_lane.specs.Sides.{AskerTick, asker_called, asker_counts, asker_tick}
+use Rattle.exch_lane.specs.Sides.{asker_called, asker_tick}
 use Rattle.exch_lane.specs.Steps.{asker_tick_in, lane_ticks}
-use Rattle.exch_lane.proofs.Ghosts.{Ghost, GoesOn, IsAskedOf, IsOpenOf, LaneBody, LaneGood, ends_of, run_of}
+use Rattle.exch_lane.proofs.Begins.{tag_low}
+use Rattle.exch_lane.proofs.Ghosts.{Ghost, GoesOn, IsAskedOf, IsOpenOf, LaneGood, ends_of, run_of}
 use Rattle.exch_lane.proofs.Hearing.{gives_up, older_caller, older_waits, rested_waits}
 use Rattle.exch_lane.proofs.Pieces.{Laws}
 use Rattle.exch_lane.proofs.Quiets.{beaten, deaf_waits, heard_tick, missed_waits, rested_caller}
-use Rattle.exch_lane.proofs.Resends.{IsDue, resends}
+use Rattle.exch_lane.proofs.Resends.{resends}
 use Rattle.exch_lane.proofs.Views.{Exchange}
 use Rattle.exch_lane.proofs.Waits.{TicksRow, bool_cases, goes_wait}
 
 -- what the tick of its caller is for the hearing asker
 abbrev pub CallsRow : LaneOf → Ghost → Bool → Option Open → Type 0
 CallsRow w g taker o = TicksRow w g true taker (asker_called (heard_tick w (ticked w.asker.caller o).0) (ticked w.asker.caller o).1)
-
-tag_low : (n : ℕ) → n % 8 < 8
-tag_low n = omega arith
 
 due_from : (l : Laws) (w : LaneOf) (g : Ghost) (taker : Bool) (o : Open) (exchange : Option Exchange) → g.exchanges o.tag ≡ exchange → IsSomeAnd exchange (IsOpenOf (asker_clock w) (ends_of w o.tag) o) → MayBeat true (asker_clock w) → MayBeat taker (taker_clock w)
     → w.asker.caller.asked ≡ Some o → IsAskedOf w g o → IsOpen w.asker.caller o → sends_at (o.age + 1) ≡ true → LaneGood w g → CallsRow w g taker (Some o)

@@ -1,5 +1,5 @@
 -- One tag of a lane: its latest exchange, and what both ends hold under it.
-use Rattle.std.proofs.Common.{◌≡◌, ◌+◌, ◌-◌, ◌≤◌, ◌<◌, ◌==◌, ℕ, Bool, true, false, nat_le, if◌then◌else◌, List, Option, Some, None, IfSome, IsSomeAnd, is_some, length, take, ◌⊎◌}
+use Rattle.std.proofs.Common.{◌≡◌, ◌+◌, ◌-◌, ◌≤◌, ◌<◌, ℕ, Bool, true, false, nat_le, if◌then◌else◌, List, Option, Some, None, IfSome, IsSomeAnd, is_some, length, take, ◌⊎◌}
 use Rattle.mctp_reasm.specs.Pieces.{MessageOf, PacketOf, pieces}
 use Rattle.mctp_reasm.specs.Held.{Held, held_tick}
 use Rattle.pldm_base.specs.Header.{pldm_bytes}

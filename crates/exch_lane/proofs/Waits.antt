@@ -1,19 +1,18 @@
 -- A tick in which the asker sends nothing: where it is quiet then, the cell is emptied.
-use Rattle.std.proofs.Common.{◌≡◌, ◌≢◌, ◌∙◌, ◌+◌, ◌-◌, ◌≤◌, ◌<◌, ◌==◌, ◌&&◌, ◌||◌, ◌⊎◌, ℕ, Bool, true, false, true≢false, if◌then◌else◌, List, Option, Some, None, IfSome, IsSomeAnd, is_none, is_some, length, inl, inr, refl, sym, ap, subst, arith}
-use Rattle.std.specs.List.{AllByRecursion}
-use Rattle.std.proofs.lemmas.Bool.{eq-eqb, eqb-true, ne_eqb}
+use Rattle.std.proofs.Common.{◌≡◌, ◌∙◌, ◌<◌, ◌==◌, ◌||◌, ◌⊎◌, ℕ, Bool, true, false, if◌then◌else◌, List, Option, Some, None, IfSome, is_none, is_some, inl, inr, refl, sym, ap, arith}
+use Rattle.std.proofs.lemmas.Bool.{eqb-true}
 use Rattle.std.proofs.lemmas.Bool.Decides.{eqb_tells}
-use Rattle.pldm_exch.specs.Caller.{CallerState, IsCaller, IsOpen, Open, is_quiet, last_tag, rest_at}
-use Rattle.exch_lane.specs.Cells.{Cell, CellRun, cell_close, cell_rests, cell_ticks, drop_in, hears_quiet, is_empty_cell}
-use Rattle.exch_lane.specs.Clocks.{Clock, MayBeat, beat}
-use Rattle.exch_lane.specs.Lanes.{AskerOf, EntryOf, LaneOf, Sent, asker_clock, taker_clock}
+use Rattle.pldm_exch.specs.Caller.{CallerState, is_quiet, last_tag, rest_at}
+use Rattle.exch_lane.specs.Cells.{Cell, CellRun, cell_rests, cell_ticks, drop_in, hears_quiet, is_empty_cell}
+use Rattle.exch_lane.specs.Clocks.{MayBeat}
+use Rattle.exch_lane.specs.Lanes.{AskerOf, EntryOf, LaneOf, asker_clock, taker_clock}
 use Rattle.exch_lane.specs.Sides.{AskerTick}
 use Rattle.exch_lane.specs.Steps.{asker_ticks, tick_begins}
 use Rattle.exch_lane.proofs.AskerHears.{settled_of}
 use Rattle.exch_lane.proofs.Begins.{both, none_is}
-use Rattle.exch_lane.proofs.Ghosts.{Ghost, GoesOn, IsAskedOf, IsCurrent, IsLiving, LaneBody, LaneGood, asker_view, cell_from, exchange_at, is_at, run_of, view_of}
+use Rattle.exch_lane.proofs.Ghosts.{Ghost, GoesOn, LaneBody, LaneGood, asker_view, cell_from, exchange_at, run_of, view_of}
 use Rattle.exch_lane.proofs.Packets.{packets_later}
-use Rattle.exch_lane.proofs.Restarts.{cell_closes, cell_drops, there_at}
+use Rattle.exch_lane.proofs.Restarts.{cell_drops}
 use Rattle.exch_lane.proofs.Tags.{view_leaves}
 use Rattle.exch_lane.proofs.Ticked.{IsAskedThen, IsTicked, tag_ticks, ticked_lane, ticks_body}
 use Rattle.exch_lane.proofs.Views.{Exchange, IsSettled, TagOf, TagView, asker_at}

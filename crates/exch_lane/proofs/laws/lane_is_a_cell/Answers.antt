@@ -1,4 +1,3 @@
-use Rattle.exch_lane.proofs.Pieces.{Laws}
 use Rattle.exch_lane.proofs.Runs.{lane_refinement}
 use Rattle.exch_lane.proofs.laws.lane_is_a_cell.Goals as goal
 
