@@ -3,7 +3,7 @@ use Rattle.std.proofs.Common.{◌≡◌, ◌∙◌, ◌+◌, ◌≤◌, ◌<◌,
 use Rattle.std.specs.List.{AllByRecursion}
 use Rattle.std.proofs.lemmas.Bool.{eq-eqb, eqb-true}
 use Rattle.std.proofs.lemmas.Bool.Decides.{eqb_tells}
-use Rattle.pldm_exch.specs.Caller.{CallerState, begun, is_quiet, may_begin, next_tag, rest_at}
+use Rattle.pldm_exch.specs.Caller.{begun, is_quiet, may_begin, next_tag, rest_at}
 use Rattle.pldm_exch.specs.Laws.{CallerStep}
 use Rattle.exch_lane.specs.Cells.{cell_ask}
 use Rattle.exch_lane.specs.Lanes.{LaneOf, asker_clock}

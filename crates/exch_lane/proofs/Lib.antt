@@ -10,6 +10,7 @@ mod Ghosts
 mod Growing
 mod Hearing
 mod Journals
+mod Keeping
 mod LaneRows
 mod Lifts
 mod Packets

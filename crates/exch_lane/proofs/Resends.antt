@@ -20,7 +20,7 @@ use Rattle.exch_lane.proofs.Quiets.{heard_tick, heard_ticked}
 use Rattle.exch_lane.proofs.Tags.{view_resends, view_ticks}
 use Rattle.exch_lane.proofs.TickViews.{asker_hear_view, asker_send_view, rest_anew, rest_of_others, taker_tick_miss, taker_tick_view}
 use Rattle.exch_lane.proofs.Ticked.{IsAskedThen, made_same, tag_ticks, ticked_lane, ticks_body}
-use Rattle.exch_lane.proofs.Views.{Exchange, IsExchange, TagOf, TagView, asker_at, resent, rested, taker_at, view_ticked}
+use Rattle.exch_lane.proofs.Views.{Exchange, IsExchange, TagOf, asker_at, resent, rested, taker_at, view_ticked}
 use Rattle.exch_lane.proofs.Waits.{TicksRow}
 
 -- its caller afterwards

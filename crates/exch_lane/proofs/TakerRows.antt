@@ -1,7 +1,6 @@
 -- What a packet of a request is for the taker.
 use Rattle.std.proofs.Common.{◌≡◌, ◌≤◌, ◌<◌, ◌++◌, ◌∷◌, [], ℕ, true, List, Option, Some, None, IfSome, length, slice_set, refl, sym, ap, subst}
 use Rattle.std.proofs.lemmas.Bool.{eq-eqb}
-use Rattle.mctp_reasm.specs.Pieces.{MessageOf}
 use Rattle.mctp_reasm.specs.Held.{Held, fed, held_after}
 use Rattle.mctp_reasm.specs.declared.outcomes.Fed.{Fed}
 use Rattle.mctp_reasm.specs.declared.outcomes.Fed.TheVariants.{Dropped, Open, Whole}

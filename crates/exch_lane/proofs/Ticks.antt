@@ -1,5 +1,5 @@
 -- A tick of a lane.
-use Rattle.std.proofs.Common.{◌≡◌, ◌+◌, ◌-◌, ◌%◌, ◌≤◌, ◌<◌, ◌==◌, ℕ, Bool, true, false, Option, Some, None, IfSome, IsSomeAnd, is_some, inl, inr, refl, sym, ap, arith}
+use Rattle.std.proofs.Common.{◌≡◌, ◌+◌, ◌-◌, ◌%◌, ◌≤◌, ◌==◌, Bool, true, false, Option, Some, None, IfSome, IsSomeAnd, is_some, inl, inr, refl, sym, ap}
 use Rattle.std.proofs.lemmas.Bool.{cases_lt, le-leb, lt-leb}
 use Rattle.pldm_exch.specs.Caller.{IsOpen, Open, sends_at, ticked}
 use Rattle.exch_lane.specs.Cells.{cell_ticks}

@@ -1,5 +1,5 @@
 -- Lane refinement: what lies between two nodes is one cell.
-use Rattle.std.specs.Prelude.{◌≡◌, ℕ, true, List, Some, IsSomeAnd}
+use Rattle.std.specs.Prelude.{◌≡◌, ℕ, true, List, ◌++◌, Some, IsSomeAnd}
 use Rattle.pldm_exch.specs.Caller.{is_quiet}
 use Rattle.exch_lane.specs.Lanes.{AreEnds, LaneOf, StepOf, lane_new}
 use Rattle.exch_lane.specs.Steps.{MayRun, lane_run}
@@ -21,3 +21,15 @@ abbrev pub LaneIsACell : Type 0
 LaneIsACell =
     (asker taker : ℕ) (steps : List StepOf) → AreEnds asker taker → MayRun (lane_new asker taker) steps
     → StaysACell asker taker steps
+
+-- these steps lead from a new lane to this one
+pub record LeadsTo (asker taker : ℕ) (steps : List StepOf) (w : LaneOf) : Type 0 where
+  pub ends : AreEnds asker taker
+  pub may : MayRun (lane_new asker taker) steps
+  pub is : w ≡ lane_run (lane_new asker taker) steps
+
+-- Wherever steps led a new lane, its cell goes on with it through these further steps.
+abbrev pub KeepsItsCell : LaneOf → List StepOf → LaneOf → Type 0
+KeepsItsCell old steps new =
+    (asker taker : ℕ) (before : List StepOf) → LeadsTo asker taker before old
+    → IsSomeAnd (cells_along (lane_new asker taker) (before ++ steps) (Some no_cell_yet)) (IsCellOf new)

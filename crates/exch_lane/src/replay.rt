@@ -3,12 +3,15 @@
 ghost use Rattle.std.specs.Prelude.{◌≡◌, ◌<◌, IfErr, IsSomeAnd, OnOk, length, slice_get, take};
 ghost use Rattle.exch_lane.specs.Code.{IsCause};
 ghost use Rattle.exch_lane.specs.Lanes.{step_of, steps_of};
+ghost use Rattle.exch_lane.specs.Laws.{KeepsItsCell};
 ghost use Rattle.exch_lane.specs.Steps.{MayRun, lane_run};
 
 use crate::lane::Lane;
+use crate::laws::lane_is_a_cell;
 use crate::step::{LaneFault, LaneStep};
 
-/// Takes steps in order, up to the first that the lane refuses.
+/// Takes steps in order, up to the first that the lane refuses. Wherever steps led a new lane, its cell goes on with it
+/// through the steps that are taken here: it is never stuck, and its history is the lane's.
 ///
 /// # Errors
 /// The number of steps that were taken, and why the next one wasn't. The lane is that after those steps.
@@ -17,7 +20,10 @@ pub fn lane_replay(lane: &mut Lane, steps: &[LaneStep]) -> Result<(), (usize, La
     ensures stopped { IfErr result (λ e. (e.0 < length steps.now) × MayRun lane.old (steps_of (take e.0 steps.now))
         × (lane.new ≡ lane_run lane.old (steps_of (take e.0 steps.now)))
         × IsSomeAnd (slice_get steps.now e.0) (λ s. IsCause lane.new (step_of s) e.1)) }
+    ensures cell { OnOk result (KeepsItsCell lane.old (steps_of steps.now) lane.new) }
+    ensures cell_so_far { IfErr result (λ e. KeepsItsCell lane.old (steps_of (take e.0 steps.now)) lane.new) }
 {
+    lane_is_a_cell();
     for (number, step) in steps.iter().enumerate() {
         if let Err(fault) = lane.step(step) {
             return Err((number, fault));
