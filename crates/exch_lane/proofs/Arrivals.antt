@@ -5,7 +5,8 @@ use Rattle.mctp_wire.specs.Packet as wire
 use Rattle.mctp_wire.specs.declared.layout.Head.{Head}
 use Rattle.mctp_reasm.specs.Pieces.{IsMessage, MessageOf, PacketOf, pieces, spelled}
 use Rattle.exch_lane.specs.Sides.{for_end, is_for, packet_for}
-use Rattle.exch_lane.proofs.Pieces.{Laws, piece_reads}
+use Rattle.exch_lane.proofs.Below.{Laws}
+use Rattle.exch_lane.proofs.Pieces.{piece_reads}
 
 -- a packet is for its destination alone
 is_for_it : (own peer : ℕ) (to : Bool) (h : Head) → h.dest ≡ own → h.source ≡ peer → h.to ≡ to → is_for own peer to h ≡ true

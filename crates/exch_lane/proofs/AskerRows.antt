@@ -14,9 +14,10 @@ use Rattle.exch_lane.specs.Sides.{AskerRow, asker_answered, asker_fed, held_at}
 use Rattle.exch_lane.specs.Steps.{asker_does, asker_row_in}
 use Rattle.exch_lane.proofs.Arrivals.{packet_arrives, piece_tag}
 use Rattle.exch_lane.proofs.AskerHears.{ReplyCame, asker_holds, asker_learns}
+use Rattle.exch_lane.proofs.Below.{Laws}
 use Rattle.exch_lane.proofs.Deliveries.{holds_replies, reply_is, reply_reads}
 use Rattle.exch_lane.proofs.Ghosts.{Ghost, GoesOn, IsAskedOf, IsOpenOf, IsPacketOf, LaneGood, ends_of, run_of}
-use Rattle.exch_lane.proofs.Pieces.{Comes, Laws, piece_comes}
+use Rattle.exch_lane.proofs.Pieces.{Comes, piece_comes}
 use Rattle.exch_lane.proofs.TakerHears.{goes_nowhere}
 use Rattle.exch_lane.proofs.TakerTakes.{came_of}
 use Rattle.exch_lane.proofs.Views.{Ends, Exchange, IsPart, IsReplies, IsWording, reply_of}

@@ -1,14 +1,12 @@
 -- How time goes on for the asker's side of one tag.
-use Rattle.std.proofs.Common.{◌≡◌, ◌+◌, ◌-◌, ◌≤◌, ◌<◌, ℕ, Bool, true, false, Option, Some, None, IfSome, inl, inr, refl, arith}
+use Rattle.std.proofs.Common.{◌≡◌, ◌+◌, ◌-◌, ◌≤◌, ◌<◌, Bool, true, false, Option, Some, None, IfSome, inl, inr, refl, arith}
 use Rattle.std.proofs.lemmas.Bool.{cases_lt, lt-leb, le-leb}
 use Rattle.std.proofs.lemmas.Bool.Decides.{eqb_tells}
 use Rattle.mctp_reasm.specs.Held.{Held, held_tick}
 use Rattle.exch_lane.specs.Clocks.{Clock, MayBeat, beat}
 use Rattle.exch_lane.proofs.Elapsed.{elapsed_counted, elapsed_later, elapsed_missed, within_assembly}
+use Rattle.exch_lane.proofs.Facts.{lt_from, none_of, some_maps}
 use Rattle.exch_lane.proofs.Views.{AskerView, Ends, Exchange, IsAsker, IsReplies, IsSpan, asker_at, asker_view_tick, resent, rested}
-
-pub lt_from : (a b : ℕ) → a ≤ b → (a ≡ b → ⊥) → a < b
-lt_from a b le ne = elim (cases_lt a b) [ inl lt ↦ lt | inr ge ↦ let is : a ≡ b = omega arith in absurd (ne is) ]
 
 -- what is held ages only below its limit
 pub held_ages : (o : Option Held) (P Q : Held → Type 0) → IfSome o P → ((h : Held) → P h → h.age ≤ 8) → ((h : Held) → P h → h.age < 8 → Q (record h { age = h.age + 1 })) → IfSome (held_tick o) Q
@@ -17,15 +15,6 @@ held_ages (Some held) P Q h young next = elim (eqb_tells held.age 8) [
   | inl last ↦ rw last.0 tt
   | inr more ↦ rw more.0 (next held h (lt_from held.age 8 (young held h) more.1))
 ]
-
--- facts of what may be there
-pub some_maps : {A : Type 0} (o : Option A) (P Q : A → Type 0) → IfSome o P → ((x : A) → P x → Q x) → IfSome o Q
-some_maps None P Q h f = tt
-some_maps (Some x) P Q h f = f x h
-
-pub none_of : {A : Type 0} (o : Option A) (P : A → Type 0) → IfSome o P → ((x : A) → P x → ⊥) → o ≡ None
-none_of None P h f = refl
-none_of (Some x) P h f = absurd (f x h)
 
 -- a tick that the asker counts, or misses
 asker_waits : (c : Clock) (x : Ends) (e : Exchange) (w : AskerView) → 1 < w.deaf → IsAsker c x e w → IsAsker (beat true c) x e (record w { deaf = w.deaf - 1 })

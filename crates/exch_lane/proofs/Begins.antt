@@ -1,5 +1,5 @@
 -- A request begins.
-use Rattle.std.proofs.Common.{◌≡◌, ◌∙◌, ◌+◌, ◌≤◌, ◌<◌, ◌==◌, ◌&&◌, ◌%◌, ◌++◌, ℕ, Bool, true, false, if◌then◌else◌, List, Option, Some, None, IfSome, is_none, is_some, length, inl, inr, refl, sym, subst, arith}
+use Rattle.std.proofs.Common.{◌≡◌, ◌∙◌, ◌+◌, ◌≤◌, ◌<◌, ◌==◌, ◌&&◌, ◌%◌, ◌++◌, ℕ, true, if◌then◌else◌, List, Option, Some, None, IfSome, is_some, length, inl, inr, refl, sym, subst, arith}
 use Rattle.std.specs.List.{AllByRecursion}
 use Rattle.std.proofs.lemmas.Bool.{eq-eqb, eqb-true}
 use Rattle.std.proofs.lemmas.Bool.Decides.{eqb_tells}
@@ -8,28 +8,15 @@ use Rattle.pldm_exch.specs.Laws.{CallerStep}
 use Rattle.exch_lane.specs.Cells.{cell_ask}
 use Rattle.exch_lane.specs.Lanes.{LaneOf, asker_clock}
 use Rattle.exch_lane.specs.Steps.{begins, sendings}
-use Rattle.exch_lane.specs.declared.step.LaneFault.{LaneFault}
 use Rattle.exch_lane.specs.declared.step.LaneFault.TheVariants as faults
+use Rattle.exch_lane.proofs.Below.{Laws}
 use Rattle.exch_lane.proofs.Elapsed.{elapsed_start}
+use Rattle.exch_lane.proofs.Facts.{both, may_of, none_is}
 use Rattle.exch_lane.proofs.Ghosts.{Ghost, GoesOn, IsLiving, IsAskedOf, LaneBody, LaneGood, ends_of, put, run_of, view_of}
 use Rattle.exch_lane.proofs.Growing.{put_here}
 use Rattle.exch_lane.proofs.Packets.{packets_begin, request_sent}
-use Rattle.exch_lane.proofs.Pieces.{Laws}
 use Rattle.exch_lane.proofs.Tags.{view_begins}
 use Rattle.exch_lane.proofs.Views.{Exchange, TagOf, TagView, request_of}
-
--- what a test told
-pub may_of : (b : Bool) (x : LaneFault) → (if b then None else Some x) ≡ None → b ≡ true
-may_of true x e = refl
-may_of false x e = absurd (cc)
-
-pub both : (a b : Bool) → (a && b) ≡ true → (a ≡ true) × (b ≡ true)
-both true b e = (refl, e)
-both false b e = absurd (cc)
-
-pub none_is : {A : Type 0} (o : Option A) → is_none o ≡ true → o ≡ None
-none_is None e = refl
-none_is (Some x) e = absurd (cc)
 
 -- a tag that has rested, whose exchange is long past
 rested_far : (o : Option Exchange) (v : TagView) → v.asker.deaf ≡ 0 → v.asker.rest ≡ 0 → TagOf v o → IfSome o (λ old. old.last + 40 ≤ v.now)

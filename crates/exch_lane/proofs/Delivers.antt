@@ -11,10 +11,10 @@ use Rattle.exch_lane.specs.declared.step.End.TheVariants as ends
 use Rattle.exch_lane.specs.declared.step.LaneFault.TheVariants as faults
 use Rattle.exch_lane.proofs.Arrivals.{packet_misses}
 use Rattle.exch_lane.proofs.AskerRows.{asker_silent, few_of, hears_reply}
+use Rattle.exch_lane.proofs.Below.{Laws}
 use Rattle.exch_lane.proofs.Deliveries.{reply_is, request_is}
 use Rattle.exch_lane.proofs.Ghosts.{Ghost, GoesOn, IsExplained, IsLiving, IsOfExchange, IsPacketOf, LaneGood, ends_of, run_of}
 use Rattle.exch_lane.proofs.Lifts.{all_at}
-use Rattle.exch_lane.proofs.Pieces.{Laws}
 use Rattle.exch_lane.proofs.TakerRows.{hears_request, taker_silent}
 use Rattle.exch_lane.proofs.TakerTakes.{came_of}
 use Rattle.exch_lane.proofs.Views.{Exchange, reply_of, request_of}

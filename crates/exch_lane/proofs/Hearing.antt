@@ -7,14 +7,14 @@ use Rattle.pldm_exch.specs.Rests.{fallen}
 use Rattle.exch_lane.specs.Clocks.{MayBeat, beat}
 use Rattle.exch_lane.specs.Lanes.{LaneOf, asker_clock, taker_clock}
 use Rattle.exch_lane.specs.Sides.{AskerTick}
-use Rattle.exch_lane.proofs.AskerTicks.{some_maps}
+use Rattle.exch_lane.proofs.Below.{Laws}
+use Rattle.exch_lane.proofs.Facts.{bool_cases, some_maps}
 use Rattle.exch_lane.proofs.Ghosts.{Ghost, IsAskedOf, IsCurrent, LaneGood, cell_from}
 use Rattle.exch_lane.proofs.Lifts.{no_rest}
-use Rattle.exch_lane.proofs.Pieces.{Laws}
 use Rattle.exch_lane.proofs.Quiets.{heard_tick, heard_ticked, none_current, open_counts, quiet_stays, rest_over, rested_caller, zero_falls}
 use Rattle.exch_lane.proofs.Restarts.{cell_closes, there_at}
 use Rattle.exch_lane.proofs.TickViews.{asker_hear_view, rest_falls}
-use Rattle.exch_lane.proofs.Waits.{IsWaiting, TicksRow, bool_cases, waiting_body}
+use Rattle.exch_lane.proofs.Waits.{IsWaiting, TicksRow, waiting_body}
 
 -- its caller stays lawful
 pub caller_ticks : (l : Laws) (c : CallerState) (o : Option Open) → c.asked ≡ o → IsCaller c → IsCaller (ticked c o).0

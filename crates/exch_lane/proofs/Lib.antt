@@ -3,9 +3,11 @@ mod AskerHears
 mod AskerRows
 mod AskerTicks
 mod Begins
+mod Below
 mod Deliveries
 mod Delivers
 mod Elapsed
+mod Facts
 mod Ghosts
 mod Growing
 mod Hearing

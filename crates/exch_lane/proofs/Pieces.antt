@@ -4,28 +4,15 @@ use Rattle.std.proofs.lemmas.Bool.{cases_lt, le-leb, lt-leb, ne_eqb}
 use Rattle.std.proofs.lemmas.Bool.Decides.{eqb_tells}
 use Rattle.std.proofs.lemmas.List.{length-drop, length-take-le}
 use Rattle.std.proofs.lemmas.Option.{slice_get_within}
-use Rattle.mctp_wire.specs.Packet.{ReadsPackets, WritesPackets, packet_of}
+use Rattle.mctp_wire.specs.Packet.{packet_of}
 use Rattle.mctp_reasm.specs.Pieces.{IsMessage, MessageOf, PacketOf, Route, message_route, piece, pieces, pieces_from, spelled}
 use Rattle.mctp_reasm.specs.Held.{Held, fed, held_after}
-use Rattle.mctp_reasm.specs.Laws.{FeedsNext, FeedsOther, PiecesOfAMessage, holding}
+use Rattle.mctp_reasm.specs.Laws.{holding}
 use Rattle.mctp_reasm.specs.declared.outcomes.Fed.{Fed}
 use Rattle.mctp_reasm.specs.declared.outcomes.Fed.TheVariants.{Dropped, Open, Whole}
-use Rattle.pldm_base.specs.Header.{ReadsMessages, WritesMessages}
-use Rattle.pldm_exch.specs.Laws.{CallersStayLawful, RestsChange}
-use Rattle.exch_lane.proofs.AskerTicks.{lt_from}
+use Rattle.exch_lane.proofs.Below.{Laws}
+use Rattle.exch_lane.proofs.Facts.{lt_from}
 use Rattle.exch_lane.proofs.Views.{IsPart}
-
--- what the crates below promise
-pub record Laws : Type 0 where
-  pub packets_written : WritesPackets
-  pub packets_read : ReadsPackets
-  pub messages_written : WritesMessages
-  pub messages_read : ReadsMessages
-  pub pieces : PiecesOfAMessage
-  pub feeds_next : FeedsNext
-  pub feeds_other : FeedsOther
-  pub callers : CallersStayLawful
-  pub rests : RestsChange
 
 -- a body that a packet can carry
 abbrev pub IsSized : PacketOf → Type 0

@@ -7,14 +7,13 @@ use Rattle.pldm_exch.specs.Caller.{CallerState, IsCaller, Open, is_quiet, last_t
 use Rattle.pldm_exch.specs.Rests.{fallen}
 use Rattle.exch_lane.specs.Clocks.{Clock, MayBeat, beat}
 use Rattle.exch_lane.specs.Lanes.{AskerOf, LaneOf, asker_clock}
-use Rattle.exch_lane.proofs.AskerTicks.{some_maps}
-use Rattle.exch_lane.proofs.Begins.{none_is}
 use Rattle.exch_lane.proofs.Elapsed.{elapsed_counted, elapsed_missed}
+use Rattle.exch_lane.proofs.Facts.{bool_cases, none_is, some_maps}
 use Rattle.exch_lane.proofs.Ghosts.{Ghost, IsAskedOf, IsOpenOf, LaneGood}
 use Rattle.exch_lane.proofs.TickViews.{asker_wait_view, rest_falls}
 use Rattle.exch_lane.proofs.Ticked.{IsAskedThen, IsTicked}
 use Rattle.exch_lane.proofs.Views.{Ends, Exchange}
-use Rattle.exch_lane.proofs.Waits.{IsWaiting, bool_cases}
+use Rattle.exch_lane.proofs.Waits.{IsWaiting}
 
 -- the open request as time goes on
 pub open_misses : (c : Clock) (x : Ends) (o : Open) (exchange : Option Exchange) → MayBeat false c → IsSomeAnd exchange (IsOpenOf c x o) → IsSomeAnd exchange (IsOpenOf (beat false c) x o)

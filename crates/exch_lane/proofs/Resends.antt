@@ -9,13 +9,13 @@ use Rattle.exch_lane.specs.Clocks.{MayBeat, beat}
 use Rattle.exch_lane.specs.Lanes.{LaneOf, asker_clock, taker_clock}
 use Rattle.exch_lane.specs.Sides.{AskerTick}
 use Rattle.exch_lane.specs.Steps.{sendings}
-use Rattle.exch_lane.proofs.AskerTicks.{some_maps}
+use Rattle.exch_lane.proofs.Below.{Laws}
 use Rattle.exch_lane.proofs.Elapsed.{elapsed_counted}
+use Rattle.exch_lane.proofs.Facts.{some_maps}
 use Rattle.exch_lane.proofs.Ghosts.{Ghost, IsCurrent, IsLiving, IsOpenOf, LaneBody, LaneGood, asker_view, cell_with, ends_of, is_at, put, run_of, taker_view, view_of}
 use Rattle.exch_lane.proofs.Growing.{current_grows, put_here}
 use Rattle.exch_lane.proofs.Hearing.{caller_ticks}
 use Rattle.exch_lane.proofs.Packets.{packets_grow, packets_later, request_sent}
-use Rattle.exch_lane.proofs.Pieces.{Laws}
 use Rattle.exch_lane.proofs.Quiets.{heard_tick, heard_ticked}
 use Rattle.exch_lane.proofs.Tags.{view_resends, view_ticks}
 use Rattle.exch_lane.proofs.TickViews.{asker_hear_view, asker_send_view, rest_anew, rest_of_others, taker_tick_miss, taker_tick_view}

@@ -8,9 +8,9 @@ use Rattle.exch_lane.specs.Lanes.{LaneOf}
 use Rattle.exch_lane.specs.Steps.{abandons, restarts}
 use Rattle.exch_lane.specs.declared.step.End.TheVariants as ends
 use Rattle.exch_lane.specs.declared.step.LaneFault.TheVariants as faults
+use Rattle.exch_lane.proofs.Below.{Laws}
 use Rattle.exch_lane.proofs.Ghosts.{Ghost, GoesOn, IsAskedOf, IsCurrent, LaneGood, cell_from, cell_with, run_of, view_of}
 use Rattle.exch_lane.proofs.Lifts.{no_rest, nothing_held_at, nothing_kept_at}
-use Rattle.exch_lane.proofs.Pieces.{Laws}
 use Rattle.exch_lane.proofs.Tags.{view_asker_restarts, view_taker_restarts}
 use Rattle.exch_lane.proofs.Views.{Exchange}
 

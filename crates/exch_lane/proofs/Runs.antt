@@ -5,12 +5,13 @@ use Rattle.exch_lane.specs.Lanes.{LaneOf, StepOf, lane_new}
 use Rattle.exch_lane.specs.Laws.{IsCellOf, LaneIsACell}
 use Rattle.exch_lane.specs.Steps.{MayRun, MayTake, lane_after, lane_run}
 use Rattle.exch_lane.specs.declared.step.End.TheVariants as ends
-use Rattle.exch_lane.proofs.Begins.{goes_begin, none_is}
+use Rattle.exch_lane.proofs.Begins.{goes_begin}
+use Rattle.exch_lane.proofs.Below.{Laws}
 use Rattle.exch_lane.proofs.Delivers.{goes_deliver}
 use Rattle.exch_lane.proofs.Elapsed.{clock_new}
+use Rattle.exch_lane.proofs.Facts.{none_is}
 use Rattle.exch_lane.proofs.Ghosts.{Ghost, GoesOn, LaneGood, run_of}
 use Rattle.exch_lane.proofs.Lifts.{nothing_held_at, nothing_kept_at}
-use Rattle.exch_lane.proofs.Pieces.{Laws}
 use Rattle.exch_lane.proofs.Restarts.{goes_abandon, goes_restart_asker, goes_restart_taker}
 use Rattle.exch_lane.proofs.Ticks.{goes_tick}
 

@@ -11,11 +11,12 @@ use Rattle.exch_lane.specs.Cells.{cell_at_taker, cell_take}
 use Rattle.exch_lane.specs.Lanes.{EntryOf, LaneOf, Sent, taker_clock}
 use Rattle.exch_lane.specs.Sides.{TakerRow, held_at, taker_asked, taker_fed, taker_read}
 use Rattle.exch_lane.specs.Steps.{sendings, taker_does, taker_row_in}
-use Rattle.exch_lane.proofs.AskerTicks.{some_maps}
 use Rattle.exch_lane.proofs.Arrivals.{packet_arrives, piece_tag}
+use Rattle.exch_lane.proofs.Below.{Laws}
 use Rattle.exch_lane.proofs.Deliveries.{holds_requests, reply_reads, request_is, request_reads}
+use Rattle.exch_lane.proofs.Facts.{some_maps}
 use Rattle.exch_lane.proofs.Ghosts.{Ghost, GoesOn, IsPacketOf, LaneGood, ends_of, run_of}
-use Rattle.exch_lane.proofs.Pieces.{Comes, Laws, piece_comes}
+use Rattle.exch_lane.proofs.Pieces.{Comes, piece_comes}
 use Rattle.exch_lane.proofs.TakerHears.{goes_nowhere, taker_holds, taker_turned}
 use Rattle.exch_lane.proofs.TakerTakes.{RequestCame, came_of, taker_repeats, taker_takes}
 use Rattle.exch_lane.proofs.Views.{Ends, Exchange, IsKept, IsPart, IsRequests, IsWording, reply_of, request_of}

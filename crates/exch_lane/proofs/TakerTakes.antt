@@ -8,8 +8,8 @@ use Rattle.pldm_exch.specs.Kept.{Kept, kept_at}
 use Rattle.exch_lane.specs.Cells.{cell_take}
 use Rattle.exch_lane.specs.Lanes.{EntryOf, LaneOf, TakerOf, asker_clock, taker_clock}
 use Rattle.exch_lane.specs.Steps.{sendings}
-use Rattle.exch_lane.proofs.AskerTicks.{some_maps}
 use Rattle.exch_lane.proofs.Deliveries.{new_is_unanswered, unanswered_is_current, view_takes}
+use Rattle.exch_lane.proofs.Facts.{some_maps}
 use Rattle.exch_lane.proofs.Ghosts.{Ghost, GoesOn, IsAskedOf, IsCurrent, IsLiving, LaneGood, ends_of, put, run_of, view_of}
 use Rattle.exch_lane.proofs.Growing.{asked_grows, current_grows, current_is, put_here}
 use Rattle.exch_lane.proofs.Lifts.{set_here, set_length, set_there}

@@ -4,8 +4,9 @@ use Rattle.std.proofs.lemmas.Bool.{cases_lt, lt-leb, le-leb, lt-ltb, le-ltb}
 use Rattle.mctp_reasm.specs.Held.{held_tick}
 use Rattle.pldm_exch.specs.Kept.{Kept, kept_tick}
 use Rattle.exch_lane.specs.Clocks.{Clock, MayBeat, beat}
-use Rattle.exch_lane.proofs.AskerTicks.{held_ages, none_of, some_maps}
+use Rattle.exch_lane.proofs.AskerTicks.{held_ages}
 use Rattle.exch_lane.proofs.Elapsed.{elapsed_counted, elapsed_later, elapsed_missed, within_assembly, within_keeping}
+use Rattle.exch_lane.proofs.Facts.{none_of, some_maps}
 use Rattle.exch_lane.proofs.Views.{Ends, Exchange, IsKept, IsRequests, IsSpan, IsTaker, TakerView, resent, taker_at, taker_view_tick}
 
 -- a kept answer ages only below its limit

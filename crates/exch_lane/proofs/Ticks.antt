@@ -8,13 +8,14 @@ use Rattle.exch_lane.specs.Lanes.{LaneOf, asker_clock, taker_clock}
 use Rattle.exch_lane.specs.Sides.{asker_called, asker_tick}
 use Rattle.exch_lane.specs.Steps.{asker_tick_in, lane_ticks}
 use Rattle.exch_lane.proofs.Begins.{tag_low}
+use Rattle.exch_lane.proofs.Below.{Laws}
+use Rattle.exch_lane.proofs.Facts.{bool_cases}
 use Rattle.exch_lane.proofs.Ghosts.{Ghost, GoesOn, IsAskedOf, IsOpenOf, LaneGood, ends_of, run_of}
 use Rattle.exch_lane.proofs.Hearing.{gives_up, older_caller, older_waits, rested_waits}
-use Rattle.exch_lane.proofs.Pieces.{Laws}
 use Rattle.exch_lane.proofs.Quiets.{beaten, deaf_waits, heard_tick, missed_waits, rested_caller}
 use Rattle.exch_lane.proofs.Resends.{resends}
 use Rattle.exch_lane.proofs.Views.{Exchange}
-use Rattle.exch_lane.proofs.Waits.{TicksRow, bool_cases, goes_wait}
+use Rattle.exch_lane.proofs.Waits.{TicksRow, goes_wait}
 
 -- what the tick of its caller is for the hearing asker
 abbrev pub CallsRow : LaneOf → Ghost → Bool → Option Open → Type 0

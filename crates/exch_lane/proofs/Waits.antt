@@ -1,5 +1,5 @@
 -- A tick in which the asker sends nothing: where it is quiet then, the cell is emptied.
-use Rattle.std.proofs.Common.{◌≡◌, ◌∙◌, ◌<◌, ◌==◌, ◌||◌, ◌⊎◌, ℕ, Bool, true, false, if◌then◌else◌, List, Option, Some, None, IfSome, is_none, is_some, inl, inr, refl, sym, ap, arith}
+use Rattle.std.proofs.Common.{◌≡◌, ◌∙◌, ◌<◌, ◌==◌, ◌||◌, ℕ, Bool, true, false, if◌then◌else◌, List, Option, Some, None, IfSome, is_none, is_some, inl, inr, refl, sym, ap, arith}
 use Rattle.std.proofs.lemmas.Bool.{eqb-true}
 use Rattle.std.proofs.lemmas.Bool.Decides.{eqb_tells}
 use Rattle.pldm_exch.specs.Caller.{CallerState, is_quiet, last_tag, rest_at}
@@ -9,7 +9,7 @@ use Rattle.exch_lane.specs.Lanes.{AskerOf, EntryOf, LaneOf, asker_clock, taker_c
 use Rattle.exch_lane.specs.Sides.{AskerTick}
 use Rattle.exch_lane.specs.Steps.{asker_ticks, tick_begins}
 use Rattle.exch_lane.proofs.AskerHears.{settled_of}
-use Rattle.exch_lane.proofs.Begins.{both, none_is}
+use Rattle.exch_lane.proofs.Facts.{bool_cases, both, none_is}
 use Rattle.exch_lane.proofs.Ghosts.{Ghost, GoesOn, LaneBody, LaneGood, asker_view, cell_from, exchange_at, run_of, view_of}
 use Rattle.exch_lane.proofs.Packets.{packets_later}
 use Rattle.exch_lane.proofs.Restarts.{cell_drops}
@@ -82,10 +82,6 @@ the_run cell entries = record { cell = cell; entries = entries }
 
 quiet_none : (c : CallerState) → is_quiet c ≡ true → is_none c.asked ≡ true
 quiet_none c quiet = (both (is_none c.asked) (c.answered || (rest_at c (last_tag c) == 0)) quiet).0
-
-pub bool_cases : (b : Bool) → (b ≡ true) ⊎ (b ≡ false)
-bool_cases true = inl refl
-bool_cases false = inr refl
 
 rests_runs : (o : Option Exchange) (entries : List EntryOf) → (if is_empty_cell (cell_from false o) then Some (record { cell = cell_from false o; entries = entries }) else drop_in (record { cell = cell_from false o; entries = entries }) (cell_from false o))
     ≡ Some (the_run Cell.Empty entries)
