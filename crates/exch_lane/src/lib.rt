@@ -8,8 +8,12 @@ mod inbox;
 mod journal;
 mod lane;
 mod replay;
+#[cfg(test)]
+mod run_tests;
 mod step;
 mod taker;
+#[cfg(test)]
+mod tests;
 mod times;
 
 pub use entry::LaneEntry;
