@@ -9,8 +9,12 @@ mod journal;
 mod lane;
 mod laws;
 mod replay;
+#[cfg(test)]
+mod run_tests;
 mod step;
 mod taker;
+#[cfg(test)]
+mod tests;
 mod times;
 
 pub use entry::LaneEntry;

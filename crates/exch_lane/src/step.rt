@@ -13,7 +13,7 @@ pub enum End {
 }
 
 /// A step of a lane.
-#[derive(Debug, Drop)]
+#[derive(Debug, PartialEq, Eq, Drop)]
 pub enum LaneStep {
     /// The asker begins a request of PLDM type 5 (firmware update) with this command and request data.
     Begin(u8, Reply),
