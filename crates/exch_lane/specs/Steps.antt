@@ -154,9 +154,9 @@ may_step w (StepOf.Deliver number end reply) = may_deliver w.now (numbered w.pac
 may_step w (StepOf.Tick asker taker) = if nat_lt w.now (2 ^ 32 - 1) then None else Some faults.NotNow
 may_step w (StepOf.Restart end) = None
 
--- Why a step isn't taken: it may not be, or there is no memory.
+-- Why a step isn't taken: it may not be, for this reason; or it may, and there is no memory for what it adds.
 abbrev pub IsCause : LaneOf → StepOf → LaneFault → Type 0
-IsCause w s e = (e ≡ faults.Memory) ⊎ (may_step w s ≡ Some e)
+IsCause w s e = (may_step w s ≡ Some e) ⊎ ((e ≡ faults.Memory) × (may_step w s ≡ None))
 
 -- request data and a reply with its code have at most 252 bytes, so that their messages have at most 256 (DSP0240's
 -- header of four bytes stands before them)
