@@ -5,7 +5,8 @@ use Rattle.pldm_exch.specs.declared.caller.CallTick.TheVariants as ticks
 use Rattle.exch_lane.specs.Lanes.{LaneOf}
 use Rattle.exch_lane.specs.Sides.{AskerRow, AskerTick, TakerRow}
 use Rattle.exch_lane.specs.Steps.{asker_does, asker_ticks, sendings, taker_does, with_asker}
-use Rattle.exch_lane.specs.Code.{asker_after, asker_ticked, call_tick_of, heard_in, learnt_in, taker_after, with_learnt, with_sent, with_taken}
+use Rattle.exch_lane.specs.Journals.{with_learnt, with_sent, with_taken}
+use Rattle.exch_lane.specs.Nodes.{asker_after, asker_ticked, call_tick_of, heard_in, learnt_in, taker_after}
 
 -- a packet at the node that asks
 pub asker_does_is : (w : LaneOf) (row : AskerRow)

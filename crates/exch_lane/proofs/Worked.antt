@@ -1,53 +1,65 @@
--- A worked lane: the definitions by computation.
+-- Worked lanes, by computation: what the definitions must say of them.
 use Rattle.std.proofs.Common.{◌≡◌, ℕ, true, false, List, [], ◌∷◌, ◌++◌, replicate, length, Some, None, refl}
-use Rattle.exch_lane.specs.Lanes.{EntryOf, StepOf, lane_new}
-use Rattle.exch_lane.specs.Steps.{lane_run, may_step}
-use Rattle.exch_lane.specs.Cells.{Cell, cells_along, no_cell_yet}
 use Rattle.mctp_reasm.specs.Pieces.{pieces_from}
+use Rattle.exch_lane.specs.Cells.{Cell, cells_along, no_cell_yet}
+use Rattle.exch_lane.specs.Lanes.{EntryOf, LaneOf, StepOf, lane_new}
+use Rattle.exch_lane.specs.Steps.{lane_run, may_step}
 use Rattle.exch_lane.specs.declared.step.End.TheVariants as ends
 use Rattle.exch_lane.specs.declared.step.LaneFault.TheVariants as faults
 
+-- so many ticks that both ends count
 ticks : ℕ → List StepOf
 ticks n = replicate n (StepOf.Tick true true)
 
-row : List StepOf
-row = StepOf.Begin 16 (7 ∷ []) ∷ StepOf.Deliver 1 ends.Taker (0 ∷ 1 ∷ []) ∷ ticks 6
+-- a request is answered by a reply that doesn't arrive, and is repeated after six ticks
+repeated : List StepOf
+repeated = StepOf.Begin 16 (7 ∷ []) ∷ StepOf.Deliver 1 ends.Taker (0 ∷ 1 ∷ []) ∷ ticks 6
 
-again : List StepOf
-again = StepOf.Deliver 3 ends.Taker (0 ∷ 2 ∷ []) ∷ StepOf.Deliver 4 ends.Asker [] ∷ StepOf.Deliver 2 ends.Asker [] ∷ []
+-- the repeat arrives, with another reply at hand; then the second and the first reply
+replied : List StepOf
+replied = StepOf.Deliver 3 ends.Taker (0 ∷ 2 ∷ []) ∷ StepOf.Deliver 4 ends.Asker [] ∷ StepOf.Deliver 2 ends.Asker [] ∷ []
 
-told : (lane_run (lane_new 8 9) (row ++ again)).entries ≡ EntryOf.Asked 16 (7 ∷ []) ∷ EntryOf.Taken 16 (7 ∷ []) (0 ∷ 1 ∷ []) ∷ EntryOf.Learnt (0 ∷ 1 ∷ []) ∷ []
-unfolding pieces_from ticks row again
-told = refl
+after_reply : LaneOf
+after_reply = lane_run (lane_new 8 9) (repeated ++ replied)
 
-four : length (lane_run (lane_new 8 9) (row ++ again)).packets ≡ 4
-unfolding pieces_from ticks row again
-four = refl
+-- four packets were sent, and the request was taken once and its first reply learnt once
+four_packets : length after_reply.packets ≡ 4
+unfolding after_reply pieces_from repeated replied ticks
+four_packets = refl
 
-cell : cells_along (lane_new 8 9) (row ++ again) (Some no_cell_yet) ≡ Some (record { cell = Cell.Empty; entries = (lane_run (lane_new 8 9) (row ++ again)).entries })
-unfolding pieces_from ticks row again
-cell = refl
+history : after_reply.entries ≡ EntryOf.Asked 16 (7 ∷ []) ∷ EntryOf.Taken 16 (7 ∷ []) (0 ∷ 1 ∷ []) ∷ EntryOf.Learnt (0 ∷ 1 ∷ []) ∷ []
+unfolding after_reply pieces_from repeated replied ticks
+history = refl
 
-dead : may_step (lane_run (lane_new 8 9) (row ++ ticks 3)) (StepOf.Deliver 1 ends.Taker []) ≡ Some faults.Dead
-unfolding pieces_from ticks row again
-dead = refl
+cell_is_empty : cells_along (lane_new 8 9) (repeated ++ replied) (Some no_cell_yet) ≡ Some (record { cell = Cell.Empty; entries = after_reply.entries })
+unfolding after_reply pieces_from repeated replied ticks
+cell_is_empty = refl
 
-asked : (lane_run (lane_new 8 9) (StepOf.Begin 16 [] ∷ ticks 51)).now ≡ 51
-unfolding pieces_from ticks row again
-asked = refl
+-- a packet may arrive for eight units, and not in the ninth
+eight_units : may_step (lane_run (lane_new 8 9) (repeated ++ ticks 2)) (StepOf.Deliver 1 ends.Taker []) ≡ None
+unfolding pieces_from repeated ticks
+eight_units = refl
 
-not_yet : may_step (lane_run (lane_new 8 9) (StepOf.Begin 16 [] ∷ ticks 51)) (StepOf.Begin 16 []) ≡ Some faults.NotNow
-unfolding pieces_from ticks row again
-not_yet = refl
+nine_units : may_step (lane_run (lane_new 8 9) (repeated ++ ticks 3)) (StepOf.Deliver 1 ends.Taker []) ≡ Some faults.Dead
+unfolding pieces_from repeated ticks
+nine_units = refl
 
-now_it_may : may_step (lane_run (lane_new 8 9) (StepOf.Begin 16 [] ∷ ticks 52)) (StepOf.Begin 16 []) ≡ None
-unfolding pieces_from ticks row again
-now_it_may = refl
+-- a request that gets no reply is given up after 18 ticks, and 34 later its cell is dropped and the next may begin
+unanswered_for : ℕ → List StepOf
+unanswered_for n = StepOf.Begin 16 [] ∷ ticks n
 
-dropped : cells_along (lane_new 8 9) (StepOf.Begin 16 [] ∷ ticks 52) (Some no_cell_yet) ≡ Some (record { cell = Cell.Empty; entries = EntryOf.Asked 16 [] ∷ [] })
-unfolding pieces_from ticks row again
+too_early : may_step (lane_run (lane_new 8 9) (unanswered_for 51)) (StepOf.Begin 16 []) ≡ Some faults.NotNow
+unfolding pieces_from ticks unanswered_for
+too_early = refl
+
+in_time : may_step (lane_run (lane_new 8 9) (unanswered_for 52)) (StepOf.Begin 16 []) ≡ None
+unfolding pieces_from ticks unanswered_for
+in_time = refl
+
+closed : cells_along (lane_new 8 9) (unanswered_for 51) (Some no_cell_yet) ≡ Some (record { cell = Cell.Asked 16 [] false; entries = EntryOf.Asked 16 [] ∷ [] })
+unfolding pieces_from ticks unanswered_for
+closed = refl
+
+dropped : cells_along (lane_new 8 9) (unanswered_for 52) (Some no_cell_yet) ≡ Some (record { cell = Cell.Empty; entries = EntryOf.Asked 16 [] ∷ [] })
+unfolding pieces_from ticks unanswered_for
 dropped = refl
-
-kept_until : cells_along (lane_new 8 9) (StepOf.Begin 16 [] ∷ ticks 51) (Some no_cell_yet) ≡ Some (record { cell = Cell.Asked 16 [] false; entries = EntryOf.Asked 16 [] ∷ [] })
-unfolding pieces_from ticks row again
-kept_until = refl

@@ -1,10 +1,11 @@
 -- A lane: the node that asks, the node that answers, and all packets between them.
-use Rattle.std.specs.Prelude.{◌≢◌, ◌≤◌, ℕ, ◌-◌, nat_lt, if◌then◌else◌, Bool, true, List, [], map, replicate, slice_get, Option, None}
+use Rattle.std.specs.Prelude.{◌≢◌, ◌≤◌, ℕ, ◌-◌, ◌==◌, not, nat_lt, if◌then◌else◌, Bool, true, List, [], map, replicate, slice_get, Option, None}
 use Rattle.mctp_reasm.specs.Held.{Held}
 use Rattle.pldm_exch.specs.Caller.{CallerState, fresh}
 use Rattle.pldm_exch.specs.Kept.{Kept, none_kept}
 use Rattle.exch_lane.specs.Clocks.{Clock}
 use Rattle.exch_lane.specs.declared.step.End.{End}
+use Rattle.exch_lane.specs.declared.step.End.TheVariants as ends
 use Rattle.exch_lane.specs.declared.step.LaneStep.{LaneStep}
 use Rattle.exch_lane.specs.declared.step.LaneStep.TheVariants as steps
 use Rattle.exch_lane.specs.declared.entry.LaneEntry.{LaneEntry}
@@ -119,14 +120,7 @@ taker_clock w = record { now = w.now; since_miss = w.taker.since_miss }
 abbrev pub numbered : {A : Type 0} → List A → ℕ → Option A
 numbered xs number = if nat_lt 0 number then slice_get xs (number - 1) else None
 
--- a node that asks, its own endpoint and that of its peer
-pub record AskerNode : Type 0 where
-  pub own : ℕ
-  pub peer : ℕ
-  pub state : AskerOf
-
--- a node that answers, its own endpoint and that of its peer
-pub record TakerNode : Type 0 where
-  pub own : ℕ
-  pub peer : ℕ
-  pub state : TakerOf
+-- an end is deaf
+abbrev pub is_deaf_in : LaneOf → End → Bool
+is_deaf_in w ends.Asker = not (w.asker.deaf == 0)
+is_deaf_in w ends.Taker = not (w.taker.deaf == 0)

@@ -1,8 +1,9 @@
 pub mod Cells
 pub mod Clocks
-pub mod Code
 pub mod Inboxes
+pub mod Journals
 pub mod Lanes
 pub mod Laws
+pub mod Nodes
 pub mod Sides
 pub mod Steps

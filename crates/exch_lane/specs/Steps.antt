@@ -1,5 +1,5 @@
 -- What a step makes of a lane, and when it may be taken.
-use Rattle.std.specs.Prelude.{◌≡◌, ◌≤◌, ℕ, ◌+◌, ◌-◌, ◌^◌, ◌==◌, ◌&&◌, nat_lt, if◌then◌else◌, Bool, false, List, [], ◌∷◌, ◌++◌, length, map, Option, Some, None, is_some}
+use Rattle.std.specs.Prelude.{◌≡◌, ◌⊎◌, ◌≤◌, ℕ, ◌+◌, ◌-◌, ◌^◌, ◌==◌, ◌&&◌, nat_lt, if◌then◌else◌, Bool, false, List, [], ◌∷◌, ◌++◌, length, map, Option, Some, None, is_some}
 use Rattle.mctp_reasm.specs.Held.{Held}
 use Rattle.mctp_reasm.specs.Pieces.{MessageOf, pieces, spelled}
 use Rattle.pldm_base.specs.Header.{pldm_bytes}
@@ -153,6 +153,10 @@ may_step w StepOf.Abandon = if is_some w.asker.caller.asked then None else Some 
 may_step w (StepOf.Deliver number end reply) = may_deliver w.now (numbered w.packets number)
 may_step w (StepOf.Tick asker taker) = if nat_lt w.now (2 ^ 32 - 1) then None else Some faults.NotNow
 may_step w (StepOf.Restart end) = None
+
+-- Why a step isn't taken: it may not be, or there is no memory.
+abbrev pub IsCause : LaneOf → StepOf → LaneFault → Type 0
+IsCause w s e = (e ≡ faults.Memory) ⊎ (may_step w s ≡ Some e)
 
 -- request data and a reply with its code have at most 252 bytes, so that their messages have at most 256 (DSP0240's
 -- header of four bytes stands before them)

@@ -4,7 +4,7 @@ ghost use Rattle.std.specs.Prelude.{◌&&◌, ◌==◌, ◌≡◌, ◌≤◌, fa
 ghost use Rattle.pldm_exch.specs.Caller.{abandoned, begun, is_quiet, may_begin};
 ghost use Rattle.exch_lane.specs.Lanes.{asker_new};
 ghost use Rattle.exch_lane.specs.Sides.{asker_counts, asker_row};
-ghost use Rattle.exch_lane.specs.Code.{asker_after, asker_ticked, call_tick_of, learnt_in};
+ghost use Rattle.exch_lane.specs.Nodes.{asker_after, asker_ticked, call_tick_of, learnt_in};
 
 use crate::inbox::Inbox;
 use crate::times::DEAF;
@@ -23,7 +23,7 @@ pub(crate) struct Asker {
 
 impl Model for Asker {
     ghost use Rattle.std.specs.Prelude.{◌≡◌, false};
-    ghost use Rattle.exch_lane.specs.Lanes.{AskerNode};
+    ghost use Rattle.exch_lane.specs.Nodes.{AskerNode};
 
     ghost Value = { AskerNode };
 

@@ -2,10 +2,11 @@
 
 ghost use Rattle.std.specs.Prelude.{◌&&◌, ◌==◌, ◌≡◌, ◌≢◌, ◌≤◌, IfErr, None, OnErr, OnOk, is_some, length, map, true};
 ghost use Rattle.pldm_exch.specs.Caller.{is_quiet, may_begin};
-ghost use Rattle.exch_lane.specs.Code.{HasRoom, IsCause, asker_after, heard_in, is_deaf_in, learnt_in, sent_of, taker_after, with_learnt, with_sent, with_taken};
-ghost use Rattle.exch_lane.specs.Lanes.{AreEnds, StepOf, entry_of, lane_new, step_of};
+ghost use Rattle.exch_lane.specs.Journals.{HasRoom, sent_of, with_learnt, with_sent, with_taken};
+ghost use Rattle.exch_lane.specs.Lanes.{AreEnds, StepOf, entry_of, is_deaf_in, lane_new, step_of};
+ghost use Rattle.exch_lane.specs.Nodes.{asker_after, heard_in, learnt_in, taker_after};
 ghost use Rattle.exch_lane.specs.Sides.{asker_row, taker_row};
-ghost use Rattle.exch_lane.specs.Steps.{MayTake, abandons, begins, lane_after, lane_hears, lane_ticks, may_step, restarts};
+ghost use Rattle.exch_lane.specs.Steps.{IsCause, MayTake, abandons, begins, lane_after, lane_hears, lane_ticks, may_step, restarts};
 
 use crate::asker::Asker;
 use crate::entry::LaneEntry;
@@ -26,7 +27,7 @@ pub struct Lane {
 
 impl Model for Lane {
     ghost use Rattle.std.specs.Prelude.{◌≡◌, map};
-    ghost use Rattle.exch_lane.specs.Code.{sent_of};
+    ghost use Rattle.exch_lane.specs.Journals.{sent_of};
     ghost use Rattle.exch_lane.specs.Lanes.{LaneOf, entry_of};
 
     ghost Value = { LaneOf };

@@ -1,10 +1,9 @@
 //! Steps of a lane, one after another.
 
 ghost use Rattle.std.specs.Prelude.{◌≡◌, ◌<◌, IfErr, IsSomeAnd, OnOk, length, slice_get, take};
-ghost use Rattle.exch_lane.specs.Code.{IsCause};
 ghost use Rattle.exch_lane.specs.Lanes.{step_of, steps_of};
 ghost use Rattle.exch_lane.specs.Laws.{KeepsItsCell};
-ghost use Rattle.exch_lane.specs.Steps.{MayRun, lane_run};
+ghost use Rattle.exch_lane.specs.Steps.{IsCause, MayRun, lane_run};
 
 use crate::lane::Lane;
 use crate::laws::lane_is_a_cell;

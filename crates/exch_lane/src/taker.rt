@@ -2,7 +2,7 @@
 
 ghost use Rattle.std.specs.Prelude.{◌==◌, ◌≡◌, ◌≤◌, length, not, true};
 ghost use Rattle.pldm_base.specs.Header.{IsHead, pldm_of};
-ghost use Rattle.exch_lane.specs.Code.{heard_in, heard_of, taker_after};
+ghost use Rattle.exch_lane.specs.Nodes.{heard_in, heard_of, taker_after};
 ghost use Rattle.exch_lane.specs.Lanes.{taker_new};
 ghost use Rattle.exch_lane.specs.Sides.{taker_counts, taker_read, taker_row};
 ghost use Rattle.exch_lane.specs.Steps.{reply_message};
@@ -35,7 +35,7 @@ pub(crate) struct Taker {
 
 impl Model for Taker {
     ghost use Rattle.std.specs.Prelude.{◌≡◌, true};
-    ghost use Rattle.exch_lane.specs.Lanes.{TakerNode};
+    ghost use Rattle.exch_lane.specs.Nodes.{TakerNode};
 
     ghost Value = { TakerNode };
 
