@@ -16,7 +16,8 @@ is_for_it own peer false h dest source to = rw (eq-eqb h.dest own dest, eq-eqb h
 not_for_it : (own peer : ℕ) (to : Bool) (h : Head) → h.dest ≢ own → is_for own peer to h ≡ false
 not_for_it own peer to h other = rw (ne_eqb h.dest own other) refl
 
-pub packet_arrives : (l : Laws) (own peer : ℕ) (to : Bool) (m : MessageOf) (i : ℕ) (p : PacketOf) (bytes : List ℕ) → IsMessage m → m.tag < 8 → m.dest ≡ own → m.source ≡ peer → m.to ≡ to → slice_get (pieces m) i ≡ Some p → bytes ≡ spelled p
+pub packet_arrives : (l : Laws) (own peer : ℕ) (to : Bool) (m : MessageOf) (i : ℕ) (p : PacketOf) (bytes : List ℕ) → IsMessage m → m.tag < 8
+    → m.dest ≡ own → m.source ≡ peer → m.to ≡ to → slice_get (pieces m) i ≡ Some p → bytes ≡ spelled p
     → packet_for own peer to bytes ≡ Some p
 packet_arrives l own peer to m i p bytes lawful low dest source side at is =
     let route = ((l.pieces m lawful).each i p at).route in
@@ -24,7 +25,8 @@ packet_arrives l own peer to m i p bytes lawful low dest source side at is =
     let here : is_for own peer to p.head ≡ true = is_for_it own peer to p.head (ap (λ r. r.dest) route ∙ dest) (ap (λ r. r.source) route ∙ source) (ap (λ r. r.to) route ∙ side) in
     ap (for_end own peer to) reads ∙ rw here refl
 
-pub packet_misses : (l : Laws) (own peer : ℕ) (to : Bool) (m : MessageOf) (i : ℕ) (p : PacketOf) (bytes : List ℕ) → IsMessage m → m.tag < 8 → m.dest ≢ own → slice_get (pieces m) i ≡ Some p → bytes ≡ spelled p
+pub packet_misses : (l : Laws) (own peer : ℕ) (to : Bool) (m : MessageOf) (i : ℕ) (p : PacketOf) (bytes : List ℕ) → IsMessage m → m.tag < 8
+    → m.dest ≢ own → slice_get (pieces m) i ≡ Some p → bytes ≡ spelled p
     → packet_for own peer to bytes ≡ None
 packet_misses l own peer to m i p bytes lawful low other at is =
     let route = ((l.pieces m lawful).each i p at).route in

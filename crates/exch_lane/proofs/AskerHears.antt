@@ -24,7 +24,8 @@ pub record ReplyCame (w : LaneOf) (g : Ghost) (tag : ℕ) (e : Exchange) (r : Li
 abbrev pub replies_lane : LaneOf → ℕ → Option Held → LaneOf
 replies_lane w tag o = record w { asker = record w.asker { replies = slice_set w.asker.replies tag o } }
 
-reply_tags : (w : LaneOf) (g : Ghost) (tag : ℕ) (e : Exchange) (o : Option Held) → tag < 8 → g.exchanges tag ≡ Some e → w.asker.deaf ≡ 0 → IfSome o (IsReplies (asker_clock w) (ends_of w tag) e) → LaneGood w g
+reply_tags : (w : LaneOf) (g : Ghost) (tag : ℕ) (e : Exchange) (o : Option Held) → tag < 8 → g.exchanges tag ≡ Some e → w.asker.deaf ≡ 0
+    → IfSome o (IsReplies (asker_clock w) (ends_of w tag) e) → LaneGood w g
     → (t : ℕ) → t < 8 → TagOf (view_of (replies_lane w tag o) g.current t) (g.exchanges t)
 reply_tags w g tag e o low is hears holds h t lt = elim (eqb_tells t tag) [
   | inl same ↦
@@ -34,7 +35,8 @@ reply_tags w g tag e o low is hears holds h t lt = elim (eqb_tells t tag) [
   | inr other ↦ rw (set_there w.asker.replies tag t o other.1) (h.body.tags t lt)
 ]
 
-pub asker_holds : (w : LaneOf) (g : Ghost) (tag : ℕ) (e : Exchange) (r : List ℕ) (o : Option Held) → ReplyCame w g tag e r → IfSome o (IsReplies (asker_clock w) (ends_of w tag) e) → LaneGood w g → GoesOn (replies_lane w tag o) (Some (run_of w g))
+pub asker_holds : (w : LaneOf) (g : Ghost) (tag : ℕ) (e : Exchange) (r : List ℕ) (o : Option Held) → ReplyCame w g tag e r
+    → IfSome o (IsReplies (asker_clock w) (ends_of w tag) e) → LaneGood w g → GoesOn (replies_lane w tag o) (Some (run_of w g))
 asker_holds w g tag e r o c holds h = record {
   ghost = g;
   good = record {
@@ -71,7 +73,8 @@ pub settled_of : (o : Option Exchange) (v : TagView) → v.is_current ≡ false 
 settled_of None v other h = tt
 settled_of (Some e) v other h = h.settled other
 
-settled_at : (w : LaneOf) (g : Ghost) (tag : ℕ) (e : Exchange) (r : List ℕ) → ReplyCame w g tag e r → g.current ≡ Some tag → LaneGood w g → (t : ℕ) → t < 8 → IfSome (g.exchanges t) (IsSettled w.now)
+settled_at : (w : LaneOf) (g : Ghost) (tag : ℕ) (e : Exchange) (r : List ℕ) → ReplyCame w g tag e r → g.current ≡ Some tag → LaneGood w g → (t : ℕ)
+    → t < 8 → IfSome (g.exchanges t) (IsSettled w.now)
 settled_at w g tag e r c current h t lt = elim (eqb_tells t tag) [
   | inl same ↦ let there : g.exchanges t ≡ Some e = ap g.exchanges same.1 ∙ c.is in rw there (inl (rw c.answered refl))
   | inr other ↦ settled_of (g.exchanges t) (view_of w g.current t) (rw (current, other.0) refl) (h.body.tags t lt)
@@ -81,7 +84,8 @@ learns_runs : (w : LaneOf) (g : Ghost) (tag : ℕ) (e : Exchange) (r : List ℕ)
     → cell_learn r (run_of w g) ≡ Some (run_of (learnt_lane w tag r) (record { exchanges = g.exchanges; current = None }))
 learns_runs w g tag e r o asked c current = rw (asked, current, c.is, c.answered, nat_list_eq_equiv.refl r) refl
 
-pub asker_learns : (w : LaneOf) (g : Ghost) (tag : ℕ) (e : Exchange) (r : List ℕ) (o : Open) → w.asker.caller.asked ≡ Some o → ReplyCame w g tag e r → g.current ≡ Some tag → LaneGood w g
+pub asker_learns : (w : LaneOf) (g : Ghost) (tag : ℕ) (e : Exchange) (r : List ℕ) (o : Open) → w.asker.caller.asked ≡ Some o → ReplyCame w g tag e r
+    → g.current ≡ Some tag → LaneGood w g
     → GoesOn (learnt_lane w tag r) (cell_learn r (run_of w g))
 asker_learns w g tag e r o asked c current h = record {
   ghost = record { exchanges = g.exchanges; current = None };

@@ -27,7 +27,8 @@ abbrev pub HearsRow : LaneOf → Ghost → AskerRow → Type 0
 HearsRow w g row = GoesOn (asker_does w row) (cell_at_asker row (run_of w g))
 
 -- whether a reply answers the open request
-answers : (l : Laws) (x : Ends) (e : Exchange) (r : List ℕ) (o : Open) (c : Clock) → IsWording e → x.tag ≡ o.tag → IsOpenOf c x o e → answer_body o (reply_of x e r) ≡ Some r
+answers : (l : Laws) (x : Ends) (e : Exchange) (r : List ℕ) (o : Open) (c : Clock) → IsWording e → x.tag ≡ o.tag → IsOpenOf c x o e
+    → answer_body o (reply_of x e r) ≡ Some r
 answers l x e r o c wording same h =
     rw (eq-eqb x.tag o.tag same)
     (ap (answer_in o) (reply_reads l x e r wording) ∙ rw (eq-eqb e.identifier o.identifier (sym h.identifier), eq-eqb 5 o.pldm_type (sym h.kind), eq-eqb e.command o.command (sym h.command)) refl)
@@ -36,10 +37,12 @@ no_answer : (x : Ends) (e : Exchange) (r : List ℕ) (o : Open) → (x.tag == o.
 no_answer x e r o other = rw other refl
 
 -- a whole reply
-ignored_row : (w : LaneOf) (g : Ghost) (tag : ℕ) (e : Exchange) (r : List ℕ) → ReplyCame w g tag e r → LaneGood w g → HearsRow w g (AskerRow.Ignores (slice_set w.asker.replies tag None))
+ignored_row : (w : LaneOf) (g : Ghost) (tag : ℕ) (e : Exchange) (r : List ℕ) → ReplyCame w g tag e r → LaneGood w g
+    → HearsRow w g (AskerRow.Ignores (slice_set w.asker.replies tag None))
 ignored_row w g tag e r c h = asker_holds w g tag e r None c tt h
 
-row_open : (l : Laws) (w : LaneOf) (g : Ghost) (tag : ℕ) (e : Exchange) (r : List ℕ) (o : Open) → w.asker.caller.asked ≡ Some o → IsAskedOf w g o → ReplyCame w g tag e r → LaneGood w g
+row_open : (l : Laws) (w : LaneOf) (g : Ghost) (tag : ℕ) (e : Exchange) (r : List ℕ) (o : Open) → w.asker.caller.asked ≡ Some o → IsAskedOf w g o
+    → ReplyCame w g tag e r → LaneGood w g
     → HearsRow w g (asker_answered (slice_set w.asker.replies tag None) (closed_by w.asker.caller o (answer_body o (reply_of (ends_of w tag) e r))).0 (closed_by w.asker.caller o (answer_body o (reply_of (ends_of w tag) e r))).1)
 row_open l w g tag e r o asked k c h =
     let motive : Option (List ℕ) → Type 0 = λ answer. HearsRow w g (asker_answered (slice_set w.asker.replies tag None) (closed_by w.asker.caller o answer).0 (closed_by w.asker.caller o answer).1) in
@@ -54,13 +57,15 @@ row_open l w g tag e r o asked k c h =
       | inr other ↦ subst motive (sym (no_answer (ends_of w tag) e r o other.0)) (ignored_row w g tag e r c h)
     ]
 
-row_heard : (l : Laws) (w : LaneOf) (g : Ghost) (tag : ℕ) (e : Exchange) (r : List ℕ) (o : Option Open) → w.asker.caller.asked ≡ o → IfSome o (IsAskedOf w g) → ReplyCame w g tag e r → LaneGood w g
+row_heard : (l : Laws) (w : LaneOf) (g : Ghost) (tag : ℕ) (e : Exchange) (r : List ℕ) (o : Option Open) → w.asker.caller.asked ≡ o
+    → IfSome o (IsAskedOf w g) → ReplyCame w g tag e r → LaneGood w g
     → HearsRow w g (asker_answered (slice_set w.asker.replies tag None) (heard_as w.asker.caller o (reply_of (ends_of w tag) e r)).0 (heard_as w.asker.caller o (reply_of (ends_of w tag) e r)).1)
 row_heard l w g tag e r None asked k c h = ignored_row w g tag e r c h
 row_heard l w g tag e r (Some o) asked k c h = row_open l w g tag e r o asked k c h
 
 -- what its assembly says of a packet of a reply
-row_fed : (l : Laws) (w : LaneOf) (g : Ghost) (tag : ℕ) (e : Exchange) (r : List ℕ) (f : Fed) (o : Option Held) → Comes (reply_of (ends_of w tag) e r) f o → ReplyCame w g tag e r → LaneGood w g
+row_fed : (l : Laws) (w : LaneOf) (g : Ghost) (tag : ℕ) (e : Exchange) (r : List ℕ) (f : Fed) (o : Option Held)
+    → Comes (reply_of (ends_of w tag) e r) f o → ReplyCame w g tag e r → LaneGood w g
     → HearsRow w g (asker_fed (slice_set w.asker.replies tag o) w.asker.caller f)
 row_fed l w g tag e r (Whole m) o comes c h =
     subst (λ o. HearsRow w g (asker_fed (slice_set w.asker.replies tag o) w.asker.caller (Whole m))) (sym comes.1)
@@ -71,7 +76,8 @@ row_fed l w g tag e r (Dropped cause) o comes c h =
     asker_holds w g tag e r o c (holds_replies (asker_clock w) (ends_of w tag) e r (Dropped cause) o c.answered h.body.asker_time c.soon comes) h
 
 -- the row of a packet of a reply
-row_is : (l : Laws) (w : LaneOf) (tag : ℕ) (e : Exchange) (r : List ℕ) (s : Sent) (p : IsPacketOf (reply_of (ends_of w tag) e r) s.bytes) → w.asker.deaf ≡ 0 → length r ≤ 252 → tag < 8
+row_is : (l : Laws) (w : LaneOf) (tag : ℕ) (e : Exchange) (r : List ℕ) (s : Sent) (p : IsPacketOf (reply_of (ends_of w tag) e r) s.bytes)
+    → w.asker.deaf ≡ 0 → length r ≤ 252 → tag < 8
     → asker_row_in w s.bytes ≡ asker_fed (slice_set w.asker.replies tag (held_after (held_at w.asker.replies tag) p.packet)) w.asker.caller (fed (held_at w.asker.replies tag) p.packet)
 row_is l w tag e r s p hears few low =
     let lawful = reply_is (ends_of w tag) e r few in
@@ -80,7 +86,8 @@ row_is l w tag e r s p hears few low =
     rw (hears, arrives, under) refl
 
 -- what is held is part of the reply
-part_from : (c : Clock) (x : Ends) (e : Exchange) (r : List ℕ) (o : Option Held) → e.reply ≡ Some r → IfSome o (IsReplies c x e) → IfSome o (λ h. IsPart (reply_of x e r) h.packets)
+part_from : (c : Clock) (x : Ends) (e : Exchange) (r : List ℕ) (o : Option Held) → e.reply ≡ Some r → IfSome o (IsReplies c x e)
+    → IfSome o (λ h. IsPart (reply_of x e r) h.packets)
 part_from c x e r None is h = tt
 part_from c x e r (Some held) is h = rw is at h.part
 
@@ -88,7 +95,8 @@ pub few_of : (e : Exchange) (r : List ℕ) → e.reply ≡ Some r → IsWording 
 few_of e r is h = rw is at h.reply
 
 -- a packet of a reply comes to the hearing asker
-pub hears_reply : (l : Laws) (w : LaneOf) (g : Ghost) (tag : ℕ) (e : Exchange) (r : List ℕ) (s : Sent) → IsPacketOf (reply_of (ends_of w tag) e r) s.bytes → ReplyCame w g tag e r → LaneGood w g → HearsRow w g (asker_row_in w s.bytes)
+pub hears_reply : (l : Laws) (w : LaneOf) (g : Ghost) (tag : ℕ) (e : Exchange) (r : List ℕ) (s : Sent)
+    → IsPacketOf (reply_of (ends_of w tag) e r) s.bytes → ReplyCame w g tag e r → LaneGood w g → HearsRow w g (asker_row_in w s.bytes)
 hears_reply l w g tag e r s p c h =
     let k = came_of w g tag e c.low c.is h in
     let few = few_of e r c.answered k.wording in

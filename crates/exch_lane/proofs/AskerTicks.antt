@@ -9,7 +9,8 @@ use Rattle.exch_lane.proofs.Facts.{lt_from, none_of, some_maps}
 use Rattle.exch_lane.proofs.Views.{AskerView, Ends, Exchange, IsAsker, IsReplies, IsSpan, asker_at, asker_view_tick, resent, rested}
 
 -- what is held ages only below its limit
-pub held_ages : (o : Option Held) (P Q : Held → Type 0) → IfSome o P → ((h : Held) → P h → h.age ≤ 8) → ((h : Held) → P h → h.age < 8 → Q (record h { age = h.age + 1 })) → IfSome (held_tick o) Q
+pub held_ages : (o : Option Held) (P Q : Held → Type 0) → IfSome o P → ((h : Held) → P h → h.age ≤ 8)
+    → ((h : Held) → P h → h.age < 8 → Q (record h { age = h.age + 1 })) → IfSome (held_tick o) Q
 held_ages None P Q h young next = tt
 held_ages (Some held) P Q h young next = elim (eqb_tells held.age 8) [
   | inl last ↦ rw last.0 tt
@@ -51,7 +52,8 @@ asker_misses c x e w may h = record {
   deaf = λ z. let d = h.deaf z in (omega (arith, d.0), d.1, d.2);
 }
 
-pub asker_beats : (counts : Bool) (c : Clock) (x : Ends) (e : Exchange) (w : AskerView) → MayBeat counts c → IsAsker c x e w → IsAsker (beat counts c) x e (asker_at counts w)
+pub asker_beats : (counts : Bool) (c : Clock) (x : Ends) (e : Exchange) (w : AskerView) → MayBeat counts c → IsAsker c x e w
+    → IsAsker (beat counts c) x e (asker_at counts w)
 asker_beats true c x e w may h = asker_counts c x e w may h
 asker_beats false c x e w may h = asker_misses c x e w may h
 

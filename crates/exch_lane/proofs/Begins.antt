@@ -27,8 +27,10 @@ rested_far (Some e) v hears rest h = let far = h.asker.rest hears in omega (arit
 pub exchange_of : LaneOf → ℕ → List ℕ → Exchange
 exchange_of w command body = record { identifier = w.asker.caller.number; command = command; body = body; first = w.now; last = w.now; reply = None }
 
-begins_tag : (l : Laws) (w : LaneOf) (g : Ghost) (command : ℕ) (body : List ℕ) → length body ≤ 252 → w.asker.deaf ≡ 0 → rest_at w.asker.caller (next_tag w.asker.caller) ≡ 0 → g.current ≡ None → LaneGood w g
-    → (t : ℕ) → t < 8 → TagOf (view_of (begins w command body) (Some (next_tag w.asker.caller)) t) (put (next_tag w.asker.caller) (exchange_of w command body) g.exchanges t)
+begins_tag : (l : Laws) (w : LaneOf) (g : Ghost) (command : ℕ) (body : List ℕ) → length body ≤ 252 → w.asker.deaf ≡ 0
+    → rest_at w.asker.caller (next_tag w.asker.caller) ≡ 0 → g.current ≡ None → LaneGood w g
+    → (t : ℕ) → t < 8
+    → TagOf (view_of (begins w command body) (Some (next_tag w.asker.caller)) t) (put (next_tag w.asker.caller) (exchange_of w command body) g.exchanges t)
 unfolding exchange_of
 begins_tag l w g command body few hears rest none h t lt =
     let set = l.rests.begin w.asker.caller 5 command body t h.body.caller in
@@ -48,7 +50,8 @@ pub tag_low : (n : ℕ) → n % 8 < 8
 tag_low n = omega arith
 
 -- the request that is sent
-begins_message : (w : LaneOf) (command : ℕ) (body : List ℕ) → w.asker.caller.own ≡ w.asker_eid → w.asker.caller.peer ≡ w.taker_eid → (begun w.asker.caller 5 command body).1 ≡ request_of (ends_of w (next_tag w.asker.caller)) (exchange_of w command body)
+begins_message : (w : LaneOf) (command : ℕ) (body : List ℕ) → w.asker.caller.own ≡ w.asker_eid → w.asker.caller.peer ≡ w.taker_eid
+    → (begun w.asker.caller 5 command body).1 ≡ request_of (ends_of w (next_tag w.asker.caller)) (exchange_of w command body)
 unfolding exchange_of
 begins_message w command body own peer = rw (own, peer) refl
 
@@ -79,7 +82,8 @@ begins_runs : (w : LaneOf) (g : Ghost) (command : ℕ) (body : List ℕ) → g.c
 unfolding exchange_of
 begins_runs w g command body none = rw (none, eq-eqb (next_tag w.asker.caller) (next_tag w.asker.caller) refl) refl
 
-begins_body : (l : Laws) (w : LaneOf) (g : Ghost) (command : ℕ) (body : List ℕ) → length body ≤ 252 → w.asker.deaf ≡ 0 → rest_at w.asker.caller (next_tag w.asker.caller) ≡ 0 → g.current ≡ None → LaneGood w g
+begins_body : (l : Laws) (w : LaneOf) (g : Ghost) (command : ℕ) (body : List ℕ) → length body ≤ 252 → w.asker.deaf ≡ 0
+    → rest_at w.asker.caller (next_tag w.asker.caller) ≡ 0 → g.current ≡ None → LaneGood w g
     → LaneBody (begins w command body) (record { exchanges = put (next_tag w.asker.caller) (exchange_of w command body) g.exchanges; current = Some (next_tag w.asker.caller) })
 begins_body l w g command body few hears rest none h =
     let tag : ℕ = next_tag w.asker.caller in
@@ -106,7 +110,8 @@ begins_body l w g command body few hears rest none h =
       deaf = λ z. absurd (omega (arith, z, hears));
     }
 
-begins_good : (l : Laws) (w : LaneOf) (g : Ghost) (command : ℕ) (body : List ℕ) → length body ≤ 252 → w.asker.deaf ≡ 0 → rest_at w.asker.caller (next_tag w.asker.caller) ≡ 0 → g.current ≡ None → LaneGood w g
+begins_good : (l : Laws) (w : LaneOf) (g : Ghost) (command : ℕ) (body : List ℕ) → length body ≤ 252 → w.asker.deaf ≡ 0
+    → rest_at w.asker.caller (next_tag w.asker.caller) ≡ 0 → g.current ≡ None → LaneGood w g
     → GoesOn (begins w command body) (cell_ask command body (run_of w g))
 begins_good l w g command body few hears rest none h = record {
   ghost = record { exchanges = put (next_tag w.asker.caller) (exchange_of w command body) g.exchanges; current = Some (next_tag w.asker.caller) };
@@ -118,7 +123,8 @@ begins_good l w g command body few hears rest none h = record {
   runs = begins_runs w g command body none;
 }
 
-pub goes_begin : (l : Laws) (w : LaneOf) (g : Ghost) (command : ℕ) (body : List ℕ) → length body ≤ 252 → (if (w.asker.deaf == 0) && may_begin w.asker.caller then None else Some faults.NotNow) ≡ None → LaneGood w g
+pub goes_begin : (l : Laws) (w : LaneOf) (g : Ghost) (command : ℕ) (body : List ℕ) → length body ≤ 252
+    → (if (w.asker.deaf == 0) && may_begin w.asker.caller then None else Some faults.NotNow) ≡ None → LaneGood w g
     → GoesOn (begins w command body) (cell_ask command body (run_of w g))
 goes_begin l w g command body few may h =
     let all = both (w.asker.deaf == 0) (may_begin w.asker.caller) (may_of ((w.asker.deaf == 0) && may_begin w.asker.caller) faults.NotNow may) in

@@ -19,37 +19,44 @@ request_is x e h = let few = h.body in (omega arith, omega arith)
 pub reply_is : (x : Ends) (e : Exchange) (r : List ℕ) → length r ≤ 252 → IsMessage (reply_of x e r)
 reply_is x e r few = (omega arith, omega arith)
 
-pub request_reads : (l : Laws) (x : Ends) (e : Exchange) → IsWording e → pldm_of (request_of x e).bytes ≡ Ok (record { rq = true; instance = e.identifier; pldm_type = 5; command = e.command }, e.body)
+pub request_reads : (l : Laws) (x : Ends) (e : Exchange) → IsWording e
+    → pldm_of (request_of x e).bytes ≡ Ok (record { rq = true; instance = e.identifier; pldm_type = 5; command = e.command }, e.body)
 request_reads l x e h =
     l.messages_read (request_of x e).bytes (record { rq = true; instance = e.identifier; pldm_type = 5; command = e.command }) e.body
     (l.messages_written (record { rq = true; instance = e.identifier; pldm_type = 5; command = e.command }) e.body (h.identifier, omega arith))
 
-pub reply_reads : (l : Laws) (x : Ends) (e : Exchange) (r : List ℕ) → IsWording e → pldm_of (reply_of x e r).bytes ≡ Ok (record { rq = false; instance = e.identifier; pldm_type = 5; command = e.command }, r)
+pub reply_reads : (l : Laws) (x : Ends) (e : Exchange) (r : List ℕ) → IsWording e
+    → pldm_of (reply_of x e r).bytes ≡ Ok (record { rq = false; instance = e.identifier; pldm_type = 5; command = e.command }, r)
 reply_reads l x e r h =
     l.messages_read (reply_of x e r).bytes (record { rq = false; instance = e.identifier; pldm_type = 5; command = e.command }) r
     (l.messages_written (record { rq = false; instance = e.identifier; pldm_type = 5; command = e.command }) r (h.identifier, omega arith))
 
 -- what is held of a message after one of its pieces
-begins_requests : (c : Clock) (x : Ends) (e : Exchange) (o : Option Held) → IsClock c → c.now ≤ e.last + 8 → IsSomeAnd o (λ h. IsPart (request_of x e) h.packets × (h.age ≡ 0)) → IfSome o (IsRequests c x e)
+begins_requests : (c : Clock) (x : Ends) (e : Exchange) (o : Option Held) → IsClock c → c.now ≤ e.last + 8
+    → IsSomeAnd o (λ h. IsPart (request_of x e) h.packets × (h.age ≡ 0)) → IfSome o (IsRequests c x e)
 begins_requests c x e None ok soon h = tt
 begins_requests c x e (Some held) ok soon h = record { part = h.0; age = omega (arith, h.1); soon = rw h.1 (elapsed_start c (e.last + 8) ok soon) }
 
-pub holds_requests : (c : Clock) (x : Ends) (e : Exchange) (f : Fed) (o : Option Held) → IsClock c → c.now ≤ e.last + 8 → Comes (request_of x e) f o → IfSome o (IsRequests c x e)
+pub holds_requests : (c : Clock) (x : Ends) (e : Exchange) (f : Fed) (o : Option Held) → IsClock c → c.now ≤ e.last + 8 → Comes (request_of x e) f o
+    → IfSome o (IsRequests c x e)
 holds_requests c x e (Whole m) o ok soon h = rw h.1 tt
 holds_requests c x e Open o ok soon h = begins_requests c x e o ok soon h
 holds_requests c x e (Dropped cause) o ok soon h = rw h tt
 
-begins_replies : (c : Clock) (x : Ends) (e : Exchange) (r : List ℕ) (o : Option Held) → e.reply ≡ Some r → IsClock c → c.now ≤ e.last + 16 → IsSomeAnd o (λ h. IsPart (reply_of x e r) h.packets × (h.age ≡ 0)) → IfSome o (IsReplies c x e)
+begins_replies : (c : Clock) (x : Ends) (e : Exchange) (r : List ℕ) (o : Option Held) → e.reply ≡ Some r → IsClock c → c.now ≤ e.last + 16
+    → IsSomeAnd o (λ h. IsPart (reply_of x e r) h.packets × (h.age ≡ 0)) → IfSome o (IsReplies c x e)
 begins_replies c x e r None is ok soon h = tt
 begins_replies c x e r (Some held) is ok soon h = record { part = rw is h.0; age = omega (arith, h.1); soon = rw h.1 (elapsed_start c (e.last + 16) ok soon) }
 
-pub holds_replies : (c : Clock) (x : Ends) (e : Exchange) (r : List ℕ) (f : Fed) (o : Option Held) → e.reply ≡ Some r → IsClock c → c.now ≤ e.last + 16 → Comes (reply_of x e r) f o → IfSome o (IsReplies c x e)
+pub holds_replies : (c : Clock) (x : Ends) (e : Exchange) (r : List ℕ) (f : Fed) (o : Option Held) → e.reply ≡ Some r → IsClock c
+    → c.now ≤ e.last + 16 → Comes (reply_of x e r) f o → IfSome o (IsReplies c x e)
 holds_replies c x e r (Whole m) o is ok soon h = rw h.1 tt
 holds_replies c x e r Open o is ok soon h = begins_replies c x e r o is ok soon h
 holds_replies c x e r (Dropped cause) o is ok soon h = rw h tt
 
 -- an end holds something else
-pub view_taker_holds : (v : TagView) (e : Exchange) (o : Option Held) → v.taker.deaf ≡ 0 → IfSome o (IsRequests (taker_time v) v.ends e) → IsExchange v e → IsExchange (record v { taker = record { deaf = v.taker.deaf; kept = v.taker.kept; requests = o } }) e
+pub view_taker_holds : (v : TagView) (e : Exchange) (o : Option Held) → v.taker.deaf ≡ 0 → IfSome o (IsRequests (taker_time v) v.ends e)
+    → IsExchange v e → IsExchange (record v { taker = record { deaf = v.taker.deaf; kept = v.taker.kept; requests = o } }) e
 view_taker_holds v e o hears holds h = record {
   wording = h.wording;
   span = h.span;
@@ -58,7 +65,8 @@ view_taker_holds v e o hears holds h = record {
   settled = h.settled;
 }
 
-pub view_asker_holds : (v : TagView) (e : Exchange) (o : Option Held) → v.asker.deaf ≡ 0 → IfSome o (IsReplies (asker_time v) v.ends e) → IsExchange v e → IsExchange (record v { asker = record { deaf = v.asker.deaf; rest = v.asker.rest; replies = o } }) e
+pub view_asker_holds : (v : TagView) (e : Exchange) (o : Option Held) → v.asker.deaf ≡ 0 → IfSome o (IsReplies (asker_time v) v.ends e)
+    → IsExchange v e → IsExchange (record v { asker = record { deaf = v.asker.deaf; rest = v.asker.rest; replies = o } }) e
 view_asker_holds v e o hears holds h = record {
   wording = h.wording;
   span = h.span;
@@ -68,7 +76,8 @@ view_asker_holds v e o hears holds h = record {
 }
 
 -- a request that meets no kept answer is unanswered, and it is that of the cell
-unanswered_from : (c : Clock) (x : Ends) (e : Exchange) (w : TakerView) (o : Option (List ℕ)) → e.reply ≡ o → w.deaf ≡ 0 → w.kept ≡ None → c.now ≤ e.last + 8 → IsSpan c.now e → IsTaker c x e w → e.reply ≡ None
+unanswered_from : (c : Clock) (x : Ends) (e : Exchange) (w : TakerView) (o : Option (List ℕ)) → e.reply ≡ o → w.deaf ≡ 0 → w.kept ≡ None
+    → c.now ≤ e.last + 8 → IsSpan c.now e → IsTaker c x e w → e.reply ≡ None
 unanswered_from c x e w None is hears none soon span h = is
 unanswered_from c x e w (Some r) is hears none soon span h =
     let far = span.span in
@@ -93,7 +102,8 @@ unanswered_is_current v e none soon h = current_from v e v.is_current refl none 
 no_replies : (c : Clock) (x : Ends) (e : Exchange) (w : AskerView) → e.reply ≡ None → IsAsker c x e w → w.replies ≡ None
 no_replies c x e w none h = none_of w.replies (IsReplies c x e) h.replies (λ o r. rw none at r.part)
 
-pub view_takes : (v : TagView) (e : Exchange) (r : List ℕ) → IsClock (taker_time v) → v.taker.deaf ≡ 0 → e.reply ≡ None → length r ≤ 252 → v.now ≤ e.last + 8 → IsExchange v e
+pub view_takes : (v : TagView) (e : Exchange) (r : List ℕ) → IsClock (taker_time v) → v.taker.deaf ≡ 0 → e.reply ≡ None → length r ≤ 252
+    → v.now ≤ e.last + 8 → IsExchange v e
     → IsExchange (record v { taker = record { deaf = v.taker.deaf; kept = Some (record { identifier = e.identifier; reply = reply_of v.ends e r; age = 0 }); requests = None } }) (answered_with r e)
 view_takes v e r ok hears none few soon h =
     let order = h.span.order in

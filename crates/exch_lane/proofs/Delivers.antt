@@ -37,7 +37,9 @@ taker_misses w g reply bytes misses h = elim (eqb_tells w.taker.deaf 0) [
 ]
 
 -- a packet of a request
-request_comes : (l : Laws) (w : LaneOf) (g : Ghost) (tag : ℕ) (e : Exchange) (end : End) (reply : List ℕ) (s : Sent) → IsPacketOf (request_of (ends_of w tag) e) s.bytes → s.date ≤ e.last → w.now ≤ s.date + 8 → tag < 8 → g.exchanges tag ≡ Some e → length reply ≤ 252 → LaneGood w g
+request_comes : (l : Laws) (w : LaneOf) (g : Ghost) (tag : ℕ) (e : Exchange) (end : End) (reply : List ℕ) (s : Sent)
+    → IsPacketOf (request_of (ends_of w tag) e) s.bytes → s.date ≤ e.last → w.now ≤ s.date + 8 → tag < 8 → g.exchanges tag ≡ Some e
+    → length reply ≤ 252 → LaneGood w g
     → Hears w g end reply s.bytes
 request_comes l w g tag e ends.Asker reply s p before soon low is few h =
     asker_misses w g reply s.bytes
@@ -48,7 +50,9 @@ request_comes l w g tag e ends.Taker reply s p before soon low is few h = elim (
 ]
 
 -- a packet of a reply
-reply_comes : (l : Laws) (w : LaneOf) (g : Ghost) (tag : ℕ) (e : Exchange) (r : List ℕ) (end : End) (reply : List ℕ) (s : Sent) → IsPacketOf (reply_of (ends_of w tag) e r) s.bytes → s.date ≤ e.last + 8 → w.now ≤ s.date + 8 → tag < 8 → g.exchanges tag ≡ Some e → e.reply ≡ Some r → LaneGood w g
+reply_comes : (l : Laws) (w : LaneOf) (g : Ghost) (tag : ℕ) (e : Exchange) (r : List ℕ) (end : End) (reply : List ℕ) (s : Sent)
+    → IsPacketOf (reply_of (ends_of w tag) e r) s.bytes → s.date ≤ e.last + 8 → w.now ≤ s.date + 8 → tag < 8 → g.exchanges tag ≡ Some e
+    → e.reply ≡ Some r → LaneGood w g
     → Hears w g end reply s.bytes
 reply_comes l w g tag e r ends.Asker reply s p before soon low is answered h = elim (eqb_tells w.asker.deaf 0) [
   | inl same ↦ hears_reply l w g tag e r s p (record { low = low; is = is; answered = answered; hears = same.1; soon = omega arith }) h
@@ -59,22 +63,27 @@ reply_comes l w g tag e r ends.Taker reply s p before soon low is answered h =
     (packet_misses l w.taker_eid w.asker_eid true (reply_of (ends_of w tag) e r) p.number p.packet s.bytes (reply_is (ends_of w tag) e r (few_of e r answered (came_of w g tag e low is h).wording)) low h.body.differ p.at p.is) h
 
 -- a living packet is one of an exchange
-reply_from : (l : Laws) (w : LaneOf) (g : Ghost) (tag : ℕ) (e : Exchange) (o : Option (List ℕ)) (end : End) (reply : List ℕ) (s : Sent) → e.reply ≡ o → IsSomeAnd o (λ r. IsPacketOf (reply_of (ends_of w tag) e r) s.bytes × (s.date ≤ e.last + 8)) → w.now ≤ s.date + 8 → tag < 8 → g.exchanges tag ≡ Some e → LaneGood w g
+reply_from : (l : Laws) (w : LaneOf) (g : Ghost) (tag : ℕ) (e : Exchange) (o : Option (List ℕ)) (end : End) (reply : List ℕ) (s : Sent) → e.reply ≡ o
+    → IsSomeAnd o (λ r. IsPacketOf (reply_of (ends_of w tag) e r) s.bytes × (s.date ≤ e.last + 8)) → w.now ≤ s.date + 8 → tag < 8
+    → g.exchanges tag ≡ Some e → LaneGood w g
     → Hears w g end reply s.bytes
 reply_from l w g tag e None end reply s answered of soon low is h = absurd of
 reply_from l w g tag e (Some r) end reply s answered of soon low is h = reply_comes l w g tag e r end reply s of.0 of.1 soon low is answered h
 
-packet_from : (l : Laws) (w : LaneOf) (g : Ghost) (tag : ℕ) (e : Exchange) (end : End) (reply : List ℕ) (s : Sent) → IsOfExchange (ends_of w tag) e s → w.now ≤ s.date + 8 → tag < 8 → g.exchanges tag ≡ Some e → length reply ≤ 252 → LaneGood w g
+packet_from : (l : Laws) (w : LaneOf) (g : Ghost) (tag : ℕ) (e : Exchange) (end : End) (reply : List ℕ) (s : Sent) → IsOfExchange (ends_of w tag) e s
+    → w.now ≤ s.date + 8 → tag < 8 → g.exchanges tag ≡ Some e → length reply ≤ 252 → LaneGood w g
     → Hears w g end reply s.bytes
 packet_from l w g tag e end reply s (inl of) soon low is few h = request_comes l w g tag e end reply s of.0 of.1 soon low is few h
 packet_from l w g tag e end reply s (inr of) soon low is few h = reply_from l w g tag e e.reply end reply s refl of soon low is h
 
-exchange_from : (l : Laws) (w : LaneOf) (g : Ghost) (tag : ℕ) (o : Option Exchange) (end : End) (reply : List ℕ) (s : Sent) → g.exchanges tag ≡ o → IsSomeAnd o (λ e. IsOfExchange (ends_of w tag) e s) → w.now ≤ s.date + 8 → tag < 8 → length reply ≤ 252 → LaneGood w g
+exchange_from : (l : Laws) (w : LaneOf) (g : Ghost) (tag : ℕ) (o : Option Exchange) (end : End) (reply : List ℕ) (s : Sent) → g.exchanges tag ≡ o
+    → IsSomeAnd o (λ e. IsOfExchange (ends_of w tag) e s) → w.now ≤ s.date + 8 → tag < 8 → length reply ≤ 252 → LaneGood w g
     → Hears w g end reply s.bytes
 exchange_from l w g tag None end reply s is of soon low few h = absurd of
 exchange_from l w g tag (Some e) end reply s is of soon low few h = packet_from l w g tag e end reply s of soon low is few h
 
-living_comes : (l : Laws) (w : LaneOf) (g : Ghost) (end : End) (reply : List ℕ) (s : Sent) → IsExplained w.asker_eid w.taker_eid g.exchanges s → w.now ≤ s.date + 8 → length reply ≤ 252 → LaneGood w g → Hears w g end reply s.bytes
+living_comes : (l : Laws) (w : LaneOf) (g : Ghost) (end : End) (reply : List ℕ) (s : Sent) → IsExplained w.asker_eid w.taker_eid g.exchanges s
+    → w.now ≤ s.date + 8 → length reply ≤ 252 → LaneGood w g → Hears w g end reply s.bytes
 living_comes l w g end reply s k soon few h = exchange_from l w g k.tag (g.exchanges k.tag) end reply s refl k.of soon k.low few h
 
 -- the packet of a number
@@ -90,13 +99,15 @@ still_living now s e = elim (cases_lt (s.date + 8) now) [
   | inr lives ↦ lives
 ]
 
-delivers_from : (l : Laws) (w : LaneOf) (g : Ghost) (number : ℕ) (end : End) (reply : List ℕ) (o : Option Sent) → numbered w.packets number ≡ o → may_deliver w.now o ≡ None → length reply ≤ 252 → LaneGood w g
+delivers_from : (l : Laws) (w : LaneOf) (g : Ghost) (number : ℕ) (end : End) (reply : List ℕ) (o : Option Sent) → numbered w.packets number ≡ o
+    → may_deliver w.now o ≡ None → length reply ≤ 252 → LaneGood w g
     → GoesOn (delivers w end reply o) (cell_delivers w end reply o (run_of w g))
 delivers_from l w g number end reply None is may few h = absurd (cc)
 delivers_from l w g number end reply (Some s) is may few h =
     let soon = still_living w.now s may in
     living_comes l w g end reply s (all_at (IsLiving w.now w.asker_eid w.taker_eid g.exchanges) w.packets (number - 1) s h.body.packets (at_number w.packets number s is) soon) soon few h
 
-pub goes_deliver : (l : Laws) (w : LaneOf) (g : Ghost) (number : ℕ) (end : End) (reply : List ℕ) → may_deliver w.now (numbered w.packets number) ≡ None → length reply ≤ 252 → LaneGood w g
+pub goes_deliver : (l : Laws) (w : LaneOf) (g : Ghost) (number : ℕ) (end : End) (reply : List ℕ)
+    → may_deliver w.now (numbered w.packets number) ≡ None → length reply ≤ 252 → LaneGood w g
     → GoesOn (delivers w end reply (numbered w.packets number)) (cell_delivers w end reply (numbered w.packets number) (run_of w g))
 goes_deliver l w g number end reply may few h = delivers_from l w g number end reply (numbered w.packets number) refl may few h

@@ -27,7 +27,8 @@ asked_grows c a b deaf g tag e last reply o is h = record {
   ];
 }
 
-pub current_grows : (g : Ghost) (current : Option ℕ) (tag : ℕ) (e : Exchange) (t : ℕ) → IsCurrent g t → IsCurrent (record { exchanges = put tag e g.exchanges; current = current }) t
+pub current_grows : (g : Ghost) (current : Option ℕ) (tag : ℕ) (e : Exchange) (t : ℕ) → IsCurrent g t
+    → IsCurrent (record { exchanges = put tag e g.exchanges; current = current }) t
 current_grows g current tag e t h = record {
   low = h.low;
   there = elim (eqb_tells t tag) [

@@ -42,7 +42,8 @@ rested_unquiet w g none q h = elim (cases_lt 0 w.asker.deaf) [
   ]
 ]
 
-rested_over : (w : LaneOf) (g : Ghost) → w.asker.caller.asked ≡ None → is_quiet (rested_caller w.asker.caller) ≡ true → LaneGood w g → IfSome g.current (λ t. rest_at (rested_caller w.asker.caller) t ≡ 0)
+rested_over : (w : LaneOf) (g : Ghost) → w.asker.caller.asked ≡ None → is_quiet (rested_caller w.asker.caller) ≡ true → LaneGood w g
+    → IfSome g.current (λ t. rest_at (rested_caller w.asker.caller) t ≡ 0)
 rested_over w g none q h = elim (cases_lt 0 w.asker.deaf) [
   | inl deaf ↦ some_maps g.current (IsCurrent g) (λ t. rest_at (rested_caller w.asker.caller) t ≡ 0) h.body.current (λ t k. fresh_rest w.asker.caller w.asker_eid w.taker_eid t (h.body.deaf deaf) k.low)
   | inr hears ↦ elim (bool_cases (is_quiet w.asker.caller)) [
@@ -51,7 +52,8 @@ rested_over w g none q h = elim (cases_lt 0 w.asker.deaf) [
   ]
 ]
 
-pub rested_waits : (l : Laws) (w : LaneOf) (g : Ghost) → w.asker.deaf ≤ 1 → w.asker.caller.asked ≡ None → LaneGood w g → IsWaiting w g true (heard_tick w (rested_caller w.asker.caller))
+pub rested_waits : (l : Laws) (w : LaneOf) (g : Ghost) → w.asker.deaf ≤ 1 → w.asker.caller.asked ≡ None → LaneGood w g
+    → IsWaiting w g true (heard_tick w (rested_caller w.asker.caller))
 rested_waits l w g less none h = record {
   ticked = heard_ticked w (rested_caller w.asker.caller) (caller_ticks l w.asker.caller None none h.body.caller) h.body.own h.body.peer h.body.replies;
   view = λ t lt. asker_hear_view w.asker (beat true (asker_clock w)).since_miss t (rested_caller w.asker.caller) less (rest_falls w.asker.caller.rests t);
@@ -65,7 +67,8 @@ rested_waits l w g less none h = record {
 abbrev pub older_caller : CallerState → Open → CallerState
 older_caller c o = record c { rests = fallen c.rests; asked = Some (older o) }
 
-pub older_waits : (l : Laws) (w : LaneOf) (g : Ghost) (o : Open) → MayBeat true (asker_clock w) → w.asker.caller.asked ≡ Some o → IsAskedOf w g o → sends_at (o.age + 1) ≡ false → (o.age + 1 == 18) ≡ false → LaneGood w g
+pub older_waits : (l : Laws) (w : LaneOf) (g : Ghost) (o : Open) → MayBeat true (asker_clock w) → w.asker.caller.asked ≡ Some o → IsAskedOf w g o
+    → sends_at (o.age + 1) ≡ false → (o.age + 1 == 18) ≡ false → LaneGood w g
     → IsWaiting w g true (heard_tick w (older_caller w.asker.caller o))
 older_waits l w g o may is k not_due not_over h =
     let lawful : IsCaller (older_caller w.asker.caller o) = rw (not_due, not_over) at (caller_ticks l w.asker.caller (Some o) is h.body.caller) in
@@ -90,7 +93,8 @@ over_busy c o h over =
     let left : (rest_at (over_caller c) (last_tag c) == 0) ≡ false = ne_eqb (rest_at (over_caller c) (last_tag c)) 0 (λ z. absurd (omega (arith, rest, falls, same, z, over))) in
     rw (h.unanswered, left) refl
 
-over_waits : (l : Laws) (w : LaneOf) (g : Ghost) (o : Open) → w.asker.caller.asked ≡ Some o → IsAskedOf w g o → IsOpen w.asker.caller o → sends_at (o.age + 1) ≡ false → (o.age + 1 == 18) ≡ true → LaneGood w g
+over_waits : (l : Laws) (w : LaneOf) (g : Ghost) (o : Open) → w.asker.caller.asked ≡ Some o → IsAskedOf w g o → IsOpen w.asker.caller o
+    → sends_at (o.age + 1) ≡ false → (o.age + 1 == 18) ≡ true → LaneGood w g
     → IsWaiting w g true (heard_tick w (over_caller w.asker.caller))
 over_waits l w g o is k open_is not_due over h =
     let lawful : IsCaller (over_caller w.asker.caller) = rw (not_due, over) at (caller_ticks l w.asker.caller (Some o) is h.body.caller) in
@@ -104,7 +108,9 @@ over_waits l w g o is k open_is not_due over h =
       rested = λ z q. absurd (true≢false (sym q ∙ busy));
     }
 
-pub gives_up : (l : Laws) (w : LaneOf) (g : Ghost) (taker : Bool) (o : Open) → MayBeat true (asker_clock w) → MayBeat taker (taker_clock w) → w.asker.caller.asked ≡ Some o → IsAskedOf w g o → IsOpen w.asker.caller o → sends_at (o.age + 1) ≡ false → (o.age + 1 == 18) ≡ true → LaneGood w g
+pub gives_up : (l : Laws) (w : LaneOf) (g : Ghost) (taker : Bool) (o : Open) → MayBeat true (asker_clock w) → MayBeat taker (taker_clock w)
+    → w.asker.caller.asked ≡ Some o → IsAskedOf w g o → IsOpen w.asker.caller o → sends_at (o.age + 1) ≡ false → (o.age + 1 == 18) ≡ true
+    → LaneGood w g
     → TicksRow w g true taker (AskerTick.GivesUp (heard_tick w (over_caller w.asker.caller)))
 gives_up l w g taker o may allowed is k open_is not_due over h =
     let waits = over_waits l w g o is k open_is not_due over h in

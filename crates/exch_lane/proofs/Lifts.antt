@@ -29,7 +29,8 @@ all_at P (y ∷ ys) zero x h e = let is : y ≡ x = cc in rw is at h.0
 all_at P (y ∷ ys) (suc i) x h e = all_at P ys i x h.1 e
 
 -- what is made of each element
-pub all_made : {A B C : Type 0} (P : C → Type 0) (f : B → C) (g : A → B) (xs : List A) → ((i : ℕ) (x : A) → slice_get xs i ≡ Some x → P (f (g x))) → AllByRecursion P (map f (map g xs))
+pub all_made : {A B C : Type 0} (P : C → Type 0) (f : B → C) (g : A → B) (xs : List A) → ((i : ℕ) (x : A) → slice_get xs i ≡ Some x → P (f (g x)))
+    → AllByRecursion P (map f (map g xs))
 all_made P f g [] h = tt
 all_made P f g (x ∷ xs) h = (h 0 x refl, all_made P f g xs (λ i y e. h (suc i) y e))
 

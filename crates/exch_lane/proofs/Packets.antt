@@ -18,15 +18,18 @@ abbrev pub Keeps : Exchange → Option (List ℕ) → Type 0
 Keeps e reply = (r : List ℕ) → e.reply ≡ Some r → reply ≡ Some r
 
 reply_grows : (x : Ends) (e : Exchange) (s : Sent) (last : ℕ) (reply o : Option (List ℕ)) → e.reply ≡ o → e.last ≤ last → Keeps e reply
-    → IsSomeAnd o (λ r. IsPacketOf (reply_of x e r) s.bytes × (s.date ≤ e.last + 8)) → IsSomeAnd reply (λ r. IsPacketOf (reply_of x (grown last reply e) r) s.bytes × (s.date ≤ last + 8))
+    → IsSomeAnd o (λ r. IsPacketOf (reply_of x e r) s.bytes × (s.date ≤ e.last + 8))
+    → IsSomeAnd reply (λ r. IsPacketOf (reply_of x (grown last reply e) r) s.bytes × (s.date ≤ last + 8))
 reply_grows x e s last reply None is le same h = absurd h
 reply_grows x e s last reply (Some r) is le same h = rw (same r is) (h.0, omega (arith, h.1))
 
-of_grows : (x : Ends) (e : Exchange) (s : Sent) (last : ℕ) (reply : Option (List ℕ)) → e.last ≤ last → Keeps e reply → IsOfExchange x e s → IsOfExchange x (grown last reply e) s
+of_grows : (x : Ends) (e : Exchange) (s : Sent) (last : ℕ) (reply : Option (List ℕ)) → e.last ≤ last → Keeps e reply → IsOfExchange x e s
+    → IsOfExchange x (grown last reply e) s
 of_grows x e s last reply le same (inl h) = inl (h.0, omega (arith, h.1))
 of_grows x e s last reply le same (inr h) = inr (reply_grows x e s last reply e.reply refl le same h)
 
-living_grows : (now a b : ℕ) (exchanges : ℕ → Option Exchange) (tag : ℕ) (e : Exchange) (last : ℕ) (reply : Option (List ℕ)) (s : Sent) → exchanges tag ≡ Some e → e.last ≤ last → Keeps e reply
+living_grows : (now a b : ℕ) (exchanges : ℕ → Option Exchange) (tag : ℕ) (e : Exchange) (last : ℕ) (reply : Option (List ℕ)) (s : Sent)
+    → exchanges tag ≡ Some e → e.last ≤ last → Keeps e reply
     → IsLiving now a b exchanges s → IsLiving now a b (put tag (grown last reply e) exchanges) s
 living_grows now a b exchanges tag e last reply s is le same h soon =
     let was = h soon in
@@ -38,17 +41,20 @@ living_grows now a b exchanges tag e last reply s is le same h soon =
     ]
 
 -- an exchange grows
-pub packets_grow : (now a b : ℕ) (exchanges : ℕ → Option Exchange) (tag : ℕ) (e : Exchange) (last : ℕ) (reply : Option (List ℕ)) (packets : List Sent) → exchanges tag ≡ Some e → e.last ≤ last → Keeps e reply
+pub packets_grow : (now a b : ℕ) (exchanges : ℕ → Option Exchange) (tag : ℕ) (e : Exchange) (last : ℕ) (reply : Option (List ℕ)) (packets : List Sent)
+    → exchanges tag ≡ Some e → e.last ≤ last → Keeps e reply
     → AllByRecursion (IsLiving now a b exchanges) packets → AllByRecursion (IsLiving now a b (put tag (grown last reply e) exchanges)) packets
 packets_grow now a b exchanges tag e last reply packets is le same h =
     all_maps (IsLiving now a b exchanges) (IsLiving now a b (put tag (grown last reply e) exchanges)) packets h (λ s k. living_grows now a b exchanges tag e last reply s is le same k)
 
 -- time goes on by a unit
-pub packets_later : (now a b : ℕ) (exchanges : ℕ → Option Exchange) (packets : List Sent) → AllByRecursion (IsLiving now a b exchanges) packets → AllByRecursion (IsLiving (now + 1) a b exchanges) packets
+pub packets_later : (now a b : ℕ) (exchanges : ℕ → Option Exchange) (packets : List Sent) → AllByRecursion (IsLiving now a b exchanges) packets
+    → AllByRecursion (IsLiving (now + 1) a b exchanges) packets
 packets_later now a b exchanges packets h = all_maps (IsLiving now a b exchanges) (IsLiving (now + 1) a b exchanges) packets h (λ s k soon. k (omega (arith, soon)))
 
 -- no packet lives under a tag that has rested
-reply_dead : (now : ℕ) (x : Ends) (e : Exchange) (s : Sent) (o : Option (List ℕ)) → e.last + 40 ≤ now → now ≤ s.date + 8 → IsSomeAnd o (λ r. IsPacketOf (reply_of x e r) s.bytes × (s.date ≤ e.last + 8)) → ⊥
+reply_dead : (now : ℕ) (x : Ends) (e : Exchange) (s : Sent) (o : Option (List ℕ)) → e.last + 40 ≤ now → now ≤ s.date + 8
+    → IsSomeAnd o (λ r. IsPacketOf (reply_of x e r) s.bytes × (s.date ≤ e.last + 8)) → ⊥
 reply_dead now x e s None far soon h = h
 reply_dead now x e s (Some r) far soon h = absurd (omega (arith, h.1))
 
@@ -60,7 +66,8 @@ none_living : (now : ℕ) (x : Ends) (o : Option Exchange) (s : Sent) → IfSome
 none_living now x None s far soon h = h
 none_living now x (Some e) s far soon h = of_dead now x e s far soon h
 
-living_begins : (now a b : ℕ) (exchanges : ℕ → Option Exchange) (tag : ℕ) (e : Exchange) (s : Sent) → IfSome (exchanges tag) (λ old. old.last + 40 ≤ now) → IsLiving now a b exchanges s → IsLiving now a b (put tag e exchanges) s
+living_begins : (now a b : ℕ) (exchanges : ℕ → Option Exchange) (tag : ℕ) (e : Exchange) (s : Sent)
+    → IfSome (exchanges tag) (λ old. old.last + 40 ≤ now) → IsLiving now a b exchanges s → IsLiving now a b (put tag e exchanges) s
 living_begins now a b exchanges tag e s far h soon =
     let was = h soon in
     elim (eqb_tells was.tag tag) [
@@ -76,14 +83,17 @@ packets_begin now a b exchanges tag e packets far h = all_maps (IsLiving now a b
 
 -- the packets of a message that is sent
 pub request_sent : (now a b : ℕ) (exchanges : ℕ → Option Exchange) (tag : ℕ) (e : Exchange) (packets : List Sent) → tag < 8 → exchanges tag ≡ Some e → now ≤ e.last
-    → AllByRecursion (IsLiving now a b exchanges) packets → AllByRecursion (IsLiving now a b exchanges) (packets ++ sendings now (request_of (record { asker = a; taker = b; tag = tag }) e))
+    → AllByRecursion (IsLiving now a b exchanges) packets
+    → AllByRecursion (IsLiving now a b exchanges) (packets ++ sendings now (request_of (record { asker = a; taker = b; tag = tag }) e))
 request_sent now a b exchanges tag e packets low is le h =
     let m : MessageOf = request_of (record { asker = a; taker = b; tag = tag }) e in
     all_append (IsLiving now a b exchanges) packets (sendings now m) h
     (all_made (IsLiving now a b exchanges) (sent_at now) spelled (pieces m) (λ i p at soon. record { tag = tag; low = low; of = rw is (inl (record { number = i; packet = p; at = at; is = refl }, le)) }))
 
-pub reply_sent : (now a b : ℕ) (exchanges : ℕ → Option Exchange) (tag : ℕ) (e : Exchange) (r : List ℕ) (packets : List Sent) → tag < 8 → exchanges tag ≡ Some e → e.reply ≡ Some r → now ≤ e.last + 8
-    → AllByRecursion (IsLiving now a b exchanges) packets → AllByRecursion (IsLiving now a b exchanges) (packets ++ sendings now (reply_of (record { asker = a; taker = b; tag = tag }) e r))
+pub reply_sent : (now a b : ℕ) (exchanges : ℕ → Option Exchange) (tag : ℕ) (e : Exchange) (r : List ℕ) (packets : List Sent) → tag < 8
+    → exchanges tag ≡ Some e → e.reply ≡ Some r → now ≤ e.last + 8
+    → AllByRecursion (IsLiving now a b exchanges) packets
+    → AllByRecursion (IsLiving now a b exchanges) (packets ++ sendings now (reply_of (record { asker = a; taker = b; tag = tag }) e r))
 reply_sent now a b exchanges tag e r packets low is answered le h =
     let m : MessageOf = reply_of (record { asker = a; taker = b; tag = tag }) e r in
     all_append (IsLiving now a b exchanges) packets (sendings now m) h

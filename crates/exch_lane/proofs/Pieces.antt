@@ -22,11 +22,13 @@ sized_last : (q : PacketOf) (i : ℕ) (p : PacketOf) → IsSized q → slice_get
 sized_last q zero p sized e = let is : q ≡ p = cc in subst IsSized is sized
 sized_last q (suc i) p sized e = absurd (cc)
 
-sized_more : (q : PacketOf) (qs : List PacketOf) (i : ℕ) (p : PacketOf) → IsSized q → ((j : ℕ) → slice_get qs j ≡ Some p → IsSized p) → slice_get (q ∷ qs) i ≡ Some p → IsSized p
+sized_more : (q : PacketOf) (qs : List PacketOf) (i : ℕ) (p : PacketOf) → IsSized q → ((j : ℕ) → slice_get qs j ≡ Some p → IsSized p)
+    → slice_get (q ∷ qs) i ≡ Some p → IsSized p
 sized_more q qs zero p sized later e = let is : q ≡ p = cc in subst IsSized is sized
 sized_more q qs (suc j) p sized later e = later j e
 
-sized_from : (fuel : ℕ) (r : Route) (n : ℕ) (bytes : List ℕ) (i : ℕ) (p : PacketOf) → 1 ≤ length bytes → length bytes ≤ 64 * fuel → slice_get (pieces_from fuel r n bytes) i ≡ Some p → IsSized p
+sized_from : (fuel : ℕ) (r : Route) (n : ℕ) (bytes : List ℕ) (i : ℕ) (p : PacketOf) → 1 ≤ length bytes → length bytes ≤ 64 * fuel
+    → slice_get (pieces_from fuel r n bytes) i ≡ Some p → IsSized p
 unfolding pieces_from
 sized_from zero r n bytes i p some le h = absurd (cc)
 sized_from (suc fuel) r n bytes i p some le h = elim (cases_lt 64 (length bytes)) [
@@ -39,7 +41,8 @@ sized_from (suc fuel) r n bytes i p some le h = elim (cases_lt 64 (length bytes)
 ]
 
 -- each piece of a message reads back
-pub piece_reads : (l : Laws) (m : MessageOf) (i : ℕ) (p : PacketOf) → IsMessage m → m.tag < 8 → slice_get (pieces m) i ≡ Some p → packet_of (spelled p) ≡ Ok (p.head, p.body)
+pub piece_reads : (l : Laws) (m : MessageOf) (i : ℕ) (p : PacketOf) → IsMessage m → m.tag < 8 → slice_get (pieces m) i ≡ Some p
+    → packet_of (spelled p) ≡ Ok (p.head, p.body)
 piece_reads l m i p lawful low h =
     let all = l.pieces m lawful in
     let here = all.each i p h in
@@ -56,7 +59,8 @@ Comes m (Whole whole) held = (whole ≡ m) × (held ≡ None)
 Comes m Open held = IsSomeAnd held (λ h. IsPart m h.packets × (h.age ≡ 0))
 Comes m (Dropped cause) held = held ≡ None
 
-comes_next : (l : Laws) (m : MessageOf) (k i age : ℕ) (p : PacketOf) → IsMessage m → k < length (pieces m) → slice_get (pieces m) i ≡ Some p → (i ≡ 0) ⊎ (i ≡ k) → Comes m (fed (holding m k age) p) (held_after (holding m k age) p)
+comes_next : (l : Laws) (m : MessageOf) (k i age : ℕ) (p : PacketOf) → IsMessage m → k < length (pieces m) → slice_get (pieces m) i ≡ Some p
+    → (i ≡ 0) ⊎ (i ≡ k) → Comes m (fed (holding m k age) p) (held_after (holding m k age) p)
 comes_next l m k i age p lawful lt h next =
     let f = l.feeds_next m k i age p lawful lt h next in
     let within = slice_get_within (pieces m) i p h in
@@ -65,10 +69,12 @@ comes_next l m k i age p lawful lt h next =
       | inr more ↦ rw (f.0, f.1, more.0, ne_eqb (i + 1) 0 (λ e. absurd (omega (arith, e)))) (record { count = i + 1; some = omega arith; proper = lt_from (i + 1) (length (pieces m)) (omega arith) more.1; is = refl }, refl)
     ]
 
-comes_other : (l : Laws) (m : MessageOf) (k i age : ℕ) (p : PacketOf) → IsMessage m → k < length (pieces m) → slice_get (pieces m) i ≡ Some p → (i ≡ 0 → ⊥) → (i ≡ k → ⊥) → Comes m (fed (holding m k age) p) (held_after (holding m k age) p)
+comes_other : (l : Laws) (m : MessageOf) (k i age : ℕ) (p : PacketOf) → IsMessage m → k < length (pieces m) → slice_get (pieces m) i ≡ Some p
+    → (i ≡ 0 → ⊥) → (i ≡ k → ⊥) → Comes m (fed (holding m k age) p) (held_after (holding m k age) p)
 comes_other l m k i age p lawful lt h first next = let f = l.feeds_other m k i age p lawful lt h first next in rw (f.0, f.1) refl
 
-comes_at : (l : Laws) (m : MessageOf) (k i age : ℕ) (p : PacketOf) → IsMessage m → k < length (pieces m) → slice_get (pieces m) i ≡ Some p → Comes m (fed (holding m k age) p) (held_after (holding m k age) p)
+comes_at : (l : Laws) (m : MessageOf) (k i age : ℕ) (p : PacketOf) → IsMessage m → k < length (pieces m) → slice_get (pieces m) i ≡ Some p
+    → Comes m (fed (holding m k age) p) (held_after (holding m k age) p)
 comes_at l m k i age p lawful lt h = elim (eqb_tells i 0) [
   | inl first ↦ comes_next l m k i age p lawful lt h (inl first.1)
   | inr later ↦ elim (eqb_tells i k) [
@@ -77,7 +83,8 @@ comes_at l m k i age p lawful lt h = elim (eqb_tells i 0) [
   ]
 ]
 
-pub piece_comes : (l : Laws) (m : MessageOf) (i : ℕ) (p : PacketOf) (o : Option Held) → IsMessage m → slice_get (pieces m) i ≡ Some p → IfSome o (λ h. IsPart m h.packets) → Comes m (fed o p) (held_after o p)
+pub piece_comes : (l : Laws) (m : MessageOf) (i : ℕ) (p : PacketOf) (o : Option Held) → IsMessage m → slice_get (pieces m) i ≡ Some p
+    → IfSome o (λ h. IsPart m h.packets) → Comes m (fed o p) (held_after o p)
 piece_comes l m i p None lawful h part = comes_at l m 0 i 0 p lawful (let some = (l.pieces m lawful).some in omega arith) h
 piece_comes l m i p (Some held) lawful h part =
     let some = part.some in

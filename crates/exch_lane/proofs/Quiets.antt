@@ -16,11 +16,13 @@ use Rattle.exch_lane.proofs.Views.{Ends, Exchange}
 use Rattle.exch_lane.proofs.Waits.{IsWaiting}
 
 -- the open request as time goes on
-pub open_misses : (c : Clock) (x : Ends) (o : Open) (exchange : Option Exchange) → MayBeat false c → IsSomeAnd exchange (IsOpenOf c x o) → IsSomeAnd exchange (IsOpenOf (beat false c) x o)
+pub open_misses : (c : Clock) (x : Ends) (o : Open) (exchange : Option Exchange) → MayBeat false c → IsSomeAnd exchange (IsOpenOf c x o)
+    → IsSomeAnd exchange (IsOpenOf (beat false c) x o)
 open_misses c x o None may h = h
 open_misses c x o (Some e) may h = record { identifier = h.identifier; kind = h.kind; command = h.command; message = h.message; soon = elapsed_missed c e.first o.age may h.soon }
 
-pub open_counts : (c : Clock) (x : Ends) (o : Open) (exchange : Option Exchange) → MayBeat true c → IsSomeAnd exchange (IsOpenOf c x o) → IsSomeAnd exchange (IsOpenOf (beat true c) x (older o))
+pub open_counts : (c : Clock) (x : Ends) (o : Open) (exchange : Option Exchange) → MayBeat true c → IsSomeAnd exchange (IsOpenOf c x o)
+    → IsSomeAnd exchange (IsOpenOf (beat true c) x (older o))
 open_counts c x o None may h = h
 open_counts c x o (Some e) may h = record { identifier = h.identifier; kind = h.kind; command = h.command; message = h.message; soon = elapsed_counted c e.first o.age may h.soon }
 
@@ -59,7 +61,8 @@ deaf_waits w g more h = record {
 abbrev pub heard_tick : LaneOf → CallerState → AskerOf
 heard_tick w c = record (beaten w true) { deaf = 0; caller = c; replies = map held_tick w.asker.replies }
 
-pub heard_ticked : (w : LaneOf) (c : CallerState) → IsCaller c → c.own ≡ w.asker_eid → c.peer ≡ w.taker_eid → length w.asker.replies ≡ 8 → IsTicked w true (heard_tick w c)
+pub heard_ticked : (w : LaneOf) (c : CallerState) → IsCaller c → c.own ≡ w.asker_eid → c.peer ≡ w.taker_eid → length w.asker.replies ≡ 8
+    → IsTicked w true (heard_tick w c)
 heard_ticked w c caller own peer long = record { miss = refl; own = own; peer = peer; replies = length-map w.asker.replies held_tick ∙ long; caller = caller; deaf = λ z. absurd (omega (arith, z)) }
 
 pub heard_view : (w : LaneOf) (c : CallerState) → w.asker.deaf ≤ 1 → c.rests ≡ fallen w.asker.caller.rests → (t : ℕ) → rest_at c t ≡ rest_at w.asker.caller t - 1

@@ -55,7 +55,8 @@ abbrev pub sent_ghost : LaneOf → Ghost → Open → Exchange → Ghost
 sent_ghost w g o e = record { exchanges = put o.tag (resent (w.now + 1) e) g.exchanges; current = g.current }
 
 -- its tag
-sent_view : (w : LaneOf) (g : Ghost) (taker : Bool) (o : Open) (e : Exchange) → MayBeat true (asker_clock w) → MayBeat taker (taker_clock w) → IsDue w g o e → LaneBody w g
+sent_view : (w : LaneOf) (g : Ghost) (taker : Bool) (o : Open) (e : Exchange) → MayBeat true (asker_clock w) → MayBeat taker (taker_clock w)
+    → IsDue w g o e → LaneBody w g
     → IsExchange (record (view_ticked (view_of w g.current o.tag) true taker) { asker = rested (asker_at true (asker_view w.asker o.tag)) }) (resent (w.now + 1) e)
 sent_view w g taker o e may allowed d h =
     let ticks : IsExchange (view_ticked (view_of w g.current o.tag) true taker) e = rw d.is at (view_ticks (g.exchanges o.tag) (view_of w g.current o.tag) true taker may allowed (h.tags o.tag d.low)) in
@@ -63,7 +64,8 @@ sent_view w g taker o e may allowed d h =
     let current : is_at g.current o.tag ≡ true = rw d.current (eq-eqb o.tag o.tag refl) in
     view_resends (view_ticked (view_of w g.current o.tag) true taker) e (o.age + 1) hears current (elapsed_counted (asker_clock w) e.first o.age may d.of.soon) (due_age o d.due) ticks
 
-sent_here : (w : LaneOf) (g : Ghost) (taker : Bool) (o : Open) (e : Exchange) → MayBeat true (asker_clock w) → MayBeat taker (taker_clock w) → IsDue w g o e → LaneBody w g
+sent_here : (w : LaneOf) (g : Ghost) (taker : Bool) (o : Open) (e : Exchange) → MayBeat true (asker_clock w) → MayBeat taker (taker_clock w)
+    → IsDue w g o e → LaneBody w g
     → TagOf (view_of (sent_lane w taker o) g.current o.tag) (put o.tag (resent (w.now + 1) e) g.exchanges o.tag)
 sent_here w g taker o e may allowed d h =
     let anew : rest_at (sent_caller w.asker.caller o) o.tag ≡ 40 = rest_anew w.asker.caller.rests o.tag h.caller.rests d.low in
@@ -74,7 +76,8 @@ sent_here w g taker o e may allowed d h =
     (taker_tick_view taker w.taker (beat taker (taker_clock w)).since_miss o.tag) in
     rw (eq-eqb o.tag o.tag refl) (subst (λ v. IsExchange v (resent (w.now + 1) e)) (sym same) (sent_view w g taker o e may allowed d h))
 
-sent_tags : (w : LaneOf) (g : Ghost) (taker : Bool) (o : Open) (e : Exchange) → MayBeat true (asker_clock w) → MayBeat taker (taker_clock w) → IsDue w g o e → LaneBody w g
+sent_tags : (w : LaneOf) (g : Ghost) (taker : Bool) (o : Open) (e : Exchange) → MayBeat true (asker_clock w) → MayBeat taker (taker_clock w)
+    → IsDue w g o e → LaneBody w g
     → (t : ℕ) → t < 8 → TagOf (view_of (sent_lane w taker o) g.current t) (put o.tag (resent (w.now + 1) e) g.exchanges t)
 sent_tags w g taker o e may allowed d h t lt = elim (eqb_tells t o.tag) [
   | inl same ↦ subst (λ t. TagOf (view_of (sent_lane w taker o) g.current t) (put o.tag (resent (w.now + 1) e) g.exchanges t)) (sym same.1) (sent_here w g taker o e may allowed d h)
@@ -93,7 +96,8 @@ sent_packets w g o e d h past =
     subst (λ m. AllByRecursion (IsLiving (w.now + 1) w.asker_eid w.taker_eid (put o.tag (resent (w.now + 1) e) g.exchanges)) (w.packets ++ sendings (w.now + 1) m)) (sym d.of.message)
     (request_sent (w.now + 1) w.asker_eid w.taker_eid (put o.tag (resent (w.now + 1) e) g.exchanges) o.tag (resent (w.now + 1) e) w.packets d.low (put_here o.tag (resent (w.now + 1) e) g.exchanges) (omega arith) old)
 
-sent_asked : (w : LaneOf) (g : Ghost) (o : Open) (e : Exchange) → MayBeat true (asker_clock w) → IsDue w g o e → IsAskedThen w true (heard_tick w (sent_caller w.asker.caller o)) (sent_ghost w g o e) (older o)
+sent_asked : (w : LaneOf) (g : Ghost) (o : Open) (e : Exchange) → MayBeat true (asker_clock w) → IsDue w g o e
+    → IsAskedThen w true (heard_tick w (sent_caller w.asker.caller o)) (sent_ghost w g o e) (older o)
 sent_asked w g o e may d = record {
   hears = refl;
   current = d.current;
@@ -111,14 +115,16 @@ cell_resent : (e : Exchange) (now : ℕ) (live : Bool) (o : Option (List ℕ)) �
 cell_resent e now live None = refl
 cell_resent e now live (Some r) = refl
 
-sent_runs : (w : LaneOf) (g : Ghost) (taker : Bool) (o : Open) (e : Exchange) → IsDue w g o e → Some (run_of w g) ≡ Some (run_of (sent_lane w taker o) (sent_ghost w g o e))
+sent_runs : (w : LaneOf) (g : Ghost) (taker : Bool) (o : Open) (e : Exchange) → IsDue w g o e
+    → Some (run_of w g) ≡ Some (run_of (sent_lane w taker o) (sent_ghost w g o e))
 sent_runs w g taker o e d =
     rw (d.asked, d.current, d.is, eq-eqb o.tag o.tag refl) (ap (λ cell. Some (record { cell = cell; entries = w.entries })) (cell_resent e (w.now + 1) true e.reply))
 
 past_of : (w : LaneOf) (g : Ghost) (o : Open) (e : Exchange) → IsDue w g o e → LaneBody w g → e.last ≤ w.now
 past_of w g o e d h = let k : IsExchange (view_of w g.current o.tag) e = rw d.is at (h.tags o.tag d.low) in k.span.past
 
-pub resends : (l : Laws) (w : LaneOf) (g : Ghost) (taker : Bool) (o : Open) (e : Exchange) → MayBeat true (asker_clock w) → MayBeat taker (taker_clock w) → IsDue w g o e → LaneGood w g
+pub resends : (l : Laws) (w : LaneOf) (g : Ghost) (taker : Bool) (o : Open) (e : Exchange) → MayBeat true (asker_clock w)
+    → MayBeat taker (taker_clock w) → IsDue w g o e → LaneGood w g
     → TicksRow w g true taker (AskerTick.Resends (heard_tick w (sent_caller w.asker.caller o)) o.message)
 resends l w g taker o e may allowed d h =
     let lawful : IsCaller (sent_caller w.asker.caller o) = rw d.due at (caller_ticks l w.asker.caller (Some o) d.asked h.body.caller) in

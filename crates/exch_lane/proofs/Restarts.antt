@@ -23,11 +23,13 @@ pub cell_closes : (run : CellRun) (o : Option Exchange) → is_some o ≡ true �
 cell_closes run None some = absurd (cc)
 cell_closes run (Some e) some = closes_with run e e.reply
 
-drops_with : (run : CellRun) (e : Exchange) (reply : Option (List ℕ)) → (if is_empty_cell (cell_with e false reply) then Some run else drop_in run (cell_with e false reply)) ≡ Some (record run { cell = Cell.Empty })
+drops_with : (run : CellRun) (e : Exchange) (reply : Option (List ℕ))
+    → (if is_empty_cell (cell_with e false reply) then Some run else drop_in run (cell_with e false reply)) ≡ Some (record run { cell = Cell.Empty })
 drops_with run e None = refl
 drops_with run e (Some r) = refl
 
-pub cell_drops : (run : CellRun) (e : Exchange) → (if is_empty_cell (cell_from false (Some e)) then Some run else drop_in run (cell_from false (Some e))) ≡ Some (record run { cell = Cell.Empty })
+pub cell_drops : (run : CellRun) (e : Exchange)
+    → (if is_empty_cell (cell_from false (Some e)) then Some run else drop_in run (cell_from false (Some e))) ≡ Some (record run { cell = Cell.Empty })
 cell_drops run e = drops_with run e e.reply
 
 -- the tag of an open request rests, so its caller isn't quiet
@@ -41,7 +43,8 @@ pub there_at : (g : Ghost) (tag : ℕ) → g.current ≡ Some tag → IfSome g.c
 there_at g tag is h = let k = rw is at h in k.there
 
 -- the open request is given up
-abandons_open : (l : Laws) (w : LaneOf) (g : Ghost) (o : Open) → w.asker.caller.asked ≡ Some o → IsAskedOf w g o → IsOpen w.asker.caller o → LaneGood w g → GoesOn (abandons w) (cell_close (run_of w g))
+abandons_open : (l : Laws) (w : LaneOf) (g : Ghost) (o : Open) → w.asker.caller.asked ≡ Some o → IsAskedOf w g o → IsOpen w.asker.caller o
+    → LaneGood w g → GoesOn (abandons w) (cell_close (run_of w g))
 abandons_open l w g o is k open_is h = record {
   ghost = g;
   good = record {
@@ -67,12 +70,14 @@ abandons_open l w g o is k open_is h = record {
   runs = rw (is, k.current) (cell_closes (record { cell = cell_from true (g.exchanges o.tag); entries = w.entries }) (g.exchanges o.tag) (there_at g o.tag k.current h.body.current));
 }
 
-abandons_from : (l : Laws) (w : LaneOf) (g : Ghost) (o : Option Open) → w.asker.caller.asked ≡ o → (if is_some o then None else Some faults.NotNow) ≡ None → IfSome o (IsAskedOf w g) → IfSome o (IsOpen w.asker.caller) → LaneGood w g
+abandons_from : (l : Laws) (w : LaneOf) (g : Ghost) (o : Option Open) → w.asker.caller.asked ≡ o
+    → (if is_some o then None else Some faults.NotNow) ≡ None → IfSome o (IsAskedOf w g) → IfSome o (IsOpen w.asker.caller) → LaneGood w g
     → GoesOn (abandons w) (cell_close (run_of w g))
 abandons_from l w g None is may k open_is h = absurd (cc)
 abandons_from l w g (Some o) is may k open_is h = abandons_open l w g o is k open_is h
 
-pub goes_abandon : (l : Laws) (w : LaneOf) (g : Ghost) → (if is_some w.asker.caller.asked then None else Some faults.NotNow) ≡ None → LaneGood w g → GoesOn (abandons w) (cell_close (run_of w g))
+pub goes_abandon : (l : Laws) (w : LaneOf) (g : Ghost) → (if is_some w.asker.caller.asked then None else Some faults.NotNow) ≡ None → LaneGood w g
+    → GoesOn (abandons w) (cell_close (run_of w g))
 goes_abandon l w g may h = abandons_from l w g w.asker.caller.asked refl may h.body.asked h.body.caller.asked h
 
 -- the asker restarts
@@ -98,7 +103,8 @@ asker_restarted l w g h = record {
   quiet = λ z. absurd (omega (arith, z));
 }
 
-closes_if : (w : LaneOf) (g : Ghost) (o : Option Open) → w.asker.caller.asked ≡ o → IfSome o (IsAskedOf w g) → LaneGood w g → cell_closes_if (is_some w.asker.caller.asked) (run_of w g) ≡ Some (run_of (restarts w ends.Asker) g)
+closes_if : (w : LaneOf) (g : Ghost) (o : Option Open) → w.asker.caller.asked ≡ o → IfSome o (IsAskedOf w g) → LaneGood w g
+    → cell_closes_if (is_some w.asker.caller.asked) (run_of w g) ≡ Some (run_of (restarts w ends.Asker) g)
 closes_if w g None is k h = rw is refl
 closes_if w g (Some o) is k h = rw (is, k.current) (cell_closes (record { cell = cell_from true (g.exchanges o.tag); entries = w.entries }) (g.exchanges o.tag) (there_at g o.tag k.current h.body.current))
 

@@ -58,7 +58,8 @@ cell_of_good w g h = record {
 }
 
 -- every list of steps goes on
-run_goes : (l : Laws) (w : LaneOf) (g : Ghost) (ss : List StepOf) → MayRun w ss → LaneGood w g → IsSomeAnd (cells_along w ss (Some (run_of w g))) (IsCellOf (lane_run w ss))
+run_goes : (l : Laws) (w : LaneOf) (g : Ghost) (ss : List StepOf) → MayRun w ss → LaneGood w g
+    → IsSomeAnd (cells_along w ss (Some (run_of w g))) (IsCellOf (lane_run w ss))
 run_goes l w g [] may h = cell_of_good w g h
 run_goes l w g (s ∷ ss) may h =
     let next = step_goes l w g s may.0 h in

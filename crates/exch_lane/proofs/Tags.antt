@@ -10,7 +10,8 @@ use Rattle.exch_lane.proofs.Views.{Exchange, IsEmptyTag, IsExchange, IsSettled, 
 span_beats : (counts : Bool) (c : Clock) (e : Exchange) → IsSpan c.now e → IsSpan (beat counts c).now e
 span_beats counts c e h = let past = h.past in record { order = h.order; span = h.span; past = omega arith }
 
-pub view_ticks : (o : Option Exchange) (v : TagView) (asker taker : Bool) → MayBeat asker (asker_time v) → MayBeat taker (taker_time v) → TagOf v o → TagOf (view_ticked v asker taker) o
+pub view_ticks : (o : Option Exchange) (v : TagView) (asker taker : Bool) → MayBeat asker (asker_time v) → MayBeat taker (taker_time v) → TagOf v o
+    → TagOf (view_ticked v asker taker) o
 view_ticks None v asker taker may allowed h =
     let t = taker_at_none taker v.taker h.1 h.2 in
     (asker_at_none asker v.asker h.0, t.0, t.1)
@@ -29,7 +30,8 @@ span_resends c e age soon le h =
     let past = h.past in
     record { order = omega arith; span = within_repeats c e.first age soon le; past = omega arith }
 
-pub view_resends : (v : TagView) (e : Exchange) (age : ℕ) → v.asker.deaf ≡ 0 → v.is_current ≡ true → elapsed (asker_time v) e.first age → age ≤ 12 → IsExchange v e → IsExchange (record v { asker = rested v.asker }) (resent v.now e)
+pub view_resends : (v : TagView) (e : Exchange) (age : ℕ) → v.asker.deaf ≡ 0 → v.is_current ≡ true → elapsed (asker_time v) e.first age → age ≤ 12
+    → IsExchange v e → IsExchange (record v { asker = rested v.asker }) (resent v.now e)
 view_resends v e age hears current soon le h =
     let past = h.span.past in
     record {
@@ -54,7 +56,8 @@ view_rested (Some e) v hears rest h =
     (a.1, t.0, t.1)
 
 -- a request begins under a tag that has rested
-pub view_begins : (o : Option Exchange) (v : TagView) (e : Exchange) → v.asker.deaf ≡ 0 → v.asker.rest ≡ 0 → IsWording e → e.first ≡ v.now → e.last ≡ v.now → e.reply ≡ None
+pub view_begins : (o : Option Exchange) (v : TagView) (e : Exchange) → v.asker.deaf ≡ 0 → v.asker.rest ≡ 0 → IsWording e → e.first ≡ v.now
+    → e.last ≡ v.now → e.reply ≡ None
     → TagOf v o → IsExchange (record v { asker = rested v.asker; is_current = true }) e
 view_begins o v e hears rest wording first last reply h =
     let none = view_rested o v hears rest h in

@@ -21,7 +21,8 @@ pub taker_turns : (w : LaneOf) (g : Ghost) (exchanges : ℕ → Option Exchange)
     → length taker.kept ≡ 8 → length taker.requests ≡ 8 → taker.since_miss ≡ w.taker.since_miss
     → ((t : ℕ) → t < 8 → TagOf (view_of (taker_turned w taker packets entries) g.current t) (exchanges t))
     → AllByRecursion (IsLiving w.now w.asker_eid w.taker_eid exchanges) packets
-    → IfSome w.asker.caller.asked (IsAskedOf w (record { exchanges = exchanges; current = g.current })) → IfSome g.current (IsCurrent (record { exchanges = exchanges; current = g.current }))
+    → IfSome w.asker.caller.asked (IsAskedOf w (record { exchanges = exchanges; current = g.current }))
+    → IfSome g.current (IsCurrent (record { exchanges = exchanges; current = g.current }))
     → LaneGood (taker_turned w taker packets entries) (record { exchanges = exchanges; current = g.current })
 taker_turns w g exchanges taker packets entries h kept requests same tags living asked current = record {
   body = record {
@@ -45,7 +46,8 @@ taker_turns w g exchanges taker packets entries h kept requests same tags living
 }
 
 -- what is held of a request changes
-silent_tags : (w : LaneOf) (g : Ghost) (tag : ℕ) (e : Exchange) (o : Option Held) (packets : List Sent) → tag < 8 → g.exchanges tag ≡ Some e → w.taker.deaf ≡ 0 → IfSome o (IsRequests (taker_clock w) (ends_of w tag) e) → LaneGood w g
+silent_tags : (w : LaneOf) (g : Ghost) (tag : ℕ) (e : Exchange) (o : Option Held) (packets : List Sent) → tag < 8 → g.exchanges tag ≡ Some e
+    → w.taker.deaf ≡ 0 → IfSome o (IsRequests (taker_clock w) (ends_of w tag) e) → LaneGood w g
     → (t : ℕ) → t < 8 → TagOf (view_of (taker_turned w (record w.taker { requests = slice_set w.taker.requests tag o }) packets w.entries) g.current t) (g.exchanges t)
 silent_tags w g tag e o packets low is hears holds h t lt = elim (eqb_tells t tag) [
   | inl same ↦
@@ -55,7 +57,8 @@ silent_tags w g tag e o packets low is hears holds h t lt = elim (eqb_tells t ta
   | inr other ↦ rw (set_there w.taker.requests tag t o other.1) (h.body.tags t lt)
 ]
 
-pub taker_holds : (w : LaneOf) (g : Ghost) (tag : ℕ) (e : Exchange) (o : Option Held) (packets : List Sent) → tag < 8 → g.exchanges tag ≡ Some e → w.taker.deaf ≡ 0 → IfSome o (IsRequests (taker_clock w) (ends_of w tag) e)
+pub taker_holds : (w : LaneOf) (g : Ghost) (tag : ℕ) (e : Exchange) (o : Option Held) (packets : List Sent) → tag < 8 → g.exchanges tag ≡ Some e
+    → w.taker.deaf ≡ 0 → IfSome o (IsRequests (taker_clock w) (ends_of w tag) e)
     → AllByRecursion (IsLiving w.now w.asker_eid w.taker_eid g.exchanges) packets → LaneGood w g
     → GoesOn (taker_turned w (record w.taker { requests = slice_set w.taker.requests tag o }) packets w.entries) (Some (run_of w g))
 taker_holds w g tag e o packets low is hears holds living h = record {

@@ -36,11 +36,13 @@ reply_identifier : (l : Laws) (x : Ends) (e : Exchange) (r : List ℕ) → IsWor
 reply_identifier l x e r h = ap identifier_in (reply_reads l x e r h)
 
 -- a whole request is new or there again
-row_again : (w : LaneOf) (g : Ghost) (tag : ℕ) (e : Exchange) (reply : List ℕ) (k : Kept) → IsKept (taker_clock w) (ends_of w tag) e k → RequestCame w g tag e → LaneGood w g
+row_again : (w : LaneOf) (g : Ghost) (tag : ℕ) (e : Exchange) (reply : List ℕ) (k : Kept) → IsKept (taker_clock w) (ends_of w tag) e k
+    → RequestCame w g tag e → LaneGood w g
     → DoesRow w g reply (TakerRow.Repeats (slice_set w.taker.requests tag None) k.reply)
 row_again w g tag e reply k kept c h = taker_repeats w g tag e k kept c h
 
-row_new : (l : Laws) (w : LaneOf) (g : Ghost) (tag : ℕ) (e : Exchange) (reply : List ℕ) → length reply ≤ 252 → kept_at w.taker.kept tag ≡ None → RequestCame w g tag e → LaneGood w g
+row_new : (l : Laws) (w : LaneOf) (g : Ghost) (tag : ℕ) (e : Exchange) (reply : List ℕ) → length reply ≤ 252 → kept_at w.taker.kept tag ≡ None
+    → RequestCame w g tag e → LaneGood w g
     → DoesRow w g reply (TakerRow.TakesUp (slice_set w.taker.requests tag None) (request_of (ends_of w tag) e) (request_head e) e.body)
 row_new l w g tag e reply few new c h =
     let k = came_of w g tag e c.low c.is h in
@@ -52,7 +54,8 @@ row_new l w g tag e reply few new c h =
     (cell_take e.command e.body reply (run_of w g)))
     (sym kept) (taker_takes w g tag e reply few new c h)
 
-row_asked : (l : Laws) (w : LaneOf) (g : Ghost) (tag : ℕ) (e : Exchange) (reply : List ℕ) (k : Option Kept) → kept_at w.taker.kept tag ≡ k → IfSome k (IsKept (taker_clock w) (ends_of w tag) e) → length reply ≤ 252 → RequestCame w g tag e → LaneGood w g
+row_asked : (l : Laws) (w : LaneOf) (g : Ghost) (tag : ℕ) (e : Exchange) (reply : List ℕ) (k : Option Kept) → kept_at w.taker.kept tag ≡ k
+    → IfSome k (IsKept (taker_clock w) (ends_of w tag) e) → length reply ≤ 252 → RequestCame w g tag e → LaneGood w g
     → DoesRow w g reply (taker_asked (slice_set w.taker.requests tag None) (request_of (ends_of w tag) e) (request_head e) e.body (asked_as k (Some e.identifier)))
 row_asked l w g tag e reply None is kept few c h = row_new l w g tag e reply few is c h
 row_asked l w g tag e reply (Some k) is kept few c h = rw (eq-eqb k.identifier e.identifier kept.identifier) (row_again w g tag e reply k kept c h)
@@ -68,7 +71,8 @@ row_whole l w g tag e reply few c h =
     (row_asked l w g tag e reply (kept_at w.taker.kept tag) refl k.taker.kept few c h))
 
 -- what its assembly says of a packet of a request
-row_fed : (l : Laws) (w : LaneOf) (g : Ghost) (tag : ℕ) (e : Exchange) (reply : List ℕ) (f : Fed) (o : Option Held) → Comes (request_of (ends_of w tag) e) f o → length reply ≤ 252 → RequestCame w g tag e → LaneGood w g
+row_fed : (l : Laws) (w : LaneOf) (g : Ghost) (tag : ℕ) (e : Exchange) (reply : List ℕ) (f : Fed) (o : Option Held)
+    → Comes (request_of (ends_of w tag) e) f o → length reply ≤ 252 → RequestCame w g tag e → LaneGood w g
     → DoesRow w g reply (taker_fed (slice_set w.taker.requests tag o) w.taker.kept f)
 row_fed l w g tag e reply (Whole m) o comes few c h =
     subst (λ o. DoesRow w g reply (taker_fed (slice_set w.taker.requests tag o) w.taker.kept (Whole m))) (sym comes.1)
@@ -88,7 +92,8 @@ row_is l w tag e s p hears wording low =
     rw (hears, arrives, under) refl
 
 -- a packet of a request comes to the hearing taker
-pub hears_request : (l : Laws) (w : LaneOf) (g : Ghost) (tag : ℕ) (e : Exchange) (reply : List ℕ) (s : Sent) → IsPacketOf (request_of (ends_of w tag) e) s.bytes → length reply ≤ 252 → RequestCame w g tag e → LaneGood w g
+pub hears_request : (l : Laws) (w : LaneOf) (g : Ghost) (tag : ℕ) (e : Exchange) (reply : List ℕ) (s : Sent)
+    → IsPacketOf (request_of (ends_of w tag) e) s.bytes → length reply ≤ 252 → RequestCame w g tag e → LaneGood w g
     → DoesRow w g reply (taker_row_in w s.bytes)
 hears_request l w g tag e reply s p few c h =
     let k = came_of w g tag e c.low c.is h in

@@ -29,7 +29,8 @@ pub came_of : (w : LaneOf) (g : Ghost) (tag : ℕ) (e : Exchange) → tag < 8 �
 came_of w g tag e low is h = rw is at (h.body.tags tag low)
 
 -- its kept answer is sent again
-again_from : (w : LaneOf) (g : Ghost) (tag : ℕ) (e : Exchange) (k : Kept) (o : Option (List ℕ)) → e.reply ≡ o → IsSomeAnd o (λ r. k.reply ≡ reply_of (ends_of w tag) e r) → RequestCame w g tag e → LaneGood w g
+again_from : (w : LaneOf) (g : Ghost) (tag : ℕ) (e : Exchange) (k : Kept) (o : Option (List ℕ)) → e.reply ≡ o
+    → IsSomeAnd o (λ r. k.reply ≡ reply_of (ends_of w tag) e r) → RequestCame w g tag e → LaneGood w g
     → AllByRecursion (IsLiving w.now w.asker_eid w.taker_eid g.exchanges) (w.packets ++ sendings w.now k.reply)
 again_from w g tag e k None is reply c h = absurd reply
 again_from w g tag e k (Some r) is reply c h =
@@ -81,7 +82,8 @@ takes_runs : (w : LaneOf) (g : Ghost) (tag : ℕ) (e : Exchange) (reply : List �
     → cell_take e.command e.body reply (run_of w g) ≡ Some (run_of (taken_lane w tag e reply) (record { exchanges = put tag (answered_with reply e) g.exchanges; current = g.current }))
 takes_runs w g tag e reply none is current = rw (current, is, none, eq-eqb e.command e.command refl, nat_list_eq_equiv.refl e.body, eq-eqb tag tag refl) refl
 
-pub taker_takes : (w : LaneOf) (g : Ghost) (tag : ℕ) (e : Exchange) (reply : List ℕ) → length reply ≤ 252 → kept_at w.taker.kept tag ≡ None → RequestCame w g tag e → LaneGood w g
+pub taker_takes : (w : LaneOf) (g : Ghost) (tag : ℕ) (e : Exchange) (reply : List ℕ) → length reply ≤ 252 → kept_at w.taker.kept tag ≡ None
+    → RequestCame w g tag e → LaneGood w g
     → GoesOn (taken_lane w tag e reply) (cell_take e.command e.body reply (run_of w g))
 taker_takes w g tag e reply few new c h =
     let k = came_of w g tag e c.low c.is h in

@@ -10,7 +10,8 @@ use Rattle.exch_lane.proofs.Facts.{none_of, some_maps}
 use Rattle.exch_lane.proofs.Views.{Ends, Exchange, IsKept, IsRequests, IsSpan, IsTaker, TakerView, resent, taker_at, taker_view_tick}
 
 -- a kept answer ages only below its limit
-kept_ages : (o : Option Kept) (P Q : Kept → Type 0) → IfSome o P → ((k : Kept) → P k → k.age < 24 → Q (record { identifier = k.identifier; reply = k.reply; age = k.age + 1 })) → IfSome (kept_tick o) Q
+kept_ages : (o : Option Kept) (P Q : Kept → Type 0) → IfSome o P
+    → ((k : Kept) → P k → k.age < 24 → Q (record { identifier = k.identifier; reply = k.reply; age = k.age + 1 })) → IfSome (kept_tick o) Q
 kept_ages None P Q h next = tt
 kept_ages (Some kept) P Q h next = elim (cases_lt kept.age 24) [
   | inl more ↦ rw (lt-ltb kept.age 24 more) (next kept h more)
@@ -62,7 +63,8 @@ taker_misses c x e w may h = record {
   deaf = λ z. let d = h.deaf z in (d.0, d.1, λ r. let far = d.2 r in omega arith);
 }
 
-pub taker_beats : (counts : Bool) (c : Clock) (x : Ends) (e : Exchange) (w : TakerView) → MayBeat counts c → IsTaker c x e w → IsTaker (beat counts c) x e (taker_at counts w)
+pub taker_beats : (counts : Bool) (c : Clock) (x : Ends) (e : Exchange) (w : TakerView) → MayBeat counts c → IsTaker c x e w
+    → IsTaker (beat counts c) x e (taker_at counts w)
 taker_beats true c x e w may h = taker_counts c x e w may h
 taker_beats false c x e w may h = taker_misses c x e w may h
 

@@ -28,10 +28,12 @@ pub record IsTicked (w : LaneOf) (asker : Bool) (a : AskerOf) : Type 0 where
 abbrev pub IsAskedThen : LaneOf → Bool → AskerOf → Ghost → Open → Type 0
 IsAskedThen w asker a g o = IsOpenRequest (beat asker (asker_clock w)) w.asker_eid w.taker_eid a.deaf g o
 
-pub ticks_body : (w : LaneOf) (g : Ghost) (asker taker : Bool) (a : AskerOf) (exchanges : ℕ → Option Exchange) (packets : List Sent) → MayBeat asker (asker_clock w) → MayBeat taker (taker_clock w) → LaneBody w g → IsTicked w asker a
+pub ticks_body : (w : LaneOf) (g : Ghost) (asker taker : Bool) (a : AskerOf) (exchanges : ℕ → Option Exchange) (packets : List Sent)
+    → MayBeat asker (asker_clock w) → MayBeat taker (taker_clock w) → LaneBody w g → IsTicked w asker a
     → ((t : ℕ) → t < 8 → TagOf (view_of (ticked_lane w asker taker a packets) g.current t) (exchanges t))
     → AllByRecursion (IsLiving (w.now + 1) w.asker_eid w.taker_eid exchanges) packets
-    → IfSome a.caller.asked (IsAskedThen w asker a (record { exchanges = exchanges; current = g.current })) → IfSome g.current (IsCurrent (record { exchanges = exchanges; current = g.current }))
+    → IfSome a.caller.asked (IsAskedThen w asker a (record { exchanges = exchanges; current = g.current }))
+    → IfSome g.current (IsCurrent (record { exchanges = exchanges; current = g.current }))
     → LaneBody (ticked_lane w asker taker a packets) (record { exchanges = exchanges; current = g.current })
 ticks_body w g asker taker a exchanges packets may allowed h k tags living asked current = record {
   differ = h.differ;
@@ -54,11 +56,13 @@ ticks_body w g asker taker a exchanges packets may allowed h k tags living asked
 abbrev pub made : (now am tm : ℕ) → Ends → AskerView → TakerView → Bool → TagView
 made now am tm x a k b = record { now = now; asker_miss = am; taker_miss = tm; ends = x; asker = a; taker = k; is_current = b }
 
-pub made_same : (now am am2 tm tm2 : ℕ) (x : Ends) (a a2 : AskerView) (k k2 : TakerView) (b : Bool) → am ≡ am2 → tm ≡ tm2 → a ≡ a2 → k ≡ k2 → made now am tm x a k b ≡ made now am2 tm2 x a2 k2 b
+pub made_same : (now am am2 tm tm2 : ℕ) (x : Ends) (a a2 : AskerView) (k k2 : TakerView) (b : Bool) → am ≡ am2 → tm ≡ tm2 → a ≡ a2 → k ≡ k2
+    → made now am tm x a k b ≡ made now am2 tm2 x a2 k2 b
 made_same now am am2 tm tm2 x a a2 k k2 b e f p q = rw (e, f, p, q) refl
 
 -- a tag whose asker's side ticks
-pub tag_ticks : (w : LaneOf) (g : Ghost) (asker taker : Bool) (a : AskerOf) (packets : List Sent) (t : ℕ) → MayBeat asker (asker_clock w) → MayBeat taker (taker_clock w) → LaneBody w g → a.since_miss ≡ (beat asker (asker_clock w)).since_miss → t < 8
+pub tag_ticks : (w : LaneOf) (g : Ghost) (asker taker : Bool) (a : AskerOf) (packets : List Sent) (t : ℕ) → MayBeat asker (asker_clock w)
+    → MayBeat taker (taker_clock w) → LaneBody w g → a.since_miss ≡ (beat asker (asker_clock w)).since_miss → t < 8
     → asker_view a t ≡ asker_at asker (asker_view w.asker t) → TagOf (view_of (ticked_lane w asker taker a packets) g.current t) (g.exchanges t)
 tag_ticks w g asker taker a packets t may allowed h miss lt view =
     let same : view_of (ticked_lane w asker taker a packets) g.current t ≡ view_ticked (view_of w g.current t) asker taker

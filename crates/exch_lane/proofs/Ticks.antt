@@ -21,13 +21,15 @@ use Rattle.exch_lane.proofs.Waits.{TicksRow, goes_wait}
 abbrev pub CallsRow : LaneOf → Ghost → Bool → Option Open → Type 0
 CallsRow w g taker o = TicksRow w g true taker (asker_called (heard_tick w (ticked w.asker.caller o).0) (ticked w.asker.caller o).1)
 
-due_from : (l : Laws) (w : LaneOf) (g : Ghost) (taker : Bool) (o : Open) (exchange : Option Exchange) → g.exchanges o.tag ≡ exchange → IsSomeAnd exchange (IsOpenOf (asker_clock w) (ends_of w o.tag) o) → MayBeat true (asker_clock w) → MayBeat taker (taker_clock w)
+due_from : (l : Laws) (w : LaneOf) (g : Ghost) (taker : Bool) (o : Open) (exchange : Option Exchange) → g.exchanges o.tag ≡ exchange
+    → IsSomeAnd exchange (IsOpenOf (asker_clock w) (ends_of w o.tag) o) → MayBeat true (asker_clock w) → MayBeat taker (taker_clock w)
     → w.asker.caller.asked ≡ Some o → IsAskedOf w g o → IsOpen w.asker.caller o → sends_at (o.age + 1) ≡ true → LaneGood w g → CallsRow w g taker (Some o)
 due_from l w g taker o None there of may allowed is k open_is due h = absurd of
 due_from l w g taker o (Some e) there of may allowed is k open_is due h =
     rw due (resends l w g taker o e may allowed (record { asked = is; hears = k.hears; current = k.current; is = there; of = of; due = due; low = rw open_is.tag (tag_low ((w.asker.caller.number + 31) % 32)) }) h)
 
-calls_open : (l : Laws) (w : LaneOf) (g : Ghost) (taker : Bool) (o : Open) → MayBeat true (asker_clock w) → MayBeat taker (taker_clock w) → w.asker.caller.asked ≡ Some o → IsAskedOf w g o → IsOpen w.asker.caller o → LaneGood w g → CallsRow w g taker (Some o)
+calls_open : (l : Laws) (w : LaneOf) (g : Ghost) (taker : Bool) (o : Open) → MayBeat true (asker_clock w) → MayBeat taker (taker_clock w)
+    → w.asker.caller.asked ≡ Some o → IsAskedOf w g o → IsOpen w.asker.caller o → LaneGood w g → CallsRow w g taker (Some o)
 calls_open l w g taker o may allowed is k open_is h = elim (bool_cases (sends_at (o.age + 1))) [
   | inl due ↦ due_from l w g taker o (g.exchanges o.tag) refl k.of may allowed is k open_is due h
   | inr other ↦ elim (bool_cases (o.age + 1 == 18)) [
@@ -36,17 +38,21 @@ calls_open l w g taker o may allowed is k open_is h = elim (bool_cases (sends_at
   ]
 ]
 
-calls_from : (l : Laws) (w : LaneOf) (g : Ghost) (taker : Bool) (o : Option Open) → w.asker.deaf ≤ 1 → MayBeat true (asker_clock w) → MayBeat taker (taker_clock w) → w.asker.caller.asked ≡ o → IfSome o (IsAskedOf w g) → IfSome o (IsOpen w.asker.caller) → LaneGood w g → CallsRow w g taker o
+calls_from : (l : Laws) (w : LaneOf) (g : Ghost) (taker : Bool) (o : Option Open) → w.asker.deaf ≤ 1 → MayBeat true (asker_clock w)
+    → MayBeat taker (taker_clock w) → w.asker.caller.asked ≡ o → IfSome o (IsAskedOf w g) → IfSome o (IsOpen w.asker.caller) → LaneGood w g
+    → CallsRow w g taker o
 calls_from l w g taker None less may allowed is k open_is h = goes_wait w g true taker (heard_tick w (rested_caller w.asker.caller)) may allowed h.body (rested_waits l w g less is h) refl
 calls_from l w g taker (Some o) less may allowed is k open_is h = calls_open l w g taker o may allowed is k open_is h
 
 -- a tick that the asker counts, or misses
-ticks_row : (l : Laws) (w : LaneOf) (g : Ghost) (asker taker : Bool) → MayBeat asker (asker_clock w) → MayBeat taker (taker_clock w) → LaneGood w g → TicksRow w g asker taker (asker_tick asker (beaten w asker))
+ticks_row : (l : Laws) (w : LaneOf) (g : Ghost) (asker taker : Bool) → MayBeat asker (asker_clock w) → MayBeat taker (taker_clock w) → LaneGood w g
+    → TicksRow w g asker taker (asker_tick asker (beaten w asker))
 ticks_row l w g false taker may allowed h = goes_wait w g false taker (beaten w false) may allowed h.body (missed_waits w g may h) refl
 ticks_row l w g true taker may allowed h = elim (cases_lt 1 w.asker.deaf) [
   | inl more ↦ rw (lt-leb w.asker.deaf 1 more) (goes_wait w g true taker (record (beaten w true) { deaf = w.asker.deaf - 1 }) may allowed h.body (deaf_waits w g more h) refl)
   | inr less ↦ rw (le-leb w.asker.deaf 1 less) (calls_from l w g taker w.asker.caller.asked less may allowed refl h.body.asked h.body.caller.asked h)
 ]
 
-pub goes_tick : (l : Laws) (w : LaneOf) (g : Ghost) (asker taker : Bool) → MayBeat asker (asker_clock w) → MayBeat taker (taker_clock w) → LaneGood w g → GoesOn (lane_ticks w asker taker) (cell_ticks (asker_tick_in w asker taker) (run_of w g))
+pub goes_tick : (l : Laws) (w : LaneOf) (g : Ghost) (asker taker : Bool) → MayBeat asker (asker_clock w) → MayBeat taker (taker_clock w)
+    → LaneGood w g → GoesOn (lane_ticks w asker taker) (cell_ticks (asker_tick_in w asker taker) (run_of w g))
 goes_tick l w g asker taker may allowed h = ticks_row l w g asker taker may allowed h

@@ -30,7 +30,8 @@ pub record IsWaiting (w : LaneOf) (g : Ghost) (asker : Bool) (a : AskerOf) : Typ
 abbrev pub TicksRow : LaneOf → Ghost → (asker taker : Bool) → AskerTick → Type 0
 TicksRow w g asker taker row = GoesOn (asker_ticks (tick_begins w asker taker) row) (cell_ticks row (run_of w g))
 
-pub waiting_body : (w : LaneOf) (g : Ghost) (asker taker : Bool) (a : AskerOf) → MayBeat asker (asker_clock w) → MayBeat taker (taker_clock w) → LaneBody w g → IsWaiting w g asker a → LaneBody (ticked_lane w asker taker a w.packets) g
+pub waiting_body : (w : LaneOf) (g : Ghost) (asker taker : Bool) (a : AskerOf) → MayBeat asker (asker_clock w) → MayBeat taker (taker_clock w)
+    → LaneBody w g → IsWaiting w g asker a → LaneBody (ticked_lane w asker taker a w.packets) g
 waiting_body w g asker taker a may allowed h k =
     ticks_body w g asker taker a g.exchanges w.packets may allowed h k.ticked (λ t lt. tag_ticks w g asker taker a w.packets t may allowed h k.ticked.miss lt (k.view t lt))
     (packets_later w.now w.asker_eid w.taker_eid g.exchanges w.packets h.packets) k.asked h.current
@@ -39,7 +40,8 @@ waiting_body w g asker taker a may allowed h k =
 busy_quiet : (a : AskerOf) → a.deaf ≡ 0 → hears_quiet a ≡ false → is_quiet a.caller ≡ false
 busy_quiet a z busy = rw z at busy
 
-busy_good : (w : LaneOf) (g : Ghost) (asker taker : Bool) (a : AskerOf) → LaneBody (ticked_lane w asker taker a w.packets) g → IsWaiting w g asker a → hears_quiet a ≡ false → LaneGood (ticked_lane w asker taker a w.packets) g
+busy_good : (w : LaneOf) (g : Ghost) (asker taker : Bool) (a : AskerOf) → LaneBody (ticked_lane w asker taker a w.packets) g → IsWaiting w g asker a
+    → hears_quiet a ≡ false → LaneGood (ticked_lane w asker taker a w.packets) g
 busy_good w g asker taker a body k busy = record {
   body = body;
   last = λ z. k.last z (busy_quiet a z busy);
@@ -51,14 +53,16 @@ rested_settled : (o : Option Exchange) (v : TagView) → v.asker.deaf ≡ 0 → 
 rested_settled None v hears rest h = tt
 rested_settled (Some e) v hears rest h = let far = h.asker.rest hears in inr (omega (arith, far, rest))
 
-quiet_settles : (o : Option ℕ) (exchange : Option Exchange) (w : LaneOf) (t : ℕ) → w.asker.deaf ≡ 0 → IfSome o (λ t. rest_at w.asker.caller t ≡ 0) → TagOf (view_of w o t) exchange → IfSome exchange (IsSettled w.now)
+quiet_settles : (o : Option ℕ) (exchange : Option Exchange) (w : LaneOf) (t : ℕ) → w.asker.deaf ≡ 0 → IfSome o (λ t. rest_at w.asker.caller t ≡ 0)
+    → TagOf (view_of w o t) exchange → IfSome exchange (IsSettled w.now)
 quiet_settles None exchange w t hears rest h = settled_of exchange (view_of w None t) refl h
 quiet_settles (Some s) exchange w t hears rest h = elim (eqb_tells t s) [
   | inl same ↦ rested_settled exchange (view_of w (Some s) t) hears (rw same.1 rest) h
   | inr other ↦ settled_of exchange (view_of w (Some s) t) other.0 h
 ]
 
-quiet_body : (w : LaneOf) (g : Ghost) → w.asker.deaf ≡ 0 → w.asker.caller.asked ≡ None → IfSome g.current (λ t. rest_at w.asker.caller t ≡ 0) → LaneBody w g → LaneBody w (record { exchanges = g.exchanges; current = None })
+quiet_body : (w : LaneOf) (g : Ghost) → w.asker.deaf ≡ 0 → w.asker.caller.asked ≡ None → IfSome g.current (λ t. rest_at w.asker.caller t ≡ 0)
+    → LaneBody w g → LaneBody w (record { exchanges = g.exchanges; current = None })
 quiet_body w g hears none rest h = record {
   differ = h.differ;
   own = h.own;
@@ -83,15 +87,18 @@ the_run cell entries = record { cell = cell; entries = entries }
 quiet_none : (c : CallerState) → is_quiet c ≡ true → is_none c.asked ≡ true
 quiet_none c quiet = (both (is_none c.asked) (c.answered || (rest_at c (last_tag c) == 0)) quiet).0
 
-rests_runs : (o : Option Exchange) (entries : List EntryOf) → (if is_empty_cell (cell_from false o) then Some (record { cell = cell_from false o; entries = entries }) else drop_in (record { cell = cell_from false o; entries = entries }) (cell_from false o))
+rests_runs : (o : Option Exchange) (entries : List EntryOf)
+    → (if is_empty_cell (cell_from false o) then Some (record { cell = cell_from false o; entries = entries }) else drop_in (record { cell = cell_from false o; entries = entries }) (cell_from false o))
     ≡ Some (the_run Cell.Empty entries)
 rests_runs None entries = refl
 rests_runs (Some e) entries = cell_drops (record { cell = cell_from false (Some e); entries = entries }) e
 
-quiet_runs : (w : LaneOf) (g : Ghost) (a : AskerOf) → hears_quiet a ≡ true → is_some w.asker.caller.asked ≡ false → cell_rests a (run_of w g) ≡ Some (the_run Cell.Empty w.entries)
+quiet_runs : (w : LaneOf) (g : Ghost) (a : AskerOf) → hears_quiet a ≡ true → is_some w.asker.caller.asked ≡ false
+    → cell_rests a (run_of w g) ≡ Some (the_run Cell.Empty w.entries)
 quiet_runs w g a quiet none = rw (quiet, none) (rests_runs (exchange_at g.exchanges g.current) w.entries)
 
-waits_quiet : (w : LaneOf) (g : Ghost) (asker taker : Bool) (a : AskerOf) → MayBeat asker (asker_clock w) → MayBeat taker (taker_clock w) → LaneBody w g → IsWaiting w g asker a → is_some a.caller.asked ≡ is_some w.asker.caller.asked → hears_quiet a ≡ true
+waits_quiet : (w : LaneOf) (g : Ghost) (asker taker : Bool) (a : AskerOf) → MayBeat asker (asker_clock w) → MayBeat taker (taker_clock w)
+    → LaneBody w g → IsWaiting w g asker a → is_some a.caller.asked ≡ is_some w.asker.caller.asked → hears_quiet a ≡ true
     → TicksRow w g asker taker (AskerTick.Waits a)
 waits_quiet w g asker taker a may allowed h k same quiet =
     let tests = both (a.deaf == 0) (is_quiet a.caller) quiet in
@@ -108,7 +115,8 @@ waits_quiet w g asker taker a may allowed h k same quiet =
       runs = quiet_runs w g a quiet closed;
     }
 
-waits_busy : (w : LaneOf) (g : Ghost) (asker taker : Bool) (a : AskerOf) → MayBeat asker (asker_clock w) → MayBeat taker (taker_clock w) → LaneBody w g → IsWaiting w g asker a → is_some a.caller.asked ≡ is_some w.asker.caller.asked → hears_quiet a ≡ false
+waits_busy : (w : LaneOf) (g : Ghost) (asker taker : Bool) (a : AskerOf) → MayBeat asker (asker_clock w) → MayBeat taker (taker_clock w)
+    → LaneBody w g → IsWaiting w g asker a → is_some a.caller.asked ≡ is_some w.asker.caller.asked → hears_quiet a ≡ false
     → TicksRow w g asker taker (AskerTick.Waits a)
 waits_busy w g asker taker a may allowed h k same busy = record {
   ghost = g;
@@ -116,7 +124,8 @@ waits_busy w g asker taker a may allowed h k same busy = record {
   runs = rw (busy, same) refl;
 }
 
-pub goes_wait : (w : LaneOf) (g : Ghost) (asker taker : Bool) (a : AskerOf) → MayBeat asker (asker_clock w) → MayBeat taker (taker_clock w) → LaneBody w g → IsWaiting w g asker a → is_some a.caller.asked ≡ is_some w.asker.caller.asked
+pub goes_wait : (w : LaneOf) (g : Ghost) (asker taker : Bool) (a : AskerOf) → MayBeat asker (asker_clock w) → MayBeat taker (taker_clock w)
+    → LaneBody w g → IsWaiting w g asker a → is_some a.caller.asked ≡ is_some w.asker.caller.asked
     → TicksRow w g asker taker (AskerTick.Waits a)
 goes_wait w g asker taker a may allowed h k same = elim (bool_cases (hears_quiet a)) [
   | inl quiet ↦ waits_quiet w g asker taker a may allowed h k same quiet
