@@ -1,0 +1,6 @@
+//! The world of an update agent and its devices (DSP0267 1.0).
+#![tactic(auto)]
+
+mod side;
+
+pub use side::{Side, Way};
