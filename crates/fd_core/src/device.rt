@@ -1,12 +1,13 @@
 //! A device over a bank.
 
-ghost use Rattle.std.specs.Prelude.{◌≡◌, ◌≤◌, ◌<◌, OnOk, is_ok, is_some, map, not, length, true, false};
+ghost use Rattle.std.specs.Prelude.{◌≡◌, ◌≤◌, ◌<◌, OnOk, Some, is_ok, is_some, map, not, length, true, false};
 ghost use Rattle.fd_core.specs.Commands.{Rose, bytes_work, device_after, device_answer, idle_after};
 ghost use Rattle.fd_core.specs.States.{DeviceOf, new_device, progress_of, reset, rested, staged_of, state_of};
 ghost use Rattle.fd_core.specs.Steps.{device_restart, device_tick, device_verdict, verdict_after};
 ghost use Rattle.fd_core.specs.Wishes.{has_failed};
 ghost use Rattle.fd_core.specs.declared.states.Verdict.TheVariants.{ApplyOk};
-ghost use Rattle.fwup_wire.specs.Answers.{answer_bytes};
+ghost use Rattle.fwup_wire.specs.Answers.{answer_bytes, answer_in};
+ghost use Rattle.fwup_wire.specs.Commands.{command_code};
 ghost use Rattle.fwup_wire.specs.Lent.{command_of};
 ghost use Rattle.fd_core.specs.Images.{key_of};
 
@@ -138,8 +139,10 @@ impl<B: Bank> Device<B> {
     /// that the device has no request of its own under way. A refused command changes nothing.
     ///
     /// Code 1 answers UpdateComponent and ActivateFirmware where the bank failed, and only there.
+    #[tactic(auto, using(crate::proofs::Answering::answers_its_command))]
     pub fn take(&mut self, command: &Command<'_>, quiet: bool) -> Reply
         ensures answer { result.items ≡ answer_bytes (device_answer self.old.device (command_of command.now) quiet (bytes_work result.items)) }
+        ensures reads { answer_in (command_code (command_of command.now)) result.items ≡ Some (device_answer self.old.device (command_of command.now) quiet (bytes_work result.items)) }
         ensures after { self.new.device ≡ device_after self.old.device (command_of command.now) quiet (bytes_work result.items) }
         ensures idle { self.new.idle ≡ idle_after self.old.idle self.old.device (command_of command.now) quiet (bytes_work result.items) }
         ensures failed { bytes_work result.items ≡ false → Rose self.old self.new }
