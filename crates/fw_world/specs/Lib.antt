@@ -1,6 +1,7 @@
 pub mod Cells
 pub mod History
 pub mod Laws
+pub mod Nodes
 pub mod Pairs
 pub mod Same
 pub mod Worlds

@@ -2,6 +2,7 @@
 #![tactic(auto)]
 
 mod cell;
+mod pair;
 mod same;
 mod side;
 mod step;
