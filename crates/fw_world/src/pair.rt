@@ -19,6 +19,7 @@ use std::marker::Model;
 use ua_core::{Lent, Session};
 
 mod asking;
+mod calling;
 
 
 /// A device, the agent's session for it, and the two cells: of what the agent asks the device, and of what the device
