@@ -1,1 +1,3 @@
 mod Components
+mod Records
+mod Working

@@ -1,6 +1,6 @@
 //! The cell of a way: nothing, a command, or a command with its answer.
 
-ghost use Rattle.std.specs.Prelude.{◌≡◌, IsSome, None, Some, false, option_map};
+ghost use Rattle.std.specs.Prelude.{◌≡◌, IsSome, None, Some, false, is_some, option_map};
 ghost use Rattle.fwup_wire.specs.Answers.{answer_in};
 ghost use Rattle.fwup_wire.specs.Commands.{command_code};
 ghost use Rattle.fwup_wire.specs.Lent.{answer_of, command_of};
@@ -60,6 +60,13 @@ impl<'a> Held<'a> {
         ensures { result ≡ self.now.live }
     {
         self.live
+    }
+
+    /// Whether the command was taken.
+    pub fn is_taken(&self) -> bool
+        ensures { result ≡ is_some self.now.reply }
+    {
+        self.reply.is_some()
     }
 
     /// The answer, once the command was taken.

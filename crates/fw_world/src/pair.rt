@@ -20,6 +20,7 @@ use ua_core::{Lent, Session};
 
 mod asking;
 mod calling;
+mod serving;
 
 
 /// A device, the agent's session for it, and the two cells: of what the agent asks the device, and of what the device

@@ -1,0 +1,91 @@
+//! What is taken, learnt and judged.
+
+ghost use Rattle.std.specs.Prelude.{◌≡◌, ◌≤◌, Bool, IfNone, IfSome, None, Some, false, if◌then◌else◌, map, option_map, option_to_list, true};
+ghost use Rattle.fd_core.specs.Commands.{device_take};
+ghost use Rattle.fd_core.specs.Steps.{applied_by, device_verdict, verdict_after};
+ghost use Rattle.fd_core.specs.Wishes.{has_failed};
+ghost use Rattle.fw_world.specs.History.{EntryOf};
+ghost use Rattle.fw_world.specs.Nodes.{Rose};
+ghost use Rattle.fw_world.specs.Pairs.{StepOf, quietly, step_of};
+
+use crate::cell::Held;
+use crate::pair::{Pair, lent};
+use fd_core::{Bank, Device, Progress, Verdict};
+use fw_package::Package;
+use ua_core::Recorded;
+
+impl<'a, B: Bank> Pair<'a, B> {
+    /// The session takes what the device asked, and answers it. None where nothing waits to be taken; else what the
+    /// session recorded.
+    #[tactic(auto, unfolding(crate::specs::Pairs::up_taken), using(crate::proofs::Records::recorded_behind))]
+    pub fn take_up(&mut self, packages: &'a [Package]) -> Option<Option<Recorded>>
+        ensures step { step_of packages.now self.old.node.pair StepOf.TakeUp ≡ option_map (λ r. record { after = self.new.node.pair; noted = map EntryOf.Recording (option_to_list r) }) result }
+        ensures same { result ≡ None → self.new ≡ self.old }
+        ensures eid { self.new.node.eid ≡ self.old.node.eid }
+        ensures faults { self.new.faults ≡ self.old.faults }
+    {
+        let Some(held) = &mut self.up else {
+            return None;
+        };
+        if held.is_taken() {
+            return None;
+        }
+        let made = self.session.records().len();
+        let lent = lent(packages, self.session.package());
+        let reply = self.session.take(&held.command(), &lent);
+        held.take(reply);
+        Some(self.session.records().get(made).copied())
+    }
+
+    /// The session learns the answer that it waits for. False where there is none.
+    pub fn learn_down(&mut self, packages: &'a [Package]) -> bool
+        ensures step { step_of packages.now self.old.node.pair StepOf.LearnDown ≡ (if result then Some (quietly self.new.node.pair) else None) }
+        ensures same { result ≡ false → self.new ≡ self.old }
+        ensures eid { self.new.node.eid ≡ self.old.node.eid }
+        ensures faults { self.new.faults ≡ self.old.faults }
+    {
+        let Some(held) = &self.down else {
+            return false;
+        };
+        if !held.is_live() {
+            return false;
+        }
+        let Some(answer) = held.answer() else {
+            return false;
+        };
+        let lent = lent(packages, self.session.package());
+        self.session.learn(Ok(&answer), &lent);
+        self.down = None;
+        true
+    }
+
+    /// The device learns the answer that it waits for. None where there is none; else whether its bank worked.
+    #[tactic(auto, using(crate::proofs::Components::learn_components, crate::proofs::Working::learns_failed))]
+    pub fn learn_up(&mut self, packages: &'a [Package]) -> Option<bool>
+        ensures step { IfSome result (λ works. step_of packages.now self.old.node.pair (StepOf.LearnUp works) ≡ Some (quietly self.new.node.pair)) }
+        ensures none { IfNone result ((works : Bool) → step_of packages.now self.old.node.pair (StepOf.LearnUp works) ≡ None) }
+        ensures same { result ≡ None → self.new ≡ self.old }
+        ensures failed { result ≡ Some false → Rose self.old.faults self.new.faults }
+        ensures eid { self.new.node.eid ≡ self.old.node.eid }
+        ensures faults { self.old.faults ≤ self.new.faults }
+    {
+        let Some(held) = &self.up else {
+            return None;
+        };
+        if !held.is_live() {
+            return None;
+        }
+        let answer = held.answer()?;
+        let had_failed = has_failed(&self.device);
+        self.device.learn(Ok(&answer));
+        self.up = None;
+        Some(had_failed || !has_failed(&self.device))
+    }
+}
+
+/// Whether the work of the device's state failed.
+fn has_failed<B: Bank>(device: &Device<B>) -> bool
+    ensures { result ≡ has_failed device.now.device.phase }
+{
+    matches!(device.progress(), Some(Progress::Failed { .. }))
+}
