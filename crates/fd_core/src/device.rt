@@ -1,6 +1,6 @@
 //! A device over a bank.
 
-ghost use Rattle.std.specs.Prelude.{◌≡◌, ◌≤◌, ◌<◌, OnOk, Some, is_ok, is_some, map, not, length, true, false};
+ghost use Rattle.std.specs.Prelude.{◌≡◌, ◌≤◌, ◌<◌, OnErr, OnOk, Some, is_ok, is_some, map, not, length, true, false};
 ghost use Rattle.fd_core.specs.Commands.{Rose, bytes_work, device_after, device_answer, idle_after};
 ghost use Rattle.fd_core.specs.States.{DeviceOf, new_device, progress_of, reset, rested, staged_of, state_of};
 ghost use Rattle.fd_core.specs.Steps.{device_restart, device_tick, device_verdict, verdict_after};
@@ -180,6 +180,7 @@ impl<B: Bank> Device<B> {
         ensures after { self.new.device ≡ verdict_after self.old.device verdict (not (has_failed self.new.device.phase)) }
         ensures idle { self.new.idle ≡ rested self.old.idle (is_ok result) }
         ensures failed { OnOk result (verdict ≡ ApplyOk → has_failed self.new.device.phase ≡ true → Rose self.old self.new) }
+        ensures kept { OnErr result (self.new ≡ self.old) }
         ensures faults { self.old.faults ≤ self.new.faults }
     {
         match (self.course.state, self.course.progress, verdict) {

@@ -5,6 +5,7 @@ use Rattle.std.specs.Option.{option_map}
 use Rattle.fw_package.specs.Package.{PackageText}
 use Rattle.fwup_wire.specs.Values.{AnswerOf, CommandOf}
 use Rattle.fd_core.specs.Commands.{Taken, device_take}
+use Rattle.fd_core.specs.Images.{Put}
 use Rattle.fd_core.specs.States.{DeviceState, Phase}
 use Rattle.fd_core.specs.Steps.{Judged, device_restart, device_timeout, device_verdict, times_out as device_times_out}
 use Rattle.fd_core.specs.Wishes.{device_learn, device_wish}
@@ -128,6 +129,14 @@ up_taken packages m h =
       };
       noted = map EntryOf.Recording (recorded_by (package_at packages m.session.number) m.session h.command);
     }
+
+-- what the device activates in a Take
+abbrev pub activated_in : DeviceState → Option HeldOf → Bool → Bool → List Put
+activated_in v None quiet works = []
+activated_in v (Some h) quiet works = (device_take v h.command quiet works).activated
+
+abbrev pub activated_down : PairOf → Bool → Bool → List Put
+activated_down m quiet works = activated_in m.device m.down quiet works
 
 abbrev pub take_down_at : PairOf → HeldOf → Option AnswerOf → Bool → Bool → Option Stepped
 take_down_at m h None quiet works =

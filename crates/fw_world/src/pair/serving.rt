@@ -6,12 +6,13 @@ ghost use Rattle.fd_core.specs.Steps.{applied_by, device_verdict, verdict_after}
 ghost use Rattle.fd_core.specs.Wishes.{has_failed};
 ghost use Rattle.fw_world.specs.History.{EntryOf};
 ghost use Rattle.fw_world.specs.Nodes.{Rose};
-ghost use Rattle.fw_world.specs.Pairs.{StepOf, quietly, step_of};
+ghost use Rattle.fw_world.specs.Pairs.{StepOf, activated_down, quietly, step_of};
 
 use crate::cell::Held;
 use crate::pair::{Pair, lent};
 use fd_core::{Bank, Device, Progress, Verdict};
 use fw_package::Package;
+use pldm_base::completion::ERROR;
 use ua_core::Recorded;
 
 impl<'a, B: Bank> Pair<'a, B> {
@@ -35,6 +36,51 @@ impl<'a, B: Bank> Pair<'a, B> {
         let reply = self.session.take(&held.command(), &lent);
         held.take(reply);
         Some(self.session.records().get(made).copied())
+    }
+
+    /// The device takes what the agent asked, and answers it. None where nothing waits to be taken, or where the device
+    /// would be told that it is quiet while its own cell isn't empty; else whether its bank worked.
+    #[tactic(auto, unfolding(crate::specs::Pairs::down_taken), using(crate::proofs::Components::take_components))]
+    pub fn take_down(&mut self, packages: &'a [Package], quiet: bool) -> Option<bool>
+        ensures step { IfSome result (λ works. step_of packages.now self.old.node.pair (StepOf.TakeDown quiet works) ≡ Some (record {
+            after = self.new.node.pair;
+            noted = map EntryOf.Activated (activated_down self.old.node.pair quiet works);
+        })) }
+        ensures none { IfNone result ((works : Bool) → step_of packages.now self.old.node.pair (StepOf.TakeDown quiet works) ≡ None) }
+        ensures same { result ≡ None → self.new ≡ self.old }
+        ensures failed { result ≡ Some false → Rose self.old.faults self.new.faults }
+        ensures eid { self.new.node.eid ≡ self.old.node.eid }
+        ensures faults { self.old.faults ≤ self.new.faults }
+    {
+        let Some(held) = &mut self.down else {
+            return None;
+        };
+        if held.is_taken() || quiet && self.up.is_some() {
+            return None;
+        }
+        let reply = self.device.take(&held.command(), quiet);
+        let works = !matches!(reply.as_slice(), [ERROR, ..]);
+        held.take(reply);
+        Some(works)
+    }
+
+    /// A verdict on the image that the device has written. None where it doesn't count; else whether its bank worked.
+    #[tactic(auto, using(crate::proofs::Components::judge_components, crate::proofs::Working::judges_alike))]
+    pub fn judge(&mut self, packages: &'a [Package], verdict: Verdict) -> Option<bool>
+        ensures step { IfSome result (λ works. step_of packages.now self.old.node.pair (StepOf.Judge verdict works) ≡ Some (record {
+            after = self.new.node.pair;
+            noted = map EntryOf.Applied (applied_by self.old.node.pair.device verdict works);
+        })) }
+        ensures none { IfNone result ((works : Bool) → step_of packages.now self.old.node.pair (StepOf.Judge verdict works) ≡ None) }
+        ensures same { result ≡ None → self.new ≡ self.old }
+        ensures failed { result ≡ Some false → Rose self.old.faults self.new.faults }
+        ensures eid { self.new.node.eid ≡ self.old.node.eid }
+        ensures faults { self.old.faults ≤ self.new.faults }
+    {
+        let Ok(()) = self.device.verdict(verdict) else {
+            return None;
+        };
+        Some(verdict != Verdict::ApplyOk || !has_failed(&self.device))
     }
 
     /// The session learns the answer that it waits for. False where there is none.
