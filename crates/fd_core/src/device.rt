@@ -208,6 +208,7 @@ impl<B: Bank> Device<B> {
     pub fn idle_tick(&mut self)
         ensures device { self.new.device ≡ (device_tick self.old.device self.old.idle).0 }
         ensures idle { self.new.idle ≡ (device_tick self.old.device self.old.idle).1 }
+        ensures within { self.new.idle < 240 }
         ensures faults { self.new.faults ≡ self.old.faults }
     {
         let reason = match self.course.state {

@@ -21,6 +21,7 @@ use ua_core::{Lent, Session};
 mod asking;
 mod calling;
 mod serving;
+mod waiting;
 
 
 /// A device, the agent's session for it, and the two cells: of what the agent asks the device, and of what the device
