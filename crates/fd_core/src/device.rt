@@ -2,7 +2,7 @@
 
 ghost use Rattle.std.specs.Prelude.{◌≡◌, ◌≤◌, ◌<◌, OnErr, OnOk, Some, is_ok, is_some, map, not, length, true, false};
 ghost use Rattle.fd_core.specs.Commands.{Rose, bytes_work, device_after, device_answer, idle_after};
-ghost use Rattle.fd_core.specs.States.{DeviceOf, new_device, progress_of, reset, rested, staged_of, state_of};
+ghost use Rattle.fd_core.specs.States.{DeviceOf, IsWhole, new_device, progress_of, reset, rested, staged_of, state_of};
 ghost use Rattle.fd_core.specs.Steps.{device_restart, device_tick, device_verdict, verdict_after};
 ghost use Rattle.fd_core.specs.Wishes.{has_failed};
 ghost use Rattle.fd_core.specs.declared.states.Verdict.TheVariants.{ApplyOk};
@@ -120,7 +120,8 @@ impl<B: Bank> Device<B> {
 
     /// The component that is being updated and its image's bytes, from DOWNLOAD to APPLY.
     pub fn staged(&self) -> Option<(Key, u32)>
-        ensures { result ≡ staged_of self.now.device.phase }
+        ensures staged { result ≡ staged_of self.now.device.phase }
+        ensures whole { IsWhole self.now.device.phase (length self.now.device.stage) }
     {
         match self.course.state {
             State::Download | State::Verify | State::Apply => Some((self.work.key, self.work.size)),
