@@ -1,3 +1,4 @@
 mod Components
 mod Records
+mod Rising
 mod Working

@@ -1,4 +1,5 @@
 pub mod Cells
+pub mod Entries
 pub mod History
 pub mod Laws
 pub mod Nodes

@@ -2,10 +2,13 @@
 #![tactic(auto)]
 
 mod cell;
+mod entry;
+mod images;
 mod pair;
 mod same;
 mod side;
 mod step;
 
+pub use entry::{Entry, Event, Image};
 pub use side::{Side, Way};
 pub use step::{MessageStep, MessageStepFault};
