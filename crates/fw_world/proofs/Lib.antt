@@ -1,3 +1,4 @@
+mod Applied
 mod Components
 mod Records
 mod Rising
