@@ -2,4 +2,5 @@ mod Applied
 mod Components
 mod Records
 mod Rising
+mod Sealing
 mod Working

@@ -1,20 +1,38 @@
 //! The operator's calls, verdicts, time-outs and restarts.
 
-ghost use Rattle.std.specs.Prelude.{◌≡◌, ◌≤◌, IfSome, None, Some, false, if◌then◌else◌, map, option_map, true};
-ghost use Rattle.fd_core.specs.Steps.{applied_by, device_restart, device_verdict, verdict_after};
-ghost use Rattle.ua_core.specs.Calls.{agent_started, is_free};
-ghost use Rattle.fw_world.specs.History.{EntryOf};
-ghost use Rattle.fw_world.specs.Nodes.{Rose};
-ghost use Rattle.fw_world.specs.Pairs.{StepOf, closed, quietly, step_of, with_session};
+ghost use Rattle.std.specs.Prelude.{◌≡◌, ◌⊎◌, IfErr, None, OnErr, OnOk, Some, false, if◌then◌else◌};
+ghost use Rattle.fw_world.specs.Pairs.{StepOf, closed, quietly, step_of};
 ghost use Rattle.fw_world.specs.declared.side.Side.TheVariants as sides;
 
 use crate::cell::Held;
 use crate::pair::Pair;
-use fd_core::{Bank, State};
+use crate::step::MessageStepFault;
+use fd_core::Bank;
 use fw_package::Package;
-use ua_core::{SessionState, StartFault};
+use ua_core::StartFault;
 
 impl<'a, B: Bank> Pair<'a, B> {
+    /// The operator starts an update with the package of this number.
+    ///
+    /// # Errors
+    /// `Refused` while an update is under way, or without such a package; `Memory` where memory for the records is refused.
+    pub fn start(&mut self, packages: &'a [Package], number: usize) -> Result<(), MessageStepFault>
+        ensures step { OnOk result (step_of packages.now self.old.node.pair (StepOf.Start number) ≡ Some (quietly self.new.node.pair)) }
+        ensures refused { IfErr result (λ e. (e ≡ MessageStepFault.Memory) ⊎ ((e ≡ MessageStepFault.Refused) × (step_of packages.now self.old.node.pair (StepOf.Start number) ≡ None))) }
+        ensures same { OnErr result (self.new ≡ self.old) }
+        ensures eid { self.new.node.eid ≡ self.old.node.eid }
+        ensures faults { self.new.faults ≡ self.old.faults }
+    {
+        if number == 0 || packages.len() < number {
+            return Err(MessageStepFault::Refused);
+        }
+        match self.session.start(number) {
+            Ok(()) => Ok(()),
+            Err(StartFault::Busy) => Err(MessageStepFault::Refused),
+            Err(StartFault::Memory) => Err(MessageStepFault::Memory),
+        }
+    }
+
     /// The operator cancels.
     pub fn cancel(&mut self, packages: &'a [Package])
         ensures step { step_of packages.now self.old.node.pair StepOf.Cancel ≡ Some (quietly self.new.node.pair) }

@@ -1,6 +1,6 @@
 //! What is taken, learnt and judged.
 
-ghost use Rattle.std.specs.Prelude.{◌≡◌, ◌≤◌, Bool, IfNone, IfSome, None, Some, false, if◌then◌else◌, map, option_map, option_to_list, true};
+ghost use Rattle.std.specs.Prelude.{◌≡◌, ◌≤◌, Bool, IfNone, IfSome, None, Some, false, if◌then◌else◌, is_some, map, option_map, option_to_list, true};
 ghost use Rattle.fd_core.specs.Commands.{device_take};
 ghost use Rattle.fd_core.specs.Steps.{applied_by, device_verdict, verdict_after};
 ghost use Rattle.fd_core.specs.Wishes.{has_failed};
@@ -10,7 +10,7 @@ ghost use Rattle.fw_world.specs.Pairs.{StepOf, activated_down, quietly, step_of}
 
 use crate::cell::Held;
 use crate::pair::{Pair, lent};
-use fd_core::{Bank, Device, Progress, Verdict};
+use fd_core::{Bank, Device, Progress, State, Verdict};
 use fw_package::Package;
 use pldm_base::completion::ERROR;
 use ua_core::Recorded;
@@ -81,6 +81,24 @@ impl<'a, B: Bank> Pair<'a, B> {
             return None;
         };
         Some(verdict != Verdict::ApplyOk || !has_failed(&self.device))
+    }
+
+    /// Whether the device waits for this verdict.
+    pub fn awaits(&self, verdict: Verdict) -> bool
+        ensures { (works : Bool) → is_some (device_verdict self.now.node.pair.device verdict works) ≡ result }
+    {
+        let progress = self.device.progress();
+        match self.device.state() {
+            State::Verify => matches!(
+                (progress, verdict),
+                (Some(Progress::InProgress), Verdict::VerifyOk | Verdict::VerifyFail)
+            ),
+            State::Apply => matches!(
+                (progress, verdict),
+                (Some(Progress::InProgress), Verdict::ApplyOk | Verdict::ApplyFail)
+            ),
+            _ => false,
+        }
     }
 
     /// The session learns the answer that it waits for. False where there is none.
