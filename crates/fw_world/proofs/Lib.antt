@@ -1,4 +1,6 @@
+mod Activating
 mod Applied
+mod Closings
 mod Components
 mod Noting
 mod Records
