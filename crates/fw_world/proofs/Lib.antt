@@ -3,7 +3,9 @@ mod Applied
 mod Closings
 mod Components
 mod Noting
+mod Places
 mod Records
 mod Rising
 mod Sealing
+mod Stepping
 mod Working

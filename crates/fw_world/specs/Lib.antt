@@ -4,5 +4,6 @@ pub mod History
 pub mod Laws
 pub mod Nodes
 pub mod Pairs
+pub mod Replays
 pub mod Same
 pub mod Worlds

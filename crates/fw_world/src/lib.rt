@@ -4,11 +4,13 @@
 mod cell;
 mod entry;
 mod images;
+mod messages;
 mod pair;
 mod same;
 mod side;
 mod step;
 
 pub use entry::{Entry, Event, Image};
+pub use messages::MessageWorld;
 pub use side::{Side, Way};
 pub use step::{MessageStep, MessageStepFault};
