@@ -1,3 +1,5 @@
+mod Applied
 mod Counts
 mod Readings
 mod Same
+mod Turns
