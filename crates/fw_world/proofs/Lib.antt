@@ -1,5 +1,6 @@
 mod Applied
 mod Counts
+mod Histories
 mod Readings
 mod Same
 mod Turns
