@@ -1,3 +1,4 @@
+mod Agreement
 mod Applied
 mod Counts
 mod Histories
