@@ -1,7 +1,9 @@
 mod Agreement
 mod Applied
+mod Closing
 mod Counts
 mod Histories
+mod Loose
 mod Readings
 mod Same
 mod Turns
