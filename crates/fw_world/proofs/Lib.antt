@@ -6,4 +6,5 @@ mod Histories
 mod Loose
 mod Readings
 mod Same
+mod Takes
 mod Turns

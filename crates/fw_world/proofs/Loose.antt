@@ -24,6 +24,10 @@ cell c r l = record { command = c; reply = r; live = l }
 abbrev pub idle_device : DeviceState → List ℕ → State → Reason → DeviceState
 idle_device v bytes previous reason = record v { phase = Phase.Idle; rows = dropped v.rows; stage = bytes; previous = previous; reason = reason }
 
+-- the session in another state, and perhaps with another package
+abbrev pub loosened : PairOf → Stage → ℕ → Option HeldOf → PairOf
+loosened m g n down = record m { session = record { stage = g; number = n; records = m.session.records }; down = down }
+
 cleared_lost : (r : Option AnswerOf) → Cleared Phase.Idle r
 cleared_lost (Some AnswerOf.CancelUpdate) = tt
 cleared_lost (Some (AnswerOf.Refused code)) = λ e. tt
@@ -56,7 +60,7 @@ module _ (ps : List PackageText) (ds : List DescriptorOf) where
   lost_together rs m v n g = tt
 
   -- what is told to be applied still is
-  lost_pending : (es : List EntryOf) (m : PairOf) (v : DeviceState) (n : ℕ) (g : Stage) → Pending ps es m n g → Pending ps es (record m { device = record v { phase = Phase.Idle } }) n g
+  pub lost_pending : (es : List EntryOf) (m : PairOf) (v : DeviceState) (n : ℕ) (g : Stage) → Pending ps es m n g → Pending ps es (record m { device = record v { phase = Phase.Idle } }) n g
   lost_pending es m v n (Stage.Apply t) s = λ e. elim e [ inl bad ↦ absurd (cc) | inr told ↦ s (inr told) ]
   lost_pending es m v n g s = tt
 
@@ -113,10 +117,6 @@ module _ (ps : List PackageText) (ds : List DescriptorOf) where
   loose_chosen n Stage.Cancelling l = tt
   loose_chosen n (Stage.Failed c) l = tt
   loose_chosen n g l = absurd l
-
-  -- the session in another state, and perhaps with another package
-  abbrev pub loosened : PairOf → Stage → ℕ → Option HeldOf → PairOf
-  loosened m g n down = record m { session = record { stage = g; number = n; records = m.session.records }; down = down }
 
   -- any row of the session into such a state
   pub loose_stands : (first : List RowOf) (es : List EntryOf) (m : PairOf) (g : Stage) (n : ℕ) (down : Option HeldOf) → IsLoose g
