@@ -1,5 +1,6 @@
 mod Agreement
 mod Applied
+mod Begins
 mod Closing
 mod Counts
 mod Histories
