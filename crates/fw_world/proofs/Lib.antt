@@ -3,6 +3,7 @@ mod Applied
 mod Begins
 mod Closing
 mod Counts
+mod Down
 mod Histories
 mod Loose
 mod Readings
