@@ -5,6 +5,7 @@ mod Closing
 mod Counts
 mod Down
 mod Histories
+mod Learns
 mod Loose
 mod Readings
 mod Same
