@@ -88,9 +88,9 @@ recording_more : (ps : List PackageText) (n : ℕ) (key : Key) (rs : List Record
 recording_more ps n key [] r h = absurd h
 recording_more ps n key (x ∷ rs) r h = elim h [ inl here ↦ inl here | inr there ↦ inr (recording_more ps n key rs r there) ]
 
-recording_here : (ps : List PackageText) (key : Key) (rs : List Recorded) (r : Recorded) → key_of (recorded_component ps r) ≡ key → HasRecording ps r.«package» key (rs ++ r ∷ [])
-recording_here ps key [] r e = inl (refl, e)
-recording_here ps key (x ∷ rs) r e = inr (recording_here ps key rs r e)
+recording_here : (ps : List PackageText) (n : ℕ) (key : Key) (rs : List Recorded) (r : Recorded) → r.«package» ≡ n → key_of (recorded_component ps r) ≡ key → HasRecording ps n key (rs ++ r ∷ [])
+recording_here ps n key [] r is e = inl (is, subst (λ (k : ℕ). key_of (component_at (package_at ps k) r.component) ≡ key) is e)
+recording_here ps n key (x ∷ rs) r is e = inr (recording_here ps n key rs r is e)
 
 backed_more : (ps : List PackageText) (ds : List DescriptorOf) (n : ℕ) (rs : List Recorded) (r : Recorded) (key : Key) (o : Option ImageOf)
     → BackedBy ps ds n rs key o → BackedBy ps ds n (rs ++ r ∷ []) key o
@@ -101,29 +101,29 @@ backed_more ps ds n rs r key (Some image) h = record { named = h.named; recorded
 unfoldable pub Names : List PackageText → List DescriptorOf → ℕ → Key → List ℕ → Type 0
 Names ps ds n key bytes = image_for (package_at ps n) ds key.classification key.identifier ≡ Some bytes
 
-backed_here : (ps : List PackageText) (ds : List DescriptorOf) (rs : List Recorded) (r : Recorded) (key : Key) (bytes : List ℕ) (o : Option ImageOf)
-    → key_of (recorded_component ps r) ≡ key → Names ps ds r.«package» key bytes → AppliedAt o bytes → BackedBy ps ds r.«package» (rs ++ r ∷ []) key o
+backed_here : (ps : List PackageText) (ds : List DescriptorOf) (n : ℕ) (rs : List Recorded) (r : Recorded) (key : Key) (bytes : List ℕ) (o : Option ImageOf)
+    → r.«package» ≡ n → key_of (recorded_component ps r) ≡ key → Names ps ds n key bytes → AppliedAt o bytes → BackedBy ps ds n (rs ++ r ∷ []) key o
 unfolding Names
-backed_here ps ds rs r key bytes None k n h = tt
-backed_here ps ds rs r key bytes (Some image) k n h =
+backed_here ps ds n rs r key bytes None is k names h = tt
+backed_here ps ds n rs r key bytes (Some image) is k names h =
     record {
-      named = n ∙ ap Some (sym h);
-      recorded = recording_here ps key rs r k;
+      named = names ∙ ap Some (sym h);
+      recorded = recording_here ps n key rs r is k;
     }
 
 -- with the record of what is sealed all is backed
-pub backed_recorded : (ps : List PackageText) (ds : List DescriptorOf) (rs : List Recorded) (r : Recorded) (key : Key) (bytes : List ℕ) (rows : List RowOf)
-    → key_of (recorded_component ps r) ≡ key → Names ps ds r.«package» key bytes
-    → AppliedIs rows key bytes → BackedBut ps ds r.«package» rs key rows → Backed ps ds r.«package» (rs ++ r ∷ []) rows
+pub backed_recorded : (ps : List PackageText) (ds : List DescriptorOf) (n : ℕ) (rs : List Recorded) (r : Recorded) (key : Key) (bytes : List ℕ) (rows : List RowOf)
+    → r.«package» ≡ n → key_of (recorded_component ps r) ≡ key → Names ps ds n key bytes
+    → AppliedIs rows key bytes → BackedBut ps ds n rs key rows → Backed ps ds n (rs ++ r ∷ []) rows
 unfolding AppliedIs BackedBut Backed
-backed_recorded ps ds rs r key bytes [] k n a b = tt
-backed_recorded ps ds rs r key bytes (x ∷ rows) k n a b = (at_row (same_key x.key key) refl a.0 b.0, backed_recorded ps ds rs r key bytes rows k n a.1 b.1)
+backed_recorded ps ds n rs r key bytes [] is k names a b = tt
+backed_recorded ps ds n rs r key bytes (x ∷ rows) is k names a b = (at_row (same_key x.key key) refl a.0 b.0, backed_recorded ps ds n rs r key bytes rows is k names a.1 b.1)
   where
-    at_row : (t : Bool) → same_key x.key key ≡ t → OnTrue t (AppliedAt x.applied bytes) → OnFalse t (BackedBy ps ds r.«package» rs x.key x.applied) → BackedBy ps ds r.«package» (rs ++ r ∷ []) x.key x.applied
+    at_row : (t : Bool) → same_key x.key key ≡ t → OnTrue t (AppliedAt x.applied bytes) → OnFalse t (BackedBy ps ds n rs x.key x.applied) → BackedBy ps ds n (rs ++ r ∷ []) x.key x.applied
     at_row true e a b =
         let same : key ≡ x.key = sym (key_means x.key key e) in
-        backed_here ps ds rs r x.key bytes x.applied (k ∙ same) (subst (λ (y : Key). Names ps ds r.«package» y bytes) same n) a
-    at_row false e a b = backed_more ps ds r.«package» rs r x.key x.applied b
+        backed_here ps ds n rs r x.key bytes x.applied is (k ∙ same) (subst (λ (y : Key). Names ps ds n y bytes) same names) a
+    at_row false e a b = backed_more ps ds n rs r x.key x.applied b
 
 -- what is put in is from the package
 among_from : (ps : List PackageText) (ds : List DescriptorOf) (n : ℕ) (rs : List Recorded) (p : Put) (qs : List Put) → IsFrom ps ds rs n p → All (IsFrom ps ds rs n) qs → All (IsFrom ps ds rs n) (put_among p qs)

@@ -9,5 +9,6 @@ mod Learns
 mod Loose
 mod Readings
 mod Same
+mod Serves
 mod Takes
 mod Turns
