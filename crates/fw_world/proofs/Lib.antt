@@ -7,8 +7,10 @@ mod Down
 mod Histories
 mod Learns
 mod Loose
+mod Planned
 mod Readings
 mod Same
 mod Serves
 mod Takes
 mod Turns
+mod Up
