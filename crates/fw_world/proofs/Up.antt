@@ -6,6 +6,7 @@ use Rattle.fw_package.specs.Laws.{PlansNamedImages}
 use Rattle.fw_package.specs.Package.{DescriptorOf, PackageText}
 use Rattle.fwup_wire.specs.Values.{AnswerOf, CommandOf}
 use Rattle.fd_core.specs.Images.{RowOf}
+use Rattle.fd_core.specs.States.{Phase}
 use Rattle.fd_core.specs.Wishes.{device_wish}
 use Rattle.ua_core.specs.Laws.{ServesInPlan, StandsInPlan}
 use Rattle.ua_core.specs.Lent.{key_of}
@@ -157,3 +158,92 @@ module _ (ps : List PackageText) (ds : List DescriptorOf) (es : List EntryOf) wh
   serves law m s l n g (CommandOf.VerifyComplete r) k = verify_serves m s l n r g k
   serves law m s l n g (CommandOf.ApplyComplete r x) k = apply_serves law m s l n r x g k
   serves law m s l n g c k = refused_up m s c l n 5 g k.together
+
+  pending_answered : (m : PairOf) (s : SessionOf) (c : CommandOf) (a : AnswerOf) (l : Bool) (n : ℕ) (g : Stage) → Pending ps es (with_up m (Some (cell c None l))) n g → Pending ps es (served m s c a l) n g
+  pending_answered m s c a l n (Stage.Apply t) h = λ e. elim e [ inl sealed ↦ h (inl sealed) | inr told ↦ absurd (cc) ]
+  pending_answered m s c a l n g h = tt
+
+  after_command : (n : ℕ) (t : TaskOf) (todo : List Planned) → CommandStands (task_after t todo) (stage_wish (package_at ps n) (task_after t todo)) None
+  after_command n t [] = tt
+  after_command n t (i ∷ is) = tt
+
+  after_pending : (m : PairOf) (xs : List EntryOf) (n : ℕ) (t : TaskOf) (todo : List Planned) → Pending ps xs m n (task_after t todo)
+  after_pending m xs n t [] = tt
+  after_pending m xs n t (i ∷ is) = tt
+
+  after_chosen : (n : ℕ) (t : TaskOf) (todo : List Planned) → HasChosen (package_at ps n) ds (Stage.Apply t) → HasChosen (package_at ps n) ds (task_after t todo)
+  after_chosen n t [] h = h
+  after_chosen n t (i ∷ is) h = h
+
+  settled_waits : (n : ℕ) (rs : List Recorded) (rows : List RowOf) (p : Phase) → Settled ps ds n rs rows p → Waiting ps ds n rs rows p
+  settled_waits n rs rows (Phase.Learn u) h = absurd h
+  settled_waits n rs rows p h = h
+
+  after_together : (rs : List Recorded) (m : PairOf) (n : ℕ) (t : TaskOf) (todo : List Planned) → m.down ≡ None → Settled ps ds n rs m.device.rows m.device.phase → Together ps ds rs m n (task_after t todo)
+  after_together rs m n t [] d h = h
+  after_together rs m n t (i ∷ is) d h = rw d (settled_waits n rs m.device.rows m.device.phase h)
+
+  module _ (first : List RowOf) where
+    serve_by_row : (m : PairOf) (c : CommandOf) (l : Bool) (row : ServeRow) → IsStanding ps ds first es (with_up m (Some (cell c None l)))
+        → StandsInPlan (package_at ps m.session.number) (after_by m.session row).stage
+        → Serves m (after_by m.session row) c l m.session.number m.session.stage row
+        → IsStanding ps ds first (noted es (map EntryOf.Recording (recorded_with m.session row))) (served m (after_by m.session row) c (answer_by row) l)
+    serve_by_row m c l (ServeRow.Say a) s p h =
+        record {
+          own = s.own;
+          command = s.command;
+          form = s.form;
+          together = h;
+          pending = pending_answered m m.session c a l m.session.number m.session.stage s.pending;
+          stray = s.stray;
+          plan = s.plan;
+          chosen = s.chosen;
+          identified = s.identified;
+          told = s.told;
+          history = s.history;
+        }
+    serve_by_row m c l (ServeRow.Give bytes) s p h =
+        record {
+          own = s.own;
+          command = s.command;
+          form = s.form;
+          together = h;
+          pending = pending_answered m m.session c (AnswerOf.RequestFirmwareData bytes) l m.session.number m.session.stage s.pending;
+          stray = s.stray;
+          plan = s.plan;
+          chosen = s.chosen;
+          identified = s.identified;
+          told = s.told;
+          history = s.history;
+        }
+    serve_by_row m c l (ServeRow.Move g a) s p h =
+        record {
+          own = s.own;
+          command = h.3;
+          form = s.form;
+          together = h.0;
+          pending = h.1;
+          stray = s.stray;
+          plan = p;
+          chosen = h.2;
+          identified = s.identified;
+          told = s.told;
+          history = s.history;
+        }
+    serve_by_row m c l (ServeRow.Record t) s p h =
+        let r = record_at m.session.number t in
+        let xs = es ++ EntryOf.Recording r ∷ [] in
+        let after = served m (after_by m.session (ServeRow.Record t)) c AnswerOf.ApplyComplete l in
+        record {
+          own = s.own;
+          command = rw h.none (after_command m.session.number t t.todo);
+          form = s.form;
+          together = rw (since_recorded es r) (after_together (since es ++ r ∷ []) after m.session.number t t.todo h.none h.settled);
+          pending = after_pending after xs m.session.number t t.todo;
+          stray = rw h.none tt;
+          plan = p;
+          chosen = after_chosen m.session.number t t.todo h.chosen;
+          identified = s.identified;
+          told = s.told;
+          history = history_recorded ps ds first m.device.rows m.session.records es r h.named h.pending s.history;
+        }
