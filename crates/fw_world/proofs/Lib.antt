@@ -1,6 +1,7 @@
 mod Agreement
 mod Applied
 mod Begins
+mod Cells
 mod Closing
 mod Counts
 mod Down

@@ -247,3 +247,25 @@ module _ (ps : List PackageText) (ds : List DescriptorOf) (es : List EntryOf) wh
           told = s.told;
           history = history_recorded ps ds first m.device.rows m.session.records es r h.named h.pending s.history;
         }
+
+    take_command : (serves_law : ServesInPlan) (names_law : PlansNamedImages) (m : PairOf) (c : CommandOf) (l : Bool) → IsStanding ps ds first es (with_up m (Some (cell c None l)))
+        → Stood ps ds first es (up_taken ps (with_up m (Some (cell c None l))) (cell c None l))
+    unfolding up_taken
+    take_command serves_law names_law m c l s =
+        let p = package_at ps m.session.number in
+        let row = serve_row p m.session.stage c in
+        serve_by_row m c l row s (serves_law p m.session c s.plan)
+        (serves names_law m (after_by m.session row) l m.session.number m.session.stage c
+          (record { own = s.own; command = s.command; form = s.form; together = s.together; pending = s.pending; plan = s.plan; chosen = s.chosen }))
+
+    take_at : (serves_law : ServesInPlan) (names_law : PlansNamedImages) (m : PairOf) (c : CommandOf) (r : Option AnswerOf) (l : Bool) → IsStanding ps ds first es (with_up m (Some (cell c r l)))
+        → Leaves ps ds first es (take_up_at ps (with_up m (Some (cell c r l))) (cell c r l) r)
+    take_at serves_law names_law m c None l s = take_command serves_law names_law m c l s
+    take_at serves_law names_law m c (Some a) l s = tt
+
+    take_cell : (serves_law : ServesInPlan) (names_law : PlansNamedImages) (m : PairOf) (up : Option HeldOf) → IsStanding ps ds first es (with_up m up) → Leaves ps ds first es (take_up ps (with_up m up) up)
+    take_cell serves_law names_law m None s = tt
+    take_cell serves_law names_law m (Some h) s = take_at serves_law names_law m h.command h.reply h.live s
+
+    pub agent_takes : (serves_law : ServesInPlan) (names_law : PlansNamedImages) (m : PairOf) → IsStanding ps ds first es m → Leaves ps ds first es (step_of ps m StepOf.TakeUp)
+    agent_takes serves_law names_law m s = take_cell serves_law names_law m m.up s
