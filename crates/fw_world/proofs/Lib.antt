@@ -8,6 +8,7 @@ mod Down
 mod Histories
 mod Learns
 mod Loose
+mod Moves
 mod Planned
 mod Readings
 mod Same
