@@ -9,8 +9,10 @@ mod Histories
 mod Learns
 mod Loose
 mod Moves
+mod Pieces
 mod Planned
 mod Readings
+mod Reports
 mod Same
 mod Serves
 mod Takes

@@ -23,6 +23,13 @@ use Rattle.fw_world.proofs.Agreement.{Activation, Application, Cleared, FreshIn,
 use Rattle.fw_world.proofs.Begins.{full_either}
 use Rattle.fw_world.proofs.Readings.{since}
 
+abbrev pub with_device : PairOf → DeviceState → Option HeldOf → PairOf
+with_device m v u = record m { device = v; up = u }
+
+-- the same device with this stage, in this phase
+abbrev pub at_phase : DeviceState → Phase → List ℕ → State → DeviceState
+at_phase v p bytes previous = record v { phase = p; stage = bytes; previous = previous }
+
 cleared_moves : (p q : Phase) (r : Option AnswerOf) → (IsLost p → IsLost q) → Cleared p r → Cleared q r
 cleared_moves p q (Some AnswerOf.CancelUpdate) to h = to h
 cleared_moves p q (Some (AnswerOf.Refused code)) to h = λ e. to (h e)
@@ -44,9 +51,6 @@ module _ (ps : List PackageText) (ds : List DescriptorOf) where
     pub verification : (n : ℕ) (c : ComponentOf) → Verification ps ds n rs c v.rows v.stage v.phase (reply_of u) → Verification ps ds n rs c w.rows w.stage w.phase (reply_of x)
     pub application : (n : ℕ) (c : ComponentOf) → Application ps ds n rs c v.rows v.stage v.phase (reply_of u) → Application ps ds n rs c w.rows w.stage w.phase (reply_of x)
     pub settled : (n : ℕ) → Settled ps ds n rs v.rows v.phase → Settled ps ds n rs w.rows w.phase
-
-  abbrev pub with_device : PairOf → DeviceState → Option HeldOf → PairOf
-  with_device m v u = record m { device = v; up = u }
 
   offered_moves : (rs : List Recorded) (v w : DeviceState) (u x : Option HeldOf) (n : ℕ) (c : ComponentOf) (b : Bool) → IsMove rs v w u x
       → UpdateOffered ps ds n rs c v.rows v.stage v.phase (reply_of u) b → UpdateOffered ps ds n rs c w.rows w.stage w.phase (reply_of x) b
@@ -79,10 +83,6 @@ module _ (ps : List PackageText) (ds : List DescriptorOf) where
       → Pending ps es (with_device m v u) n g → Pending ps es (with_device m w x) n g
   pending_moves es m v w u x n (Stage.Apply t) k h = λ e. h (k e)
   pending_moves es m v w u x n g k h = tt
-
-  -- the same device with this stage, in this phase
-  abbrev pub at_phase : DeviceState → Phase → List ℕ → State → DeviceState
-  at_phase v p bytes previous = record v { phase = p; stage = bytes; previous = previous }
 
   module _ (first : List RowOf) (es : List EntryOf) where
     -- a move of a device that keeps its rows
