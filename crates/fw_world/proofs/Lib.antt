@@ -18,3 +18,4 @@ mod Serves
 mod Takes
 mod Turns
 mod Up
+mod Verdicts
