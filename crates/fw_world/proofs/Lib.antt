@@ -1,6 +1,7 @@
 mod Agreement
 mod Applied
 mod Begins
+mod Calls
 mod Cells
 mod Closing
 mod Counts
@@ -13,6 +14,7 @@ mod Pieces
 mod Planned
 mod Readings
 mod Reports
+mod Runs
 mod Same
 mod Serves
 mod Takes
