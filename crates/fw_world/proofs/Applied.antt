@@ -1,149 +1,56 @@
--- What is applied on a device, row by row.
-use Rattle.std.specs.Prelude.{ℕ, ◌≡◌, ◌⊎◌, Bool, true, false, List, [], ◌∷◌, ◌++◌, map, All, Option, Some, None, IsSomeAnd, if◌then◌else◌}
-use Rattle.std.specs.Bool.{OnTrue, OnFalse}
-use Rattle.std.proofs.Common.{refl, sym, ap, ◌∙◌, inl, inr, subst}
-use Rattle.std.proofs.lemmas.Bool.{cond_both}
-use Rattle.std.proofs.lemmas.List.Elements.{All-nil, All-cons, All-head, All-tail}
-use Rattle.fw_package.specs.Choice.{component_at, image_for}
-use Rattle.fw_package.specs.Package.{DescriptorOf, PackageText}
+-- What is applied, component by component.
+use Rattle.std.proofs.Common.{◌≡◌, ◌∷◌, ◌==◌, ◌&&◌, ◌||◌, ◌∙◌, Bool, true, false, if◌then◌else◌, List, [], Option, Some, None, map, ℕ, inl, inr, refl, sym}
+use Rattle.std.proofs.lemmas.Bool.{ne_eqb, or_parts}
+use Rattle.std.proofs.lemmas.Bool.Decides.{eqb_tells}
+use Rattle.fd_core.specs.Banks.{AreApart, has_key}
+use Rattle.fd_core.specs.Images.{RowOf, applied_of, key_of, put_applied, puts, row_of, same_key}
+use Rattle.fd_core.specs.States.{DeviceState}
+use Rattle.fd_core.specs.declared.parts.Component.{Component}
 use Rattle.fwup_wire.specs.declared.values.Key.{Key}
-use Rattle.fd_core.specs.Images.{ImageOf, Put, RowOf, dropped, put_among, put_applied, puts, rises, same_key, sealed, sealed_if, switched, turned, turned_to, unapplied}
-use Rattle.ua_core.specs.Lent.{key_of}
-use Rattle.ua_core.specs.declared.planned.Recorded.{Recorded}
-use Rattle.fw_world.specs.History.{HasRecording, IsFrom, package_at}
-use Rattle.fw_world.proofs.Counts.{recorded_component}
-use Rattle.fw_world.proofs.Readings.{through}
-use Rattle.fw_world.proofs.Same.{key_means, key_self}
+use Rattle.fw_world.specs.Entries.{applied_puts}
+use Rattle.fw_world.specs.Nodes.{HasComponents}
 
-abbrev pub put_of : Key → ImageOf → Put
-put_of key image = record { key = key; bytes = image.bytes }
+-- each of these components is found under its key
+abbrev pub AreFound : List RowOf → List RowOf → Type 0
+AreFound all [] = Unit {0}
+AreFound all (row ∷ rows) = (row_of all row.key ≡ Some row) × AreFound all rows
 
-abbrev pub BackedBy : List PackageText → List DescriptorOf → ℕ → List Recorded → Key → Option ImageOf → Type 0
-BackedBy ps ds number rs key None = Unit {0}
-BackedBy ps ds number rs key (Some image) = IsFrom ps ds rs number (put_of key image)
+by_found : (all rows : List RowOf) (cs : List Component) → map key_of rows ≡ map (λ c. c.key) cs → AreFound all rows → applied_puts all cs ≡ puts rows
+by_found all [] [] keys found = refl
+by_found all [] (c ∷ cs) keys found = absurd (cc)
+by_found all (row ∷ rows) [] keys found = absurd (cc)
+by_found all (row ∷ rows) (c ∷ cs) keys found =
+    let here : row.key ≡ c.key = cc in
+    let rest : map key_of rows ≡ map (λ c. c.key) cs = cc in
+    rw (sym here, found.0, by_found all rows cs rest found.1) refl
 
--- all that is applied is recorded of one package
-unfoldable pub Backed : List PackageText → List DescriptorOf → ℕ → List Recorded → List RowOf → Type 0
-Backed ps ds number rs [] = Unit {0}
-Backed ps ds number rs (r ∷ rows) = BackedBy ps ds number rs r.key r.applied × Backed ps ds number rs rows
+equal_both : (a b : ℕ) → (a == b) ≡ (b == a)
+equal_both a b =
+    elim (eqb_tells a b) [
+      | inl same ↦ rw same.1 refl
+      | inr other ↦ rw (other.0, ne_eqb b a (λ e. other.1 (sym e))) refl
+    ]
 
--- all but what is applied under this key
-unfoldable pub BackedBut : List PackageText → List DescriptorOf → ℕ → List Recorded → Key → List RowOf → Type 0
-BackedBut ps ds number rs key [] = Unit {0}
-BackedBut ps ds number rs key (r ∷ rows) = OnFalse (same_key r.key key) (BackedBy ps ds number rs r.key r.applied) × BackedBut ps ds number rs key rows
+same_both : (a b : Key) → same_key a b ≡ same_key b a
+same_both a b = rw (equal_both a.classification b.classification, equal_both a.identifier b.identifier) refl
 
-unfoldable pub NoneApplied : List RowOf → Type 0
-NoneApplied [] = Unit {0}
-NoneApplied (r ∷ rows) = (r.applied ≡ None) × NoneApplied rows
+equal_self : (a : ℕ) → (a == a) ≡ true
+equal_self a = elim (eqb_tells a a) [ inl same ↦ same.0 | inr other ↦ absurd (other.1 refl) ]
 
-abbrev pub AppliedAt : Option ImageOf → List ℕ → Type 0
-AppliedAt None bytes = ⊥
-AppliedAt (Some image) bytes = image.bytes ≡ bytes
+same_self : (a : Key) → same_key a a ≡ true
+same_self a = rw (equal_self a.classification, equal_self a.identifier) refl
 
--- what is applied under the key has these bytes
-unfoldable pub AppliedIs : List RowOf → Key → List ℕ → Type 0
-AppliedIs [] key bytes = Unit {0}
-AppliedIs (r ∷ rows) key bytes = OnTrue (same_key r.key key) (AppliedAt r.applied bytes) × AppliedIs rows key bytes
+found_later : (row : RowOf) (all rest : List RowOf) → has_key (map key_of rest) row.key ≡ false → AreFound all rest → AreFound (row ∷ all) rest
+found_later row all [] apart found = tt
+found_later row all (r ∷ rs) apart found =
+    let parts = or_parts (same_key r.key row.key) (has_key (map key_of rs) row.key) apart in
+    (rw (same_both row.key r.key, parts.0) found.0, found_later row all rs parts.1 found.1)
 
-pub none_dropped : (rows : List RowOf) → NoneApplied (dropped rows)
-unfolding NoneApplied
-none_dropped [] = tt
-none_dropped (r ∷ rows) = (refl, none_dropped rows)
+found_apart : (rows : List RowOf) → AreApart (map key_of rows) → AreFound rows rows
+found_apart [] apart = tt
+found_apart (row ∷ rows) apart =
+    (rw (same_self row.key) refl, found_later row rows rows apart.0 (found_apart rows apart.1))
 
-none_turned : (r : RowOf) (o : Option ImageOf) → r.applied ≡ o → (turned_to r o).applied ≡ None
-none_turned r None e = e
-none_turned r (Some image) e = refl
-
-pub none_switched : (rows : List RowOf) → NoneApplied (switched rows)
-unfolding NoneApplied
-none_switched [] = tt
-none_switched (r ∷ rows) = (none_turned r r.applied refl, none_switched rows)
-
-pub none_backed : (ps : List PackageText) (ds : List DescriptorOf) (n : ℕ) (rs : List Recorded) (rows : List RowOf) → NoneApplied rows → Backed ps ds n rs rows
-unfolding NoneApplied Backed
-none_backed ps ds n rs [] h = tt
-none_backed ps ds n rs (r ∷ rows) h = (rw h.0 tt, none_backed ps ds n rs rows h.1)
-
-pub sealed_others : (ps : List PackageText) (ds : List DescriptorOf) (n : ℕ) (rs : List Recorded) (rows : List RowOf) (key : Key) (image : ImageOf)
-    → Backed ps ds n rs rows → BackedBut ps ds n rs key (sealed rows key image)
-unfolding Backed BackedBut
-sealed_others ps ds n rs [] key image h = tt
-sealed_others ps ds n rs (r ∷ rows) key image h = (at_row (same_key r.key key) refl, sealed_others ps ds n rs rows key image h.1)
-  where
-    at_row : (t : Bool) → same_key r.key key ≡ t → OnFalse (same_key (sealed_if t r image).key key) (BackedBy ps ds n rs (sealed_if t r image).key (sealed_if t r image).applied)
-    at_row true e = rw e tt
-    at_row false e = rw e h.0
-
-pub sealed_applied : (rows : List RowOf) (key : Key) (image : ImageOf) → AppliedIs (sealed rows key image) key image.bytes
-unfolding AppliedIs
-sealed_applied [] key image = tt
-sealed_applied (r ∷ rows) key image = (at_row (same_key r.key key) refl, sealed_applied rows key image)
-  where
-    at_row : (t : Bool) → same_key r.key key ≡ t → OnTrue (same_key (sealed_if t r image).key key) (AppliedAt (sealed_if t r image).applied image.bytes)
-    at_row true e = rw e refl
-    at_row false e = rw e tt
-
--- a record more
-recording_more : (ps : List PackageText) (n : ℕ) (key : Key) (rs : List Recorded) (r : Recorded) → HasRecording ps n key rs → HasRecording ps n key (rs ++ r ∷ [])
-recording_more ps n key [] r h = absurd h
-recording_more ps n key (x ∷ rs) r h = elim h [ inl here ↦ inl here | inr there ↦ inr (recording_more ps n key rs r there) ]
-
-recording_here : (ps : List PackageText) (n : ℕ) (key : Key) (rs : List Recorded) (r : Recorded) → r.«package» ≡ n → key_of (recorded_component ps r) ≡ key → HasRecording ps n key (rs ++ r ∷ [])
-recording_here ps n key [] r is e = inl (is, subst (λ (k : ℕ). key_of (component_at (package_at ps k) r.component) ≡ key) is e)
-recording_here ps n key (x ∷ rs) r is e = inr (recording_here ps n key rs r is e)
-
-backed_more : (ps : List PackageText) (ds : List DescriptorOf) (n : ℕ) (rs : List Recorded) (r : Recorded) (key : Key) (o : Option ImageOf)
-    → BackedBy ps ds n rs key o → BackedBy ps ds n (rs ++ r ∷ []) key o
-backed_more ps ds n rs r key None h = tt
-backed_more ps ds n rs r key (Some image) h = record { named = h.named; recorded = recording_more ps n key rs r h.recorded }
-
--- what a package names for the device under a key
-unfoldable pub Names : List PackageText → List DescriptorOf → ℕ → Key → List ℕ → Type 0
-Names ps ds n key bytes = image_for (package_at ps n) ds key.classification key.identifier ≡ Some bytes
-
-backed_here : (ps : List PackageText) (ds : List DescriptorOf) (n : ℕ) (rs : List Recorded) (r : Recorded) (key : Key) (bytes : List ℕ) (o : Option ImageOf)
-    → r.«package» ≡ n → key_of (recorded_component ps r) ≡ key → Names ps ds n key bytes → AppliedAt o bytes → BackedBy ps ds n (rs ++ r ∷ []) key o
-unfolding Names
-backed_here ps ds n rs r key bytes None is k names h = tt
-backed_here ps ds n rs r key bytes (Some image) is k names h =
-    record {
-      named = names ∙ ap Some (sym h);
-      recorded = recording_here ps n key rs r is k;
-    }
-
--- with the record of what is sealed all is backed
-pub backed_recorded : (ps : List PackageText) (ds : List DescriptorOf) (n : ℕ) (rs : List Recorded) (r : Recorded) (key : Key) (bytes : List ℕ) (rows : List RowOf)
-    → r.«package» ≡ n → key_of (recorded_component ps r) ≡ key → Names ps ds n key bytes
-    → AppliedIs rows key bytes → BackedBut ps ds n rs key rows → Backed ps ds n (rs ++ r ∷ []) rows
-unfolding AppliedIs BackedBut Backed
-backed_recorded ps ds n rs r key bytes [] is k names a b = tt
-backed_recorded ps ds n rs r key bytes (x ∷ rows) is k names a b = (at_row (same_key x.key key) refl a.0 b.0, backed_recorded ps ds n rs r key bytes rows is k names a.1 b.1)
-  where
-    at_row : (t : Bool) → same_key x.key key ≡ t → OnTrue t (AppliedAt x.applied bytes) → OnFalse t (BackedBy ps ds n rs x.key x.applied) → BackedBy ps ds n (rs ++ r ∷ []) x.key x.applied
-    at_row true e a b =
-        let same : key ≡ x.key = sym (key_means x.key key e) in
-        backed_here ps ds n rs r x.key bytes x.applied is (k ∙ same) (subst (λ (y : Key). Names ps ds n y bytes) same names) a
-    at_row false e a b = backed_more ps ds n rs r x.key x.applied b
-
--- what is put in is from the package
-among_from : (ps : List PackageText) (ds : List DescriptorOf) (n : ℕ) (rs : List Recorded) (p : Put) (qs : List Put) → IsFrom ps ds rs n p → All (IsFrom ps ds rs n) qs → All (IsFrom ps ds rs n) (put_among p qs)
-among_from ps ds n rs p [] h all = All-cons (IsFrom ps ds rs n) p [] h all
-among_from ps ds n rs p (q ∷ qs) h all =
-    cond_both (rises q.key p.key) (q ∷ put_among p qs) (p ∷ q ∷ qs) (All (IsFrom ps ds rs n))
-    (λ e. All-cons (IsFrom ps ds rs n) q (put_among p qs) (All-head (IsFrom ps ds rs n) q qs all) (among_from ps ds n rs p qs h (All-tail (IsFrom ps ds rs n) q qs all)))
-    (λ e. All-cons (IsFrom ps ds rs n) p (q ∷ qs) h all)
-
-applied_from : (ps : List PackageText) (ds : List DescriptorOf) (n : ℕ) (rs : List Recorded) (key : Key) (o : Option ImageOf) (qs : List Put)
-    → BackedBy ps ds n rs key o → All (IsFrom ps ds rs n) qs → All (IsFrom ps ds rs n) (put_applied key o qs)
-applied_from ps ds n rs key None qs b all = all
-applied_from ps ds n rs key (Some image) qs b all = among_from ps ds n rs (put_of key image) qs b all
-
-pub puts_from : (ps : List PackageText) (ds : List DescriptorOf) (n : ℕ) (rs : List Recorded) (rows : List RowOf) → Backed ps ds n rs rows → All (IsFrom ps ds rs n) (puts rows)
-unfolding Backed
-puts_from ps ds n rs [] b = All-nil (IsFrom ps ds rs n)
-puts_from ps ds n rs (r ∷ rows) b = applied_from ps ds n rs r.key r.applied (puts rows) b.0 (puts_from ps ds n rs rows b.1)
-
-pub puts_none : (rows : List RowOf) → NoneApplied rows → puts rows ≡ []
-unfolding NoneApplied
-puts_none [] h = refl
-puts_none (r ∷ rows) h = rw h.0 (puts_none rows h.1)
+-- what is applied, as the table has it
+pub all_applied : (v : DeviceState) → HasComponents v → applied_puts v.rows v.components ≡ puts v.rows
+all_applied v h = by_found v.rows v.rows v.components h.keys (found_apart v.rows h.apart)

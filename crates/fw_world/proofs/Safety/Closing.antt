@@ -1,0 +1,94 @@
+-- Closing cells keeps what stands.
+use Rattle.std.specs.Prelude.{◌≡◌, true, List, map, Option, Some, None}
+use Rattle.std.proofs.Common.{refl}
+use Rattle.fw_package.specs.Package.{DescriptorOf, PackageText}
+use Rattle.fwup_wire.specs.Values.{CommandOf}
+use Rattle.fd_core.specs.Images.{RowOf}
+use Rattle.fd_core.specs.Wishes.{device_wish}
+use Rattle.ua_core.specs.Session.{Stage}
+use Rattle.fw_world.specs.History.{EntryOf}
+use Rattle.fw_world.specs.Pairs.{HeldOf, PairOf, closed_unless, down_wish, is_wished, unwished_closed}
+use Rattle.fw_world.proofs.Safety.Agreement.{CommandStands, IsStanding, StandsOpen}
+use Rattle.fw_world.proofs.Safety.Same.{same_self}
+
+wished_self : (c : CommandOf) (wish : Option CommandOf) → wish ≡ Some c → is_wished c wish ≡ true
+wished_self c wish e = rw e (same_self c)
+
+stands_closes : (wish : Option CommandOf) (cell : Option HeldOf) → StandsOpen wish cell → StandsOpen wish (closed_unless wish cell)
+stands_closes wish None s = tt
+stands_closes wish (Some h) s = (rw (s.0, wished_self h.command wish s.1) refl, s.1)
+
+command_closes : (g : Stage) (wish : Option CommandOf) (cell : Option HeldOf) → CommandStands g wish cell → CommandStands g wish (closed_unless wish cell)
+command_closes Stage.Idle wish cell s = tt
+command_closes Stage.Query wish cell s = tt
+command_closes Stage.Done wish cell s = tt
+command_closes Stage.Cancelling wish cell s = tt
+command_closes (Stage.Failed c) wish cell s = tt
+command_closes g wish cell s = stands_closes wish cell s
+
+standing_closes : (ps : List PackageText) (ds : List DescriptorOf) (first : List RowOf) (es : List EntryOf) (m : PairOf) (d u : Option HeldOf) (x y : Option CommandOf)
+    → CommandStands m.session.stage (down_wish ps m.session) (closed_unless x d)
+    → IsStanding ps ds first es (record m { down = d; up = u }) → IsStanding ps ds first es (record m { down = closed_unless x d; up = closed_unless y u })
+standing_closes ps ds first es m None None x y c s =
+    record {
+      own = s.own;
+      command = c;
+      form = s.form;
+      together = s.together;
+      pending = s.pending;
+      stray = s.stray;
+      plan = s.plan;
+      chosen = s.chosen;
+      identified = s.identified;
+      told = s.told;
+      history = s.history;
+    }
+standing_closes ps ds first es m None (Some k) x y c s =
+    record {
+      own = s.own;
+      command = c;
+      form = s.form;
+      together = s.together;
+      pending = s.pending;
+      stray = s.stray;
+      plan = s.plan;
+      chosen = s.chosen;
+      identified = s.identified;
+      told = s.told;
+      history = s.history;
+    }
+standing_closes ps ds first es m (Some h) None x y c s =
+    record {
+      own = s.own;
+      command = c;
+      form = s.form;
+      together = s.together;
+      pending = s.pending;
+      stray = s.stray;
+      plan = s.plan;
+      chosen = s.chosen;
+      identified = s.identified;
+      told = s.told;
+      history = s.history;
+    }
+standing_closes ps ds first es m (Some h) (Some k) x y c s =
+    record {
+      own = s.own;
+      command = c;
+      form = s.form;
+      together = s.together;
+      pending = s.pending;
+      stray = s.stray;
+      plan = s.plan;
+      chosen = s.chosen;
+      identified = s.identified;
+      told = s.told;
+      history = s.history;
+    }
+
+-- what stands is there after the closing
+pub closes : (ps : List PackageText) (ds : List DescriptorOf) (first : List RowOf) (es : List EntryOf) (m : PairOf) → IsStanding ps ds first es m → IsStanding ps ds first es (unwished_closed ps m)
+unfolding unwished_closed
+closes ps ds first es m s =
+    standing_closes ps ds first es m m.down m.up (down_wish ps m.session) (device_wish m.device)
+    (command_closes m.session.stage (down_wish ps m.session) m.down s.command) s

@@ -1,0 +1,16 @@
+//! The world of an update agent and its devices (DSP0267 1.0).
+#![tactic(auto)]
+
+mod cell;
+mod entry;
+mod images;
+mod laws;
+mod pair;
+mod same;
+mod side;
+mod step;
+
+pub use entry::{Entry, Event, Image};
+pub use laws::messages_are_safe;
+pub use side::{Side, Way};
+pub use step::{MessageStep, MessageStepFault};

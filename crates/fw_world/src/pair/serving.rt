@@ -1,0 +1,155 @@
+//! What is taken, learnt and judged.
+
+ghost use Rattle.std.specs.Prelude.{◌≡◌, ◌≤◌, Bool, IfNone, IfSome, None, Some, false, if◌then◌else◌, is_some, map, option_map, option_to_list, true};
+ghost use Rattle.fd_core.specs.Commands.{device_take};
+ghost use Rattle.fd_core.specs.Steps.{applied_by, device_verdict, verdict_after};
+ghost use Rattle.fd_core.specs.Wishes.{has_failed};
+ghost use Rattle.fw_world.specs.History.{EntryOf};
+ghost use Rattle.fw_world.specs.Nodes.{Rose};
+ghost use Rattle.fw_world.specs.Pairs.{StepOf, activated_down, quietly, step_of};
+
+use crate::cell::Held;
+use crate::pair::{Pair, lent};
+use fd_core::{Bank, Device, Progress, State, Verdict};
+use fw_package::Package;
+use pldm_base::completion::ERROR;
+use ua_core::Recorded;
+
+impl<'a, B: Bank> Pair<'a, B> {
+    /// The session takes what the device asked, and answers it. None where nothing waits to be taken; else what the
+    /// session recorded.
+    #[tactic(auto, unfolding(crate::specs::Pairs::up_taken), using(crate::proofs::Records::recorded_behind))]
+    pub fn take_up(&mut self, packages: &'a [Package]) -> Option<Option<Recorded>>
+        ensures step { step_of packages.now self.old.node.pair StepOf.TakeUp ≡ option_map (λ r. record { after = self.new.node.pair; noted = map EntryOf.Recording (option_to_list r) }) result }
+        ensures same { result ≡ None → self.new ≡ self.old }
+        ensures eid { self.new.node.eid ≡ self.old.node.eid }
+        ensures faults { self.new.faults ≡ self.old.faults }
+    {
+        let Some(held) = &mut self.up else {
+            return None;
+        };
+        if held.is_taken() {
+            return None;
+        }
+        let made = self.session.records().len();
+        let lent = lent(packages, self.session.package());
+        let reply = self.session.take(&held.command(), &lent);
+        held.take(reply);
+        Some(self.session.records().get(made).copied())
+    }
+
+    /// The device takes what the agent asked, and answers it. None where nothing waits to be taken, or where the device
+    /// would be told that it is quiet while its own cell isn't empty; else whether its bank worked.
+    #[tactic(auto, unfolding(crate::specs::Pairs::down_taken), using(crate::proofs::Components::take_components))]
+    pub fn take_down(&mut self, packages: &'a [Package], quiet: bool) -> Option<bool>
+        ensures step { IfSome result (λ works. step_of packages.now self.old.node.pair (StepOf.TakeDown quiet works) ≡ Some (record {
+            after = self.new.node.pair;
+            noted = map EntryOf.Activated (activated_down self.old.node.pair quiet works);
+        })) }
+        ensures none { IfNone result ((works : Bool) → step_of packages.now self.old.node.pair (StepOf.TakeDown quiet works) ≡ None) }
+        ensures same { result ≡ None → self.new ≡ self.old }
+        ensures failed { result ≡ Some false → Rose self.old.faults self.new.faults }
+        ensures eid { self.new.node.eid ≡ self.old.node.eid }
+        ensures faults { self.old.faults ≤ self.new.faults }
+    {
+        let Some(held) = &mut self.down else {
+            return None;
+        };
+        if held.is_taken() || quiet && self.up.is_some() {
+            return None;
+        }
+        let reply = self.device.take(&held.command(), quiet);
+        let works = !matches!(reply.as_slice(), [ERROR, ..]);
+        held.take(reply);
+        Some(works)
+    }
+
+    /// A verdict on the image that the device has written. None where it doesn't count; else whether its bank worked.
+    #[tactic(auto, using(crate::proofs::Components::judge_components, crate::proofs::Working::judges_alike))]
+    pub fn judge(&mut self, packages: &'a [Package], verdict: Verdict) -> Option<bool>
+        ensures step { IfSome result (λ works. step_of packages.now self.old.node.pair (StepOf.Judge verdict works) ≡ Some (record {
+            after = self.new.node.pair;
+            noted = map EntryOf.Applied (applied_by self.old.node.pair.device verdict works);
+        })) }
+        ensures none { IfNone result ((works : Bool) → step_of packages.now self.old.node.pair (StepOf.Judge verdict works) ≡ None) }
+        ensures same { result ≡ None → self.new ≡ self.old }
+        ensures failed { result ≡ Some false → Rose self.old.faults self.new.faults }
+        ensures eid { self.new.node.eid ≡ self.old.node.eid }
+        ensures faults { self.old.faults ≤ self.new.faults }
+    {
+        let Ok(()) = self.device.verdict(verdict) else {
+            return None;
+        };
+        Some(verdict != Verdict::ApplyOk || !has_failed(&self.device))
+    }
+
+    /// Whether the device waits for this verdict.
+    pub fn awaits(&self, verdict: Verdict) -> bool
+        ensures { (works : Bool) → is_some (device_verdict self.now.node.pair.device verdict works) ≡ result }
+    {
+        let progress = self.device.progress();
+        match self.device.state() {
+            State::Verify => matches!(
+                (progress, verdict),
+                (Some(Progress::InProgress), Verdict::VerifyOk | Verdict::VerifyFail)
+            ),
+            State::Apply => matches!(
+                (progress, verdict),
+                (Some(Progress::InProgress), Verdict::ApplyOk | Verdict::ApplyFail)
+            ),
+            _ => false,
+        }
+    }
+
+    /// The session learns the answer that it waits for. False where there is none.
+    pub fn learn_down(&mut self, packages: &'a [Package]) -> bool
+        ensures step { step_of packages.now self.old.node.pair StepOf.LearnDown ≡ (if result then Some (quietly self.new.node.pair) else None) }
+        ensures same { result ≡ false → self.new ≡ self.old }
+        ensures eid { self.new.node.eid ≡ self.old.node.eid }
+        ensures faults { self.new.faults ≡ self.old.faults }
+    {
+        let Some(held) = &self.down else {
+            return false;
+        };
+        if !held.is_live() {
+            return false;
+        }
+        let Some(answer) = held.answer() else {
+            return false;
+        };
+        let lent = lent(packages, self.session.package());
+        self.session.learn(Ok(&answer), &lent);
+        self.down = None;
+        true
+    }
+
+    /// The device learns the answer that it waits for. None where there is none; else whether its bank worked.
+    #[tactic(auto, using(crate::proofs::Components::learn_components, crate::proofs::Working::learns_failed))]
+    pub fn learn_up(&mut self, packages: &'a [Package]) -> Option<bool>
+        ensures step { IfSome result (λ works. step_of packages.now self.old.node.pair (StepOf.LearnUp works) ≡ Some (quietly self.new.node.pair)) }
+        ensures none { IfNone result ((works : Bool) → step_of packages.now self.old.node.pair (StepOf.LearnUp works) ≡ None) }
+        ensures same { result ≡ None → self.new ≡ self.old }
+        ensures failed { result ≡ Some false → Rose self.old.faults self.new.faults }
+        ensures eid { self.new.node.eid ≡ self.old.node.eid }
+        ensures faults { self.old.faults ≤ self.new.faults }
+    {
+        let Some(held) = &self.up else {
+            return None;
+        };
+        if !held.is_live() {
+            return None;
+        }
+        let answer = held.answer()?;
+        let had_failed = has_failed(&self.device);
+        self.device.learn(Ok(&answer));
+        self.up = None;
+        Some(had_failed || !has_failed(&self.device))
+    }
+}
+
+/// Whether the work of the device's state failed.
+fn has_failed<B: Bank>(device: &Device<B>) -> bool
+    ensures { result ≡ has_failed device.now.device.phase }
+{
+    matches!(device.progress(), Some(Progress::Failed { .. }))
+}
