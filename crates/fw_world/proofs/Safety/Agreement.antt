@@ -4,14 +4,13 @@ use Rattle.fw_package.specs.Choice.{component_at, record_number}
 use Rattle.fw_package.specs.Package.{ComponentOf, DescriptorOf, PackageText}
 use Rattle.fwup_wire.specs.Values.{AnswerOf, CommandOf}
 use Rattle.fd_core.specs.Images.{RowOf}
-use Rattle.fd_core.specs.States.{DeviceState, Phase, WorkOf}
+use Rattle.fd_core.specs.States.{Phase, WorkOf}
 use Rattle.fd_core.specs.Wishes.{device_wish}
-use Rattle.fd_core.specs.declared.states.Progress.{Progress}
 use Rattle.fd_core.specs.declared.states.Progress.TheVariants as progress
 use Rattle.ua_core.specs.Laws.{StandsInPlan}
 use Rattle.ua_core.specs.Lent.{key_of, told_descriptor}
 use Rattle.ua_core.specs.Serve.{window}
-use Rattle.ua_core.specs.Session.{JobOf, SessionOf, Stage, TaskOf}
+use Rattle.ua_core.specs.Session.{JobOf, Stage, TaskOf}
 use Rattle.ua_core.specs.declared.planned.Recorded.{Recorded}
 use Rattle.fw_world.specs.History.{EntryOf, package_at}
 use Rattle.fw_world.specs.Pairs.{HeldOf, PairOf, down_wish}

@@ -1,5 +1,5 @@
 -- What is applied on a device, row by row.
-use Rattle.std.specs.Prelude.{ℕ, ◌≡◌, ◌⊎◌, Bool, true, false, List, [], ◌∷◌, ◌++◌, map, All, Option, Some, None, IsSomeAnd, if◌then◌else◌}
+use Rattle.std.specs.Prelude.{ℕ, ◌≡◌, Bool, true, false, List, [], ◌∷◌, ◌++◌, All, Option, Some, None}
 use Rattle.std.specs.Bool.{OnTrue, OnFalse}
 use Rattle.std.proofs.Common.{refl, sym, ap, ◌∙◌, inl, inr, subst}
 use Rattle.std.proofs.lemmas.Bool.{cond_both}
@@ -7,13 +7,12 @@ use Rattle.std.proofs.lemmas.List.Elements.{All-nil, All-cons, All-head, All-tai
 use Rattle.fw_package.specs.Choice.{component_at, image_for}
 use Rattle.fw_package.specs.Package.{DescriptorOf, PackageText}
 use Rattle.fwup_wire.specs.declared.values.Key.{Key}
-use Rattle.fd_core.specs.Images.{ImageOf, Put, RowOf, dropped, put_among, put_applied, puts, rises, same_key, sealed, sealed_if, switched, turned, turned_to, unapplied}
+use Rattle.fd_core.specs.Images.{ImageOf, Put, RowOf, dropped, put_among, put_applied, puts, rises, same_key, sealed, sealed_if, switched, turned_to}
 use Rattle.ua_core.specs.Lent.{key_of}
 use Rattle.ua_core.specs.declared.planned.Recorded.{Recorded}
 use Rattle.fw_world.specs.History.{HasRecording, IsFrom, package_at}
 use Rattle.fw_world.proofs.Safety.Counts.{recorded_component}
-use Rattle.fw_world.proofs.Safety.Readings.{through}
-use Rattle.fw_world.proofs.Safety.Same.{key_means, key_self}
+use Rattle.fw_world.proofs.Safety.Same.{key_means}
 
 abbrev pub put_of : Key → ImageOf → Put
 put_of key image = record { key = key; bytes = image.bytes }

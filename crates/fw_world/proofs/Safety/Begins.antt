@@ -1,24 +1,23 @@
 -- RequestUpdate, PassComponentTable, UpdateComponent and ActivateFirmware that a device accepts keep what stands.
-use Rattle.std.specs.Prelude.{◌≡◌, ◌⊎◌, ◌<◌, ◌≤◌, ◌==◌, ◌||◌, not, nat_lt, ℕ, Bool, true, false, if◌then◌else◌, List, [], length, map, Option, Some, None}
-use Rattle.std.proofs.Common.{refl, sym, subst, ap, arith, inl, inr, ◌∙◌}
-use Rattle.std.proofs.lemmas.Bool.{ltb-true, ltb-false, cond_both, cond-false}
+use Rattle.std.specs.Prelude.{◌≡◌, ◌<◌, ◌≤◌, ◌==◌, ◌||◌, not, nat_lt, ℕ, Bool, true, false, if◌then◌else◌, List, [], length, Option, Some, None}
+use Rattle.std.proofs.Common.{refl, subst, ap, arith}
+use Rattle.std.proofs.lemmas.Bool.{ltb-true, ltb-false, cond_both}
 use Rattle.fw_package.specs.Package.{ComponentOf, DescriptorOf, PackageText}
 use Rattle.fwup_wire.specs.Values.{AnswerOf, CommandOf, EntryOf as ListedOf, OfferOf, RequestOf, VersionOf}
-use Rattle.fd_core.specs.Codes.{longest_image}
-use Rattle.fd_core.specs.Commands.{OfferRow, RequestRow, SwitchRow, TableRow, Taken, download_progress, flag_at, has_applied, in_table, is_flag, is_odd_request, lacks, listed, offer_by, offer_restriction, offer_row, offer_take, offer_under, request_by, request_row, request_take, restriction, switch_by, switch_row, switch_take, table_by, table_response, table_row, table_take, update_begun, with_entry, work_begun, declined}
-use Rattle.fd_core.specs.Images.{RowOf, dropped, puts, switched}
+use Rattle.fd_core.specs.Commands.{OfferRow, RequestRow, SwitchRow, TableRow, download_progress, flag_at, in_table, is_flag, offer_by, offer_restriction, offer_row, offer_take, offer_under, request_by, request_row, request_take, restriction, switch_by, switch_row, switch_take, table_by, table_response, table_row, table_take, with_entry, work_begun, declined}
+use Rattle.fd_core.specs.Images.{RowOf}
 use Rattle.fd_core.specs.States.{DeviceState, Phase, UpdateOf, WorkOf, moved, state_of}
 use Rattle.fd_core.specs.declared.states.State.{State}
-use Rattle.fd_core.specs.Wishes.{device_wish, wish_at}
+use Rattle.fd_core.specs.Wishes.{wish_at}
 use Rattle.fd_core.specs.declared.parts.Component.{Component}
 use Rattle.fd_core.specs.declared.states.Progress.{Progress}
 use Rattle.fd_core.specs.declared.states.Progress.TheVariants as progress
 use Rattle.ua_core.specs.Lent.{is_forced, key_of, sent_size, sent_version}
-use Rattle.ua_core.specs.Session.{Stage, TaskOf}
-use Rattle.ua_core.specs.Wish.{offer_wish, stage_wish}
+use Rattle.ua_core.specs.Session.{Stage}
+use Rattle.ua_core.specs.Wish.{stage_wish}
 use Rattle.ua_core.specs.declared.planned.Recorded.{Recorded}
 use Rattle.fw_world.specs.History.{EntryOf, package_at}
-use Rattle.fw_world.specs.Pairs.{HeldOf, PairOf, Stepped, down_taken, noted, with_down}
+use Rattle.fw_world.specs.Pairs.{HeldOf, PairOf, down_taken, noted, with_down}
 use Rattle.fw_world.proofs.Safety.Agreement.{AreTold, CommandStands, Holds, IsBegun, IsBegunAt, IsSame, IsStanding, NothingAccepted, OwnStands, Pending, Settled, StageForm, TableTime, Together, Waiting, at_hand, command_of, reply_of}
 use Rattle.fw_world.proofs.Safety.Applied.{NoneApplied, none_dropped}
 use Rattle.fw_world.proofs.Safety.Histories.{history_activated, history_dropped}

@@ -1,28 +1,25 @@
 -- The operator's calls, time and restarts keep what stands.
-use Rattle.std.specs.Prelude.{◌≡◌, ℕ, Bool, true, false, if◌then◌else◌, List, [], length, map, Option, Some, None}
+use Rattle.std.specs.Prelude.{◌≡◌, ℕ, Bool, true, false, if◌then◌else◌, List, [], Option, Some, None}
 use Rattle.std.specs.Option.{IfSome, option_map}
-use Rattle.std.proofs.Common.{refl, sym, subst}
+use Rattle.std.proofs.Common.{refl}
 use Rattle.std.proofs.lemmas.Bool.{cond_both}
 use Rattle.fw_package.specs.Package.{DescriptorOf, PackageText}
-use Rattle.fwup_wire.specs.Values.{AnswerOf, CommandOf}
 use Rattle.fd_core.specs.Images.{RowOf}
 use Rattle.fd_core.specs.States.{state_of}
 use Rattle.fd_core.specs.Steps.{device_restart, device_timeout, timeout_reason, times_out as device_times_out}
 use Rattle.fd_core.specs.declared.states.Reason.TheVariants as reasons
 use Rattle.fd_core.specs.declared.states.State.TheVariants as states
-use Rattle.ua_core.specs.Calls.{agent_activated, agent_cancelled, agent_restart, agent_silent, agent_started, agent_timeout, activated_stage, may_cancel, silent_stage, timeout_stage, times_out as session_times_out}
+use Rattle.ua_core.specs.Calls.{agent_started, agent_timeout, activated_stage, may_cancel, silent_stage, timeout_stage, times_out as session_times_out}
 use Rattle.ua_core.specs.Laws.{IsLoose}
 use Rattle.ua_core.specs.Session.{JobOf, SessionOf, Stage, at_stage}
-use Rattle.ua_core.specs.declared.planned.Recorded.{Recorded}
-use Rattle.fw_world.specs.History.{EntryOf, package_at}
+use Rattle.fw_world.specs.History.{EntryOf}
 use Rattle.fw_world.specs.Pairs.{HeldOf, PairOf, StepOf, Stepped, activate_with, closed, given_up, may_start, quietly, silenced, step_of, with_down, with_session, with_up}
 use Rattle.fw_world.specs.declared.side.Side.TheVariants as sides
 use Rattle.fw_world.specs.declared.side.Way.TheVariants as ways
-use Rattle.fw_world.proofs.Safety.Agreement.{Activation, CommandStands, IsStanding, Settled, StandsOpen, reply_of}
+use Rattle.fw_world.proofs.Safety.Agreement.{IsStanding, StandsOpen}
 use Rattle.fw_world.proofs.Safety.Cells.{closed_up}
 use Rattle.fw_world.proofs.Safety.Down.{Leaves}
-use Rattle.fw_world.proofs.Safety.Loose.{cell, idle_device, loose_stands, loosened, reset_stands}
-use Rattle.fw_world.proofs.Safety.Readings.{since}
+use Rattle.fw_world.proofs.Safety.Loose.{loose_stands, loosened, reset_stands}
 
 loose_silent : (g : Stage) → IsLoose (silent_stage g)
 loose_silent Stage.Cancelling = tt

@@ -1,6 +1,6 @@
 -- Cells that are filled, emptied and closed keep what stands.
-use Rattle.std.specs.Prelude.{◌≡◌, ◌⊎◌, ℕ, Bool, true, false, if◌then◌else◌, List, [], length, Option, Some, None}
-use Rattle.std.proofs.Common.{refl, sym, subst, ap, inl, inr}
+use Rattle.std.specs.Prelude.{◌≡◌, ℕ, Bool, true, false, if◌then◌else◌, List, length, Option, Some, None}
+use Rattle.std.proofs.Common.{refl, sym, subst, inl, inr}
 use Rattle.fw_package.specs.Package.{ComponentOf, DescriptorOf, PackageText}
 use Rattle.fwup_wire.specs.Values.{AnswerOf, CommandOf}
 use Rattle.fd_core.specs.Images.{RowOf}
@@ -11,9 +11,9 @@ use Rattle.ua_core.specs.Session.{Stage}
 use Rattle.ua_core.specs.Wish.{stage_wish}
 use Rattle.ua_core.specs.declared.planned.Recorded.{Recorded}
 use Rattle.fw_world.specs.History.{EntryOf, package_at}
-use Rattle.fw_world.specs.Pairs.{HeldOf, PairOf, StepOf, asked, down_wish, dropped_cell, fresh_cell, given_up, put_down, put_up, step_of, with_down, with_up}
+use Rattle.fw_world.specs.Pairs.{HeldOf, PairOf, StepOf, asked, dropped_cell, fresh_cell, given_up, put_down, put_up, step_of, with_down, with_up}
 use Rattle.fw_world.specs.declared.side.Way.TheVariants as ways
-use Rattle.fw_world.proofs.Safety.Agreement.{Application, CommandStands, IsBegunAt, IsStanding, IsUnderWay, OwnStands, Pending, StandsOpen, Together, Transfer, UpdateOffered, Verification, at_hand, command_of, is_applied, is_offered, is_sealed, reply_of}
+use Rattle.fw_world.proofs.Safety.Agreement.{Application, CommandStands, IsBegunAt, IsStanding, OwnStands, Pending, Together, Transfer, UpdateOffered, Verification, at_hand, command_of, is_applied, is_offered, is_sealed, reply_of}
 use Rattle.fw_world.proofs.Safety.Down.{Leaves}
 use Rattle.fw_world.proofs.Safety.Readings.{since}
 
@@ -95,8 +95,9 @@ module _ (ps : List PackageText) (ds : List DescriptorOf) where
 
   asked_pending : (es : List EntryOf) (m : PairOf) (c : CommandOf) (n : ℕ) (g : Stage) → device_wish m.device ≡ Some c → Pending ps es (with_up m None) n g → Pending ps es (with_up m (Some (fresh_cell c))) n g
   asked_pending es m c n (Stage.Apply t) e h = λ k. elim k [
-    inl sealed ↦ h (inl sealed)
-    | inr told ↦ h (inl (applied_sealed m.device.phase (length m.device.stage) (subst (λ (x : Option CommandOf). is_applied x ≡ true) (sym e) told))) ]
+    | inl sealed ↦ h (inl sealed)
+    | inr told ↦ h (inl (applied_sealed m.device.phase (length m.device.stage) (subst (λ (x : Option CommandOf). is_applied x ≡ true) (sym e) told)))
+  ]
   asked_pending es m c n g e h = tt
 
   -- the agent's cell is emptied where nobody waits for it

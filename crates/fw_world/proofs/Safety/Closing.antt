@@ -1,5 +1,5 @@
 -- Closing cells keeps what stands.
-use Rattle.std.specs.Prelude.{◌≡◌, true, List, map, Option, Some, None}
+use Rattle.std.specs.Prelude.{◌≡◌, true, List, Option, Some, None}
 use Rattle.std.proofs.Common.{refl}
 use Rattle.fw_package.specs.Package.{DescriptorOf, PackageText}
 use Rattle.fwup_wire.specs.Values.{CommandOf}

@@ -1,18 +1,17 @@
 -- What the agent asks, and what the device answers, keeps what stands.
-use Rattle.std.specs.Prelude.{◌≡◌, ℕ, ◌&&◌, not, Bool, true, false, if◌then◌else◌, List, [], length, map, Option, Some, None}
+use Rattle.std.specs.Prelude.{◌≡◌, ℕ, ◌&&◌, not, Bool, true, false, if◌then◌else◌, List, Option, Some, None}
 use Rattle.std.specs.Option.{IfSome}
 use Rattle.std.proofs.Common.{refl, sym, subst}
 use Rattle.fw_package.specs.Package.{DescriptorOf, PackageText}
 use Rattle.fwup_wire.specs.Values.{AnswerOf, CommandOf}
 use Rattle.fd_core.specs.Commands.{all_parameters, device_take, status_of}
 use Rattle.fd_core.specs.Images.{RowOf}
-use Rattle.fd_core.specs.States.{Phase}
-use Rattle.ua_core.specs.Session.{SessionOf, Stage}
+use Rattle.ua_core.specs.Session.{Stage}
 use Rattle.ua_core.specs.Wish.{stage_wish}
 use Rattle.ua_core.specs.declared.planned.Recorded.{Recorded}
 use Rattle.fw_world.specs.History.{EntryOf, package_at}
-use Rattle.fw_world.specs.Pairs.{HeldOf, PairOf, StepOf, Stepped, asked, closed, down_taken, down_wish, dropped_cell, fresh_cell, given_up, is_empty, noted, put_down, step_of, take_down, take_down_at, with_down}
-use Rattle.fw_world.proofs.Safety.Agreement.{AreTold, CommandStands, IsStanding, Stray, Together, asked_of, reply_of}
+use Rattle.fw_world.specs.Pairs.{HeldOf, PairOf, StepOf, Stepped, asked, down_taken, down_wish, fresh_cell, is_empty, put_down, step_of, take_down, take_down_at, with_down}
+use Rattle.fw_world.proofs.Safety.Agreement.{CommandStands, IsStanding, Stray, Together}
 use Rattle.fw_world.proofs.Safety.Begins.{offer_stands, request_stands, switch_stands, table_stands}
 use Rattle.fw_world.proofs.Safety.Loose.{cell}
 use Rattle.fw_world.proofs.Safety.Readings.{since}

@@ -1,6 +1,6 @@
 -- A history that goes on: it stays safe, and tied with the device and the records.
-use Rattle.std.specs.Prelude.{ℕ, ◌≡◌, ◌≤◌, List, [], ◌∷◌, ◌++◌, map, take, length, All, Contains, Option, Some, None, IfSome, IsSomeAnd, Bool, true, false}
-use Rattle.std.proofs.Common.{refl, sym, ap, ◌∙◌, subst, append-nil}
+use Rattle.std.specs.Prelude.{ℕ, ◌≡◌, ◌≤◌, List, [], ◌∷◌, ◌++◌, map, take, length, All, Contains, Option, Some, None, IfSome, Bool, true, false}
+use Rattle.std.proofs.Common.{refl, sym, ap, ◌∙◌, subst}
 use Rattle.std.proofs.Math.Seq.{take-length}
 use Rattle.std.proofs.lemmas.List.Elements.{All-nil, All-cons, All-head, All-tail, All-push, Contains-push, Contains-append_left}
 use Rattle.fw_package.specs.Package.{DescriptorOf, PackageText}
@@ -8,7 +8,7 @@ use Rattle.fwup_wire.specs.declared.values.Key.{Key}
 use Rattle.fd_core.specs.Images.{ImageOf, Put, RowOf, dropped, puts, same_key, sealed, sealed_if, switched, turned, turned_to, unapplied}
 use Rattle.ua_core.specs.Lent.{key_of}
 use Rattle.ua_core.specs.declared.planned.Recorded.{Recorded}
-use Rattle.fw_world.specs.History.{ActivationOf, EntryOf, IsFrom, IsNamed, IsOfOnePackage, IsSafe, IsTied, Reading, WasApplied, activations, activations_read, and_current, applied_count, applied_since, joined_by, nothing_read, read_along, read_entry, recorded_count, recorded_in, running, running_after}
+use Rattle.fw_world.specs.History.{ActivationOf, EntryOf, IsFrom, IsNamed, IsOfOnePackage, IsSafe, IsTied, WasApplied, activations, activations_read, and_current, applied_count, applied_since, joined_by, nothing_read, read_along, recorded_count, recorded_in, running}
 use Rattle.fw_world.specs.Pairs.{noted}
 use Rattle.fw_world.proofs.Safety.Applied.{Backed, NoneApplied, none_dropped, none_switched, put_of, puts_from, puts_none}
 use Rattle.fw_world.proofs.Safety.Counts.{IsPending, NeverMore, never_activated, never_applied, never_recorded, prefix_more, recorded_component}

@@ -1,27 +1,26 @@
 -- What the session learns keeps what stands.
-use Rattle.std.specs.Prelude.{◌≡◌, ℕ, ◌==◌, ◌||◌, ◌&&◌, ◌++◌, Bool, true, false, if◌then◌else◌, List, [], ◌∷◌, length, map, Option, Some, None, Result, Ok, Err}
-use Rattle.std.specs.Option.{IfSome}
-use Rattle.std.proofs.Common.{refl, sym, subst, ◌∙◌, ap}
+use Rattle.std.specs.Prelude.{◌≡◌, ℕ, ◌==◌, ◌||◌, Bool, true, false, if◌then◌else◌, List, [], ◌∷◌, map, Option, Some, None, Result, Ok, Err}
+use Rattle.std.proofs.Common.{refl, sym, subst, ap}
 use Rattle.std.proofs.lemmas.Bool.{cond_both, eqb-true}
 use Rattle.fw_package.specs.Choice.{component_at, plan_of, record_number}
 use Rattle.fw_package.specs.Package.{ComponentOf, DescriptorOf, PackageText}
 use Rattle.fw_package.specs.declared.fault.PlanFault.{PlanFault}
 use Rattle.fwup_wire.specs.Values.{AnswerOf, CommandOf}
 use Rattle.fd_core.specs.Images.{RowOf}
-use Rattle.fd_core.specs.States.{DeviceState, Phase, WorkOf}
+use Rattle.fd_core.specs.States.{Phase, WorkOf}
 use Rattle.fd_core.specs.declared.states.Progress.TheVariants as progress
 use Rattle.ua_core.specs.Laws.{LearnsInPlan, StandsInPlan}
-use Rattle.ua_core.specs.Learn.{LearnRow, activate_row, begun, clear_row, fails, first_pass, first_task, is_to_do, job_for, job_of, learn_by, learn_row, next_pass, pass_row, planned, query_row, request_row, update_row, with_passed}
+use Rattle.ua_core.specs.Learn.{LearnRow, begun, fails, first_pass, first_task, job_for, job_of, learn_by, learn_row, next_pass, planned, with_passed}
 use Rattle.ua_core.specs.Lent.{told_descriptor}
-use Rattle.ua_core.specs.Session.{JobOf, SessionOf, Stage, TaskOf, at_stage}
+use Rattle.ua_core.specs.Session.{JobOf, SessionOf, Stage, TaskOf}
 use Rattle.ua_core.specs.Wish.{stage_wish}
 use Rattle.ua_core.specs.declared.planned.Planned.{Planned}
 use Rattle.ua_core.specs.declared.planned.Recorded.{Recorded}
 use Rattle.ua_core.specs.declared.state.Cause.{Cause}
 use Rattle.ua_core.specs.declared.state.Cause.TheVariants as causes
 use Rattle.fw_world.specs.History.{EntryOf, package_at}
-use Rattle.fw_world.specs.Pairs.{HeldOf, PairOf, StepOf, Stepped, brought, learn_down, noted, step_of, with_down}
-use Rattle.fw_world.proofs.Safety.Agreement.{AreTold, Cleared, CommandStands, FreshIn, HasChosen, IsBegun, IsBegunAt, IsChosen, IsPiece, IsPieceOf, IsStanding, IsTransfer, NothingAccepted, Pending, TableTime, Together, Transfer, UpdateOffered, Waiting, at_hand, command_of, is_offered, reply_of}
+use Rattle.fw_world.specs.Pairs.{HeldOf, PairOf, StepOf, brought, learn_down, step_of, with_down}
+use Rattle.fw_world.proofs.Safety.Agreement.{AreTold, Cleared, CommandStands, FreshIn, HasChosen, IsBegun, IsBegunAt, IsChosen, IsPieceOf, IsStanding, IsTransfer, NothingAccepted, Pending, TableTime, Together, Transfer, UpdateOffered, Waiting, at_hand, command_of, reply_of}
 use Rattle.fw_world.proofs.Safety.Applied.{none_backed}
 use Rattle.fw_world.proofs.Safety.Down.{Leaves}
 use Rattle.fw_world.proofs.Safety.Loose.{cell}
@@ -139,8 +138,8 @@ module _ (ps : List PackageText) (ds : List DescriptorOf) (es : List EntryOf) wh
   update_learns m s n t (AnswerOf.UpdateComponent response) d l c h =
       cond_both (response.compatibility == 0) (LearnRow.Go (Stage.Download t)) (fails causes.Refused) (Learns m s n (Stage.Update t))
       (λ e.
-        let P : Bool → Type 0 = λ b. UpdateOffered ps ds n (since es) (at_hand (package_at ps n) t) m.device.rows m.device.stage m.device.phase (reply_of m.up) b in
-        (begun_at n (since es) (at_hand (package_at ps n) t) m.device.rows m.device.stage m.device.phase (command_of m.up) (reply_of m.up) (subst P e h), tt, c))
+      let P : Bool → Type 0 = λ b. UpdateOffered ps ds n (since es) (at_hand (package_at ps n) t) m.device.rows m.device.stage m.device.phase (reply_of m.up) b in
+      (begun_at n (since es) (at_hand (package_at ps n) t) m.device.rows m.device.stage m.device.phase (command_of m.up) (reply_of m.up) (subst P e h), tt, c))
       (λ e. failed m s n (Stage.Update t) causes.Refused)
   update_learns m s n t (AnswerOf.Refused code) d l c h =
       cond_both ((code == 4) || (code == 0x84)) LearnRow.Stay (fails causes.Answer) (Learns m s n (Stage.Update t)) (λ e. h) (λ e. failed m s n (Stage.Update t) causes.Answer)

@@ -1,10 +1,10 @@
 -- A device that goes to IDLE, and a session that begins nothing, keep what stands.
-use Rattle.std.specs.Prelude.{◌≡◌, ◌⊎◌, ℕ, Bool, true, false, List, [], length, map, Option, Some, None}
-use Rattle.std.proofs.Common.{refl, inl, inr}
+use Rattle.std.specs.Prelude.{ℕ, Bool, true, false, List, Option, Some}
+use Rattle.std.proofs.Common.{inl, inr}
 use Rattle.fw_package.specs.Package.{DescriptorOf, PackageText, ComponentOf}
 use Rattle.fwup_wire.specs.Values.{AnswerOf, CommandOf}
 use Rattle.fd_core.specs.Images.{RowOf, dropped}
-use Rattle.fd_core.specs.States.{DeviceState, Phase, reset}
+use Rattle.fd_core.specs.States.{DeviceState, Phase}
 use Rattle.fd_core.specs.declared.states.Reason.{Reason}
 use Rattle.fd_core.specs.declared.states.State.{State}
 use Rattle.ua_core.specs.Laws.{IsLoose, StandsInPlan}
@@ -13,7 +13,7 @@ use Rattle.ua_core.specs.Wish.{stage_wish}
 use Rattle.ua_core.specs.declared.planned.Recorded.{Recorded}
 use Rattle.fw_world.specs.History.{EntryOf, package_at}
 use Rattle.fw_world.specs.Pairs.{HeldOf, PairOf}
-use Rattle.fw_world.proofs.Safety.Agreement.{Activation, AreTold, Cleared, CommandStands, FreshUpdate, HasChosen, IsStanding, IsUnderWay, Pending, Stray, Together, UpdateOffered, asked_of, at_hand, is_offered, reply_of}
+use Rattle.fw_world.proofs.Safety.Agreement.{Activation, AreTold, Cleared, CommandStands, FreshUpdate, HasChosen, IsStanding, Pending, Stray, Together, UpdateOffered, asked_of, at_hand, is_offered, reply_of}
 use Rattle.fw_world.proofs.Safety.Histories.{history_dropped}
 use Rattle.fw_world.proofs.Safety.Readings.{since}
 

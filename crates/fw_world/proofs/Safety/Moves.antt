@@ -1,26 +1,16 @@
 -- A device that moves on with its own work keeps what stands.
-use Rattle.std.specs.Prelude.{◌≡◌, ◌⊎◌, ◌<◌, ◌≤◌, ◌+◌, ◌-◌, ◌++◌, ◌==◌, ℕ, min, Bool, true, false, if◌then◌else◌, List, [], ◌∷◌, length, map, take, Option, Some, None}
-use Prim.Native.Nat.{suc, zero}
-use Rattle.std.specs.Option.{IfSome}
-use Rattle.std.proofs.Common.{refl, sym, subst, ap, inl, inr, ◌∙◌, arith}
-use Rattle.std.proofs.lemmas.List.{length-take, length-append}
+use Rattle.std.specs.Prelude.{ℕ, Bool, true, false, List, length, Option, Some}
 use Rattle.fw_package.specs.Package.{ComponentOf, DescriptorOf, PackageText}
 use Rattle.fwup_wire.specs.Values.{AnswerOf, CommandOf}
-use Rattle.fd_core.specs.Commands.{download_progress}
 use Rattle.fd_core.specs.Images.{RowOf}
-use Rattle.fd_core.specs.States.{DeviceState, Phase, UpdateOf, WorkOf}
-use Rattle.fd_core.specs.Wishes.{asked_length, device_wish, stage_with, wish_at}
-use Rattle.fd_core.specs.declared.states.Progress.{Progress}
-use Rattle.fd_core.specs.declared.states.Progress.TheVariants as progress
+use Rattle.fd_core.specs.States.{DeviceState, Phase}
+use Rattle.fd_core.specs.Wishes.{wish_at}
 use Rattle.fd_core.specs.declared.states.State.{State}
-use Rattle.ua_core.specs.Laws.{WindowContinues}
-use Rattle.ua_core.specs.Serve.{window}
 use Rattle.ua_core.specs.Session.{Stage}
 use Rattle.ua_core.specs.declared.planned.Recorded.{Recorded}
 use Rattle.fw_world.specs.History.{EntryOf, package_at}
 use Rattle.fw_world.specs.Pairs.{HeldOf, PairOf}
-use Rattle.fw_world.proofs.Safety.Agreement.{Activation, Application, Cleared, FreshIn, FreshUpdate, IsBegunAt, IsLost, IsPieceOf, IsStanding, IsTransfer, IsUnderWay, OwnStands, Pending, Settled, StageForm, Stray, TableTime, Together, Transfer, UpdateOffered, Verification, Waiting, asked_of, at_hand, command_of, is_offered, reply_of}
-use Rattle.fw_world.proofs.Safety.Begins.{full_either}
+use Rattle.fw_world.proofs.Safety.Agreement.{Activation, Application, Cleared, FreshIn, FreshUpdate, IsBegunAt, IsLost, IsStanding, IsUnderWay, OwnStands, Pending, Settled, StageForm, Stray, TableTime, Together, Transfer, UpdateOffered, Verification, Waiting, asked_of, at_hand, command_of, is_offered, reply_of}
 use Rattle.fw_world.proofs.Safety.Readings.{since}
 
 abbrev pub with_device : PairOf → DeviceState → Option HeldOf → PairOf

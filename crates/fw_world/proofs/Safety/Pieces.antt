@@ -1,5 +1,5 @@
 -- A list that comes in pieces.
-use Rattle.std.specs.Prelude.{◌≡◌, ◌≤◌, ◌<◌, ◌+◌, ◌-◌, ◌++◌, ℕ, min, List, [], ◌∷◌, length, take}
+use Rattle.std.specs.Prelude.{◌≡◌, ◌≤◌, ◌+◌, ◌-◌, ◌++◌, ℕ, min, List, [], ◌∷◌, length, take}
 use Prim.Native.Nat.{suc, zero}
 use Rattle.std.proofs.Common.{refl, sym, subst, ap, ◌∙◌, arith}
 use Rattle.std.proofs.lemmas.List.{length-take, length-append}
@@ -23,9 +23,9 @@ pub piece_kept : (law : WindowContinues) (image stage bytes : List ℕ) (size n 
 piece_kept law image stage bytes size n long s le b =
     let whole : take (length image) (take (length stage) image ++ window image (length stage) n) ≡ take (length stage + n) image = law image (length stage) n in
     let half : take (length image) (stage ++ window image (length stage) n) ≡ take (length stage + n) image =
-        subst (λ (xs : List ℕ). take (length image) (xs ++ window image (length stage) n) ≡ take (length stage + n) image) (sym s) whole in
+    subst (λ (xs : List ℕ). take (length image) (xs ++ window image (length stage) n) ≡ take (length stage + n) image) (sym s) whole in
     let put : take size (stage ++ bytes) ≡ take (length stage + n) image =
-        ap (λ k. take k (stage ++ bytes)) long ∙ ap (λ ys. take (length image) (stage ++ ys)) b ∙ half in
+    ap (λ k. take k (stage ++ bytes)) long ∙ ap (λ ys. take (length image) (stage ++ ys)) b ∙ half in
     let is : stage ++ take (size - length stage) bytes ≡ take (length stage + n) image = sym (cut_behind size stage bytes le) ∙ put in
     rw is (take_own (length stage + n) image)
 

@@ -1,18 +1,16 @@
 -- What is recorded is of the plan of its package.
-use Rattle.std.specs.Prelude.{◌≡◌, ◌<◌, ℕ, ◌||◌, nat_lt, Bool, true, false, if◌then◌else◌, List, [], ◌∷◌, length, map, Contains, Option, Some, None, Result, Ok, Err, IsSomeAnd, slice_index_or}
+use Rattle.std.specs.Prelude.{◌≡◌, ℕ, ◌||◌, nat_lt, Bool, true, false, if◌then◌else◌, List, [], ◌∷◌, length, map, Contains, Ok, Err, slice_index_or}
 use Rattle.std.proofs.Common.{refl, sym, subst, ◌∙◌, ap, arith}
 use Prim.Native.Nat.{suc, zero}
 use Rattle.std.proofs.lemmas.List.{length-map}
-use Rattle.fw_package.specs.Choice.{component_at, has_large_image, has_long_text, has_twin, plan_of, record_at, record_number}
+use Rattle.fw_package.specs.Choice.{has_large_image, has_long_text, has_twin, plan_of, record_at}
 use Rattle.fw_package.specs.Laws.{PlansNamedImages}
 use Rattle.fw_package.specs.Package.{DescriptorOf, PackageText}
-use Rattle.fw_package.specs.declared.fault.PlanFault.{PlanFault}
 use Rattle.fw_package.specs.declared.fault.PlanFault.TheVariants.{DuplicateComponent, ImageTooLarge, TextTooLong, TooManyComponents}
 use Rattle.ua_core.specs.Laws.{IsTask, number_of}
 use Rattle.ua_core.specs.Lent.{key_of}
 use Rattle.ua_core.specs.Session.{TaskOf}
 use Rattle.ua_core.specs.declared.planned.Planned.{Planned}
-use Rattle.ua_core.specs.declared.planned.Recorded.{Recorded}
 use Rattle.fw_world.specs.History.{IsNamed, package_at}
 use Rattle.fw_world.proofs.Safety.Agreement.{IsChosen, at_hand}
 use Rattle.fw_world.proofs.Safety.Applied.{Names}

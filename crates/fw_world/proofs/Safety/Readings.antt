@@ -1,5 +1,5 @@
 -- What one more entry makes of what is read of a history.
-use Rattle.std.specs.Prelude.{ℕ, ◌≡◌, List, [], ◌∷◌, ◌++◌, map, All, Option, Some, None}
+use Rattle.std.specs.Prelude.{◌≡◌, List, [], ◌∷◌, ◌++◌, map, Some}
 use Rattle.std.proofs.Common.{refl, sym, ap, ◌∙◌, append_assoc, append-nil}
 use Rattle.fd_core.specs.Images.{Put}
 use Rattle.ua_core.specs.declared.planned.Recorded.{Recorded}

@@ -1,14 +1,13 @@
 -- What the device learns keeps what stands.
-use Rattle.std.specs.Prelude.{◌≡◌, ◌⊎◌, ◌<◌, ◌≤◌, ◌+◌, ◌-◌, ◌++◌, ◌==◌, ℕ, Bool, true, false, if◌then◌else◌, List, [], ◌∷◌, length, take, Option, Some, None}
-use Rattle.std.specs.Option.{IfSome}
-use Rattle.std.proofs.Common.{refl, sym, subst, ap, inl, inr, ◌∙◌, arith}
+use Rattle.std.specs.Prelude.{◌≡◌, ◌<◌, ◌≤◌, ◌-◌, ◌++◌, ◌==◌, ℕ, Bool, true, false, if◌then◌else◌, List, [], length, take, Option, Some, None}
+use Rattle.std.proofs.Common.{sym, subst, inl, inr, arith}
 use Rattle.std.proofs.lemmas.Bool.{cond_both}
 use Rattle.fw_package.specs.Package.{ComponentOf, DescriptorOf, PackageText}
 use Rattle.fwup_wire.specs.Values.{AnswerOf, CommandOf}
 use Rattle.fd_core.specs.Commands.{download_progress}
 use Rattle.fd_core.specs.Images.{RowOf}
 use Rattle.fd_core.specs.States.{DeviceState, Phase, UpdateOf, WorkOf, state_of}
-use Rattle.fd_core.specs.Wishes.{LearnRow, apply_by, asked_length, download_by, device_learn, learn_at, stage_with, verify_by, wish_at}
+use Rattle.fd_core.specs.Wishes.{LearnRow, asked_length, download_by, learn_at, stage_with}
 use Rattle.fd_core.specs.declared.states.Progress.{Progress}
 use Rattle.fd_core.specs.declared.states.Progress.TheVariants as progress
 use Rattle.fd_core.specs.declared.states.State.{State}
@@ -21,7 +20,7 @@ use Rattle.fw_world.proofs.Safety.Begins.{full_either}
 use Rattle.fw_world.proofs.Safety.Cells.{emptied_stands}
 use Rattle.fw_world.proofs.Safety.Down.{Leaves}
 use Rattle.fw_world.proofs.Safety.Loose.{cell}
-use Rattle.fw_world.proofs.Safety.Moves.{IsMove, at_phase, moves_stand, with_device}
+use Rattle.fw_world.proofs.Safety.Moves.{IsMove, moves_stand, with_device}
 use Rattle.fw_world.proofs.Safety.Pieces.{piece_kept, piece_short}
 use Rattle.fw_world.proofs.Safety.Readings.{since}
 
@@ -38,7 +37,7 @@ module _ (ps : List PackageText) (ds : List DescriptorOf) where
       → IsTransfer ps ds n rs c rows (stage ++ take (w.size - length stage) bytes) w None None
   put_transfer law n rs c rows stage bytes w d asked is lt h =
       let piece : IsPieceOf c.image (Some (CommandOf.RequestFirmwareData (length stage) asked)) (Some (AnswerOf.RequestFirmwareData bytes)) =
-          subst (λ (x : CommandOf). IsPieceOf c.image (Some x) (Some (AnswerOf.RequestFirmwareData bytes))) (sym is) h.piece in
+      subst (λ (x : CommandOf). IsPieceOf c.image (Some x) (Some (AnswerOf.RequestFirmwareData bytes))) (sym is) h.piece in
       record {
         same = h.same;
         stage = piece_kept law c.image stage bytes w.size asked h.same.size h.stage (omega (arith, lt)) piece;
@@ -178,11 +177,11 @@ module _ (ps : List PackageText) (ds : List DescriptorOf) where
         let Learnt : LearnRow → Type 0 = λ row. IsStanding ps ds first es (with_device m (download_by now u w row).after None) in
         cond_both (length bytes == asked) (if works then LearnRow.PutPiece bytes else LearnRow.PutFails) LearnRow.Stay Learnt
         (λ e. cond_both works (LearnRow.PutPiece bytes) LearnRow.PutFails Learnt
-          (λ f. moves_stand ps ds first es m now (Phase.Download u w (download_progress (length more) w.size)) more v.previous held None
-            (put_moves law (since es) v u w bytes (download_progress (length more) w.size) d asked l is lt)
-            tt (put_form u w (length more) (piece_short v.stage bytes w.size (omega (arith, lt)))) (not_sealed u w (download_progress (length more) w.size) now.phase held) s)
-          (λ f. moves_stand ps ds first es m now (Phase.Download u w (progress.Failed false)) v.stage v.previous held None (fails_moves (since es) v u w bytes d l)
-            tt tt (not_sealed u w (progress.Failed false) now.phase held) s))
+        (λ f. moves_stand ps ds first es m now (Phase.Download u w (download_progress (length more) w.size)) more v.previous held None
+        (put_moves law (since es) v u w bytes (download_progress (length more) w.size) d asked l is lt)
+        tt (put_form u w (length more) (piece_short v.stage bytes w.size (omega (arith, lt)))) (not_sealed u w (download_progress (length more) w.size) now.phase held) s)
+        (λ f. moves_stand ps ds first es m now (Phase.Download u w (progress.Failed false)) v.stage v.previous held None (fails_moves (since es) v u w bytes d l)
+        tt tt (not_sealed u w (progress.Failed false) now.phase held) s))
         (λ e. emptied_stands ps ds first es (with_device m now held) s)
 
     download_learnt : (law : WindowContinues) (m : PairOf) (v : DeviceState) (u : UpdateOf) (w : WorkOf) (p : Progress) (d : CommandOf) (a : AnswerOf) (l works : Bool)

@@ -1,5 +1,5 @@
 -- Steps and runs keep what stands.
-use Rattle.std.specs.Prelude.{◌≡◌, ◌≤◌, ℕ, List, [], ◌∷◌, ◌++◌, length, map, take, All, Option, Some, None, slice_index_or}
+use Rattle.std.specs.Prelude.{◌≡◌, ◌≤◌, ℕ, List, [], ◌∷◌, map, take, All, Option, Some, None, slice_index_or}
 use Prim.Native.Nat.{suc, zero}
 use Rattle.std.specs.Option.{IfSome, option_map}
 use Rattle.std.proofs.Common.{refl, sym, subst, arith}
@@ -13,7 +13,7 @@ use Rattle.ua_core.specs.Calls.{new_session}
 use Rattle.ua_core.specs.Laws.{LearnsInPlan, ServesInPlan, WindowContinues}
 use Rattle.ua_core.specs.Lent.{told_descriptor}
 use Rattle.ua_core.specs.Session.{SessionOf}
-use Rattle.fw_world.specs.History.{EntryOf, IsNamed, IsOfOnePackage, IsSafe, IsTied, WasApplied, activations, applied_count, nothing_read, read_along, recorded_count, recorded_in}
+use Rattle.fw_world.specs.History.{EntryOf, IsNamed, IsOfOnePackage, IsSafe, WasApplied, activations, applied_count, read_along, recorded_count}
 use Rattle.fw_world.specs.Laws.{IsOpening, IsSafeAndTied, IsUnapplied, MessagesAreSafe}
 use Rattle.fw_world.specs.Pairs.{HeldOf, PairOf, PairRun, StepOf, Stepped, closing, message_along, noted, pair_after, ran_on, run_after, step_of}
 use Rattle.fw_world.specs.declared.side.Side.TheVariants as sides
@@ -26,7 +26,7 @@ use Rattle.fw_world.proofs.Safety.Down.{Leaves, agent_asks, device_takes}
 use Rattle.fw_world.proofs.Safety.Histories.{IsHistory, current_of}
 use Rattle.fw_world.proofs.Safety.Learns.{agent_learns}
 use Rattle.fw_world.proofs.Safety.Reports.{device_learns}
-use Rattle.fw_world.proofs.Safety.Turns.{AreApplied, HasOne}
+use Rattle.fw_world.proofs.Safety.Turns.{AreApplied}
 use Rattle.fw_world.proofs.Safety.Up.{agent_takes}
 use Rattle.fw_world.proofs.Safety.Verdicts.{device_judges}
 
@@ -138,7 +138,7 @@ opening_stands : (ps : List PackageText) (r : PairRun) → IsOpening r → Stand
 opening_stands ps r h =
     let v = r.pair.device in
     let P : Phase → SessionOf → Option HeldOf → Option HeldOf → List EntryOf → Type 0 = λ p s d u es.
-        IsStanding ps (map told_descriptor v.descriptors) v.rows es (record { device = record v { phase = p }; session = s; down = d; up = u }) in
+    IsStanding ps (map told_descriptor v.descriptors) v.rows es (record { device = record v { phase = p }; session = s; down = d; up = u }) in
     let a : P Phase.Idle new_session.session None None [] = begins ps v h.unapplied in
     let b : P r.pair.device.phase new_session.session None None [] = subst (λ (x : Phase). P x new_session.session None None []) (sym h.idle) a in
     let c : P r.pair.device.phase r.pair.session None None [] = subst (λ (x : SessionOf). P r.pair.device.phase x None None []) (sym h.session) b in

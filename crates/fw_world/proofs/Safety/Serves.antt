@@ -1,24 +1,19 @@
 -- What the session answers keeps what stands.
-use Rattle.std.specs.Prelude.{◌≡◌, ◌⊎◌, ℕ, ◌==◌, ◌||◌, ◌&&◌, ◌+◌, ◌++◌, nat_lt, Bool, true, false, if◌then◌else◌, List, [], ◌∷◌, length, map, take, Contains, Option, Some, None, Result, Ok, Err, IsSomeAnd}
-use Rattle.std.specs.Option.{IfSome}
-use Rattle.std.proofs.Common.{refl, sym, subst, ◌∙◌, ap, inl, inr, arith}
-use Rattle.std.proofs.lemmas.Bool.{cond_both, eqb-true}
+use Rattle.std.specs.Prelude.{◌≡◌, ℕ, ◌==◌, ◌++◌, Bool, true, false, List, [], ◌∷◌, length, take, Option, Some, None}
+use Rattle.std.proofs.Common.{◌∙◌, ap, arith}
+use Rattle.std.proofs.lemmas.Bool.{eqb-true}
 use Rattle.std.proofs.Math.Seq.{take-length}
-use Rattle.fw_package.specs.Choice.{component_at, plan_of, record_at, record_number}
+use Rattle.fw_package.specs.Choice.{component_at}
 use Rattle.fw_package.specs.Package.{ComponentOf, DescriptorOf, PackageText}
 use Rattle.fwup_wire.specs.Values.{AnswerOf, CommandOf}
 use Rattle.fd_core.specs.Images.{RowOf}
-use Rattle.fd_core.specs.States.{DeviceState, Phase, WorkOf}
+use Rattle.fd_core.specs.States.{Phase, WorkOf}
 use Rattle.fd_core.specs.Wishes.{wish_at}
 use Rattle.fd_core.specs.declared.states.Progress.TheVariants as progress
 use Rattle.ua_core.specs.Lent.{key_of}
-use Rattle.ua_core.specs.Serve.{ServeRow, data_of, refuses, unexpected, window}
-use Rattle.ua_core.specs.Session.{SessionOf, Stage, TaskOf}
-use Rattle.ua_core.specs.Wish.{stage_wish}
 use Rattle.ua_core.specs.declared.planned.Recorded.{Recorded}
-use Rattle.fw_world.specs.History.{EntryOf, package_at}
-use Rattle.fw_world.specs.Pairs.{HeldOf, PairOf}
-use Rattle.fw_world.proofs.Safety.Agreement.{Application, CommandStands, IsBegun, IsBegunAt, IsHeld, IsPieceOf, IsTransfer, IsUnderWay, NothingAccepted, OwnStands, Settled, StageForm, Transfer, UpdateOffered, Verification, Waiting, is_sealed}
+use Rattle.fw_world.specs.History.{package_at}
+use Rattle.fw_world.proofs.Safety.Agreement.{Application, IsBegunAt, IsHeld, IsPieceOf, IsTransfer, NothingAccepted, OwnStands, Settled, StageForm, Transfer, UpdateOffered, Verification, is_sealed}
 use Rattle.fw_world.proofs.Safety.Applied.{Names, backed_recorded}
 
 module _ (ps : List PackageText) (ds : List DescriptorOf) (n : ℕ) (rs : List Recorded) (c : ComponentOf) (rows : List RowOf) (bytes : List ℕ) where

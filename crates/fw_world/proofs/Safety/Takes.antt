@@ -1,18 +1,17 @@
 -- What the device answers without a change, or by going to IDLE, keeps what stands.
-use Rattle.std.specs.Prelude.{◌≡◌, ◌⊎◌, ℕ, Bool, true, false, List, [], length, map, Option, Some, None}
-use Rattle.std.proofs.Common.{refl, sym, subst, arith, inl, inr}
+use Rattle.std.specs.Prelude.{◌≡◌, ℕ, Bool, List, [], Option, Some, None}
+use Rattle.std.proofs.Common.{refl, sym, subst, arith}
 use Rattle.fw_package.specs.Package.{DescriptorOf, PackageText}
 use Rattle.fwup_wire.specs.Values.{AnswerOf, CommandOf}
-use Rattle.fd_core.specs.Commands.{CancelRow, all_parameters, cancel_by, cancel_row, cancel_take, declined, told, refused, status_of}
-use Rattle.fd_core.specs.Images.{RowOf, dropped}
-use Rattle.fd_core.specs.States.{DeviceState, Phase, state_of}
+use Rattle.fd_core.specs.Commands.{CancelRow, cancel_by, cancel_row, cancel_take, told, refused}
+use Rattle.fd_core.specs.Images.{RowOf}
+use Rattle.fd_core.specs.States.{Phase, state_of}
 use Rattle.fd_core.specs.declared.states.Reason.TheVariants as reasons
-use Rattle.ua_core.specs.Lent.{told_descriptor}
 use Rattle.ua_core.specs.Session.{Stage}
 use Rattle.ua_core.specs.Wish.{stage_wish}
 use Rattle.ua_core.specs.declared.planned.Recorded.{Recorded}
 use Rattle.fw_world.specs.History.{EntryOf, package_at}
-use Rattle.fw_world.specs.Pairs.{HeldOf, PairOf, Stepped, down_taken, noted, with_down}
+use Rattle.fw_world.specs.Pairs.{PairOf, Stepped, down_taken, noted, with_down}
 use Rattle.fw_world.proofs.Safety.Agreement.{AreTold, CommandStands, IsLost, IsStanding, Together}
 use Rattle.fw_world.proofs.Safety.Loose.{cell, idle_device, lost_pending, lost_together}
 use Rattle.fw_world.proofs.Safety.Histories.{history_dropped}

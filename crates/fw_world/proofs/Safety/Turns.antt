@@ -4,8 +4,8 @@ use Rattle.std.proofs.Common.{refl, sym, ap, ◌∙◌, inl, inr, subst}
 use Rattle.std.proofs.lemmas.Bool.{cond_both}
 use Rattle.std.proofs.lemmas.List.Elements.{All-nil, All-cons, All-head, All-tail}
 use Rattle.fwup_wire.specs.declared.values.Key.{Key}
-use Rattle.fd_core.specs.Images.{ImageOf, Put, RowOf, dropped, put_among, put_applied, puts, rises, same_key, sealed, sealed_if, switched, turned, turned_to, unapplied}
-use Rattle.fw_world.specs.History.{replaced, running}
+use Rattle.fd_core.specs.Images.{ImageOf, Put, RowOf, dropped, put_among, put_applied, puts, rises, same_key, sealed, sealed_if, switched, turned, turned_to}
+use Rattle.fw_world.specs.History.{running}
 use Rattle.fw_world.proofs.Safety.Applied.{put_of}
 use Rattle.fw_world.proofs.Safety.Readings.{through}
 use Rattle.fw_world.proofs.Safety.Same.{key_means, key_self}
@@ -125,7 +125,7 @@ through_own f (p ∷ ps) q image e all h =
     let first = All-head (IsRight f) p ps all in
     cond_both (same_key q.key p.key) (record { key = q.key; bytes = p.bytes }) q (λ (x : Put). through ps x ≡ put_of q.key image)
     (λ s. through_own f ps (record { key = q.key; bytes = p.bytes }) image e rest
-      (inl (right_bytes f p image (sym (ap f (key_means q.key p.key s)) ∙ e) first)))
+    (inl (right_bytes f p image (sym (ap f (key_means q.key p.key s)) ∙ e) first)))
     (λ s. through_own f ps q image e rest (still q.key q.bytes image p ps s h))
 
 -- each row

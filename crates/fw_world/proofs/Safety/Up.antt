@@ -1,6 +1,6 @@
 -- What the device asks, and what the session answers, keeps what stands.
-use Rattle.std.specs.Prelude.{◌≡◌, ◌⊎◌, ℕ, ◌==◌, ◌||◌, ◌&&◌, ◌+◌, ◌++◌, nat_lt, Bool, true, false, if◌then◌else◌, List, [], ◌∷◌, length, map, Option, Some, None}
-use Rattle.std.proofs.Common.{refl, sym, subst, ◌∙◌, ap, inl, inr}
+use Rattle.std.specs.Prelude.{◌≡◌, ℕ, ◌==◌, ◌||◌, ◌&&◌, ◌+◌, ◌++◌, nat_lt, Bool, true, if◌then◌else◌, List, [], ◌∷◌, length, map, Option, Some, None}
+use Rattle.std.proofs.Common.{refl, inl, inr}
 use Rattle.std.proofs.lemmas.Bool.{cond_both}
 use Rattle.fw_package.specs.Laws.{PlansNamedImages}
 use Rattle.fw_package.specs.Package.{DescriptorOf, PackageText}
@@ -10,15 +10,15 @@ use Rattle.fd_core.specs.States.{Phase}
 use Rattle.fd_core.specs.Wishes.{device_wish}
 use Rattle.ua_core.specs.Laws.{ServesInPlan, StandsInPlan}
 use Rattle.ua_core.specs.Lent.{key_of}
-use Rattle.ua_core.specs.Serve.{ServeRow, after_by, answer_by, data_of, recorded_with, refuses, serve_row, task_after, unexpected, window}
-use Rattle.ua_core.specs.Session.{JobOf, SessionOf, Stage, TaskOf}
+use Rattle.ua_core.specs.Serve.{ServeRow, after_by, answer_by, recorded_with, refuses, serve_row, task_after, unexpected, window}
+use Rattle.ua_core.specs.Session.{SessionOf, Stage, TaskOf}
 use Rattle.ua_core.specs.Wish.{stage_wish}
 use Rattle.ua_core.specs.declared.planned.Planned.{Planned}
 use Rattle.ua_core.specs.declared.planned.Recorded.{Recorded}
 use Rattle.ua_core.specs.declared.state.Cause.TheVariants as causes
 use Rattle.fw_world.specs.History.{EntryOf, IsNamed, package_at}
-use Rattle.fw_world.specs.Pairs.{HeldOf, PairOf, StepOf, Stepped, noted, step_of, take_up, take_up_at, up_taken, with_up}
-use Rattle.fw_world.proofs.Safety.Agreement.{Application, CommandStands, HasChosen, IsStanding, IsUnderWay, OwnStands, Pending, Settled, StageForm, Together, Waiting, asked_of, at_hand, is_offered, is_sealed, is_applied, reply_of}
+use Rattle.fw_world.specs.Pairs.{HeldOf, PairOf, StepOf, noted, step_of, take_up, take_up_at, up_taken, with_up}
+use Rattle.fw_world.proofs.Safety.Agreement.{CommandStands, HasChosen, IsStanding, OwnStands, Pending, Settled, StageForm, Together, Waiting, at_hand, is_offered, reply_of}
 use Rattle.fw_world.proofs.Safety.Counts.{IsPending}
 use Rattle.fw_world.proofs.Safety.Down.{Leaves}
 use Rattle.fw_world.proofs.Safety.Histories.{history_recorded}
@@ -86,8 +86,8 @@ module _ (ps : List PackageText) (ds : List DescriptorOf) (es : List EntryOf) wh
       cond_both (nat_lt size 32 || nat_lt 240 size) (refuses 0x83) (if nat_lt (length image + 32) (offset + size) then refuses 0x82 else ServeRow.Give (window image offset size))
       (Serves m s c l n (Stage.Download t)) (λ e. refused_up m s c l n 0x83 (Stage.Download t) k.together)
       (λ e. cond_both (nat_lt (length image + 32) (offset + size)) (refuses 0x82) (ServeRow.Give (window image offset size)) (Serves m s c l n (Stage.Download t))
-        (λ f. refused_up m s c l n 0x82 (Stage.Download t) k.together)
-        (λ f. transfer_told ps ds n (since es) (at_hand (package_at ps n) t) m.device.rows m.device.stage m.device.phase (Some c) (Some (AnswerOf.RequestFirmwareData (window image offset size))) refl k.together))
+      (λ f. refused_up m s c l n 0x82 (Stage.Download t) k.together)
+      (λ f. transfer_told ps ds n (since es) (at_hand (package_at ps n) t) m.device.rows m.device.stage m.device.phase (Some c) (Some (AnswerOf.RequestFirmwareData (window image offset size))) refl k.together))
   data_serves m s l n offset size g k = refused_up m s (CommandOf.RequestFirmwareData offset size) l n 0x88 g k.together
 
   -- TransferComplete
@@ -106,14 +106,20 @@ module _ (ps : List PackageText) (ds : List DescriptorOf) (es : List EntryOf) wh
   -- VerifyComplete
   not_yet : (m : PairOf) (s : SessionOf) (c : CommandOf) (a : AnswerOf) (l : Bool) (n : ℕ) (t : TaskOf) → Together ps ds (since es) (with_up m (Some (cell c None l))) n (Stage.Verify t) → Pending ps es (served m s c a l) n (Stage.Apply t)
   not_yet m s c a l n t h = λ e. elim e [
-    inl sealed ↦ absurd (verify_unsealed ps ds n (since es) (at_hand (package_at ps n) t) m.device.rows m.device.stage m.device.phase h sealed) | inr told ↦ absurd (cc) ]
+    | inl sealed ↦ absurd (verify_unsealed ps ds n (since es) (at_hand (package_at ps n) t) m.device.rows m.device.stage m.device.phase h sealed)
+    | inr told ↦ absurd (cc)
+  ]
 
   verify_serves : (m : PairOf) (s : SessionOf) (l : Bool) (n r : ℕ) (g : Stage) → IsAsking m (CommandOf.VerifyComplete r) l n g
       → Serves m s (CommandOf.VerifyComplete r) l n g (serve_row (package_at ps n) g (CommandOf.VerifyComplete r))
   verify_serves m s l n r (Stage.Verify t) k =
       cond_both (r == 0) (Stage.Apply t) (Stage.Failed causes.Verify) (Moved m s (CommandOf.VerifyComplete r) l n AnswerOf.VerifyComplete)
-      (λ z. (verified ps ds n (since es) (at_hand (package_at ps n) t) m.device.rows m.device.stage m.device.phase (length m.device.stage) r (Some AnswerOf.VerifyComplete) z k.own k.together,
-        not_yet m s (CommandOf.VerifyComplete r) AnswerOf.VerifyComplete l n t k.together, k.chosen, k.command))
+      (λ z. (
+        verified ps ds n (since es) (at_hand (package_at ps n) t) m.device.rows m.device.stage m.device.phase (length m.device.stage) r (Some AnswerOf.VerifyComplete) z k.own k.together,
+        not_yet m s (CommandOf.VerifyComplete r) AnswerOf.VerifyComplete l n t k.together,
+        k.chosen,
+        k.command,
+      ))
       (λ z. (tt, tt, tt, tt))
   verify_serves m s l n r (Stage.Apply t) k =
       cond_both (r == 0) (ServeRow.Say AnswerOf.VerifyComplete) unexpected (Serves m s (CommandOf.VerifyComplete r) l n (Stage.Apply t))
@@ -256,7 +262,7 @@ module _ (ps : List PackageText) (ds : List DescriptorOf) (es : List EntryOf) wh
         let row = serve_row p m.session.stage c in
         serve_by_row m c l row s (serves_law p m.session c s.plan)
         (serves names_law m (after_by m.session row) l m.session.number m.session.stage c
-          (record { own = s.own; command = s.command; form = s.form; together = s.together; pending = s.pending; plan = s.plan; chosen = s.chosen }))
+        (record { own = s.own; command = s.command; form = s.form; together = s.together; pending = s.pending; plan = s.plan; chosen = s.chosen }))
 
     take_at : (serves_law : ServesInPlan) (names_law : PlansNamedImages) (m : PairOf) (c : CommandOf) (r : Option AnswerOf) (l : Bool) → IsStanding ps ds first es (with_up m (Some (cell c r l)))
         → Leaves ps ds first es (take_up_at ps (with_up m (Some (cell c r l))) (cell c r l) r)

@@ -1,13 +1,12 @@
 -- Verdicts keep what stands.
-use Rattle.std.specs.Prelude.{◌≡◌, ◌⊎◌, ◌++◌, ℕ, Bool, true, false, List, [], ◌∷◌, length, map, Option, Some, None}
-use Rattle.std.specs.Option.{IfSome}
-use Rattle.std.proofs.Common.{refl, subst, inl, inr}
+use Rattle.std.specs.Prelude.{◌++◌, ℕ, Bool, true, false, List, [], ◌∷◌, length, Option, Some, None}
+use Rattle.std.proofs.Common.{subst, inl, inr}
 use Rattle.fw_package.specs.Package.{ComponentOf, DescriptorOf, PackageText}
 use Rattle.fwup_wire.specs.Values.{CommandOf}
 use Rattle.fwup_wire.specs.declared.values.Key.{Key}
-use Rattle.fd_core.specs.Images.{Put, RowOf, sealed}
+use Rattle.fd_core.specs.Images.{RowOf, sealed}
 use Rattle.fd_core.specs.States.{DeviceState, Phase, UpdateOf, WorkOf}
-use Rattle.fd_core.specs.Steps.{apply_judged, verdict_at, written_image}
+use Rattle.fd_core.specs.Steps.{verdict_at, written_image}
 use Rattle.fd_core.specs.Wishes.{wish_at}
 use Rattle.fd_core.specs.declared.states.Progress.{Progress}
 use Rattle.fd_core.specs.declared.states.Progress.TheVariants as progress
@@ -18,12 +17,12 @@ use Rattle.ua_core.specs.Session.{Stage}
 use Rattle.ua_core.specs.declared.planned.Recorded.{Recorded}
 use Rattle.fw_world.specs.History.{EntryOf, package_at}
 use Rattle.fw_world.specs.Pairs.{HeldOf, PairOf, StepOf, judged, step_of}
-use Rattle.fw_world.proofs.Safety.Agreement.{Holds, IsHeld, IsSealed, IsStanding, IsUnderWay, OwnStands, Pending, Together, asked_of, at_hand, command_of}
+use Rattle.fw_world.proofs.Safety.Agreement.{Holds, IsHeld, IsSealed, IsStanding, IsUnderWay, Pending, Together, asked_of, at_hand, command_of}
 use Rattle.fw_world.proofs.Safety.Applied.{AppliedIs, BackedBut, put_of, sealed_applied, sealed_others}
 use Rattle.fw_world.proofs.Safety.Counts.{IsPending, NeverMore, pending_applied}
 use Rattle.fw_world.proofs.Safety.Down.{Leaves}
 use Rattle.fw_world.proofs.Safety.Histories.{history_applied, never_more}
-use Rattle.fw_world.proofs.Safety.Moves.{IsMove, moves_stand, stray_moves, together_moves, with_device}
+use Rattle.fw_world.proofs.Safety.Moves.{IsMove, moves_stand, stray_moves, together_moves}
 use Rattle.fw_world.proofs.Safety.Readings.{since, since_applied}
 
 -- a device that wished nothing has an empty cell
