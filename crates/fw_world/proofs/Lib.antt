@@ -1,5 +1,6 @@
 mod Applied
 mod Components
+mod Noting
 mod Records
 mod Rising
 mod Safety

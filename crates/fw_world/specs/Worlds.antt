@@ -8,6 +8,8 @@ use Rattle.fw_world.specs.declared.side.Side.TheVariants as sides
 use Rattle.fw_world.specs.declared.side.Way.TheVariants as ways
 use Rattle.fw_world.specs.declared.step.MessageStep.{MessageStep}
 use Rattle.fw_world.specs.declared.step.MessageStep.TheVariants as steps
+use Rattle.fw_world.specs.declared.step.MessageStepFault.{MessageStepFault}
+use Rattle.fw_world.specs.declared.step.MessageStepFault.TheVariants as faults
 
 -- a device by its endpoint identifier, with its session and their cells
 pub record NodeOf : Type 0 where
@@ -78,20 +80,48 @@ world_along None steps = None
 world_along (Some w) [] = Some w
 world_along (Some w) (s ∷ steps) = world_along (world_after w s) steps
 
--- A step as it is named; whether its call of a bank works isn't said there.
+-- The device of a step. A restart names a node, which may be the agent.
+abbrev pub device_of : MessageStep → ℕ
+device_of (steps.Ask device way) = device
+device_of (steps.Take device way quiet) = device
+device_of (steps.Learn device way) = device
+device_of (steps.GiveUp device way) = device
+device_of (steps.Drop device way) = device
+device_of (steps.Start device number) = device
+device_of (steps.Cancel device) = device
+device_of (steps.Activate device) = device
+device_of (steps.Verdict device verdict) = device
+device_of (steps.TimeOut device side) = device
+device_of (steps.Restart node) = node
+
+-- A step of a device's pair, as it is named: whether its call of the bank works isn't said there.
+abbrev pub pair_step : Bool → MessageStep → StepOf
+pair_step works (steps.Ask device ways.Down) = StepOf.AskDown
+pair_step works (steps.Ask device ways.Up) = StepOf.AskUp
+pair_step works (steps.Take device ways.Down quiet) = StepOf.TakeDown quiet works
+pair_step works (steps.Take device ways.Up quiet) = StepOf.TakeUp
+pair_step works (steps.Learn device ways.Down) = StepOf.LearnDown
+pair_step works (steps.Learn device ways.Up) = StepOf.LearnUp works
+pair_step works (steps.GiveUp device way) = StepOf.GiveUp way
+pair_step works (steps.Drop device way) = StepOf.Drop way
+pair_step works (steps.Start device number) = StepOf.Start number
+pair_step works (steps.Cancel device) = StepOf.Cancel
+pair_step works (steps.Activate device) = StepOf.Activate
+pair_step works (steps.Verdict device verdict) = StepOf.Judge verdict works
+pair_step works (steps.TimeOut device side) = StepOf.TimeOut side
+pair_step works (steps.Restart device) = StepOf.Restart sides.Device
+
+abbrev pub restarts_agent : ℕ → MessageStep → Bool
+restarts_agent agent (steps.Restart node) = node == agent
+restarts_agent agent s = false
+
 abbrev pub named_step : ℕ → Bool → MessageStep → WorldStepOf
-named_step agent works (steps.Ask device ways.Down) = WorldStepOf.OfPair device StepOf.AskDown
-named_step agent works (steps.Ask device ways.Up) = WorldStepOf.OfPair device StepOf.AskUp
-named_step agent works (steps.Take device ways.Down quiet) = WorldStepOf.OfPair device (StepOf.TakeDown quiet works)
-named_step agent works (steps.Take device ways.Up quiet) = WorldStepOf.OfPair device StepOf.TakeUp
-named_step agent works (steps.Learn device ways.Down) = WorldStepOf.OfPair device StepOf.LearnDown
-named_step agent works (steps.Learn device ways.Up) = WorldStepOf.OfPair device (StepOf.LearnUp works)
-named_step agent works (steps.GiveUp device way) = WorldStepOf.OfPair device (StepOf.GiveUp way)
-named_step agent works (steps.Drop device way) = WorldStepOf.OfPair device (StepOf.Drop way)
-named_step agent works (steps.Start device number) = WorldStepOf.OfPair device (StepOf.Start number)
-named_step agent works (steps.Cancel device) = WorldStepOf.OfPair device StepOf.Cancel
-named_step agent works (steps.Activate device) = WorldStepOf.OfPair device StepOf.Activate
-named_step agent works (steps.Verdict device verdict) = WorldStepOf.OfPair device (StepOf.Judge verdict works)
-named_step agent works (steps.TimeOut device side) = WorldStepOf.OfPair device (StepOf.TimeOut side)
-named_step agent works (steps.Restart node) =
-    if node == agent then WorldStepOf.RestartAgent else WorldStepOf.OfPair node (StepOf.Restart sides.Device)
+named_step agent works s =
+    if restarts_agent agent s then WorldStepOf.RestartAgent else WorldStepOf.OfPair (device_of s) (pair_step works s)
+
+-- why a step is refused that isn't taken: the operator's calls and verdicts are refused, and for others it isn't the time
+abbrev pub refusal_of : MessageStep → MessageStepFault
+refusal_of (steps.Start device number) = faults.Refused
+refusal_of (steps.Activate device) = faults.Refused
+refusal_of (steps.Verdict device verdict) = faults.Refused
+refusal_of s = faults.NotNow

@@ -21,6 +21,7 @@ use ua_core::{Lent, Session};
 mod asking;
 mod calling;
 mod serving;
+mod stepping;
 mod waiting;
 
 

@@ -1,16 +1,18 @@
 //! What is taken, learnt and judged.
 
-ghost use Rattle.std.specs.Prelude.{◌≡◌, ◌≤◌, Bool, IfNone, IfSome, None, Some, false, if◌then◌else◌, is_some, map, option_map, option_to_list, true};
-ghost use Rattle.fd_core.specs.Commands.{device_take};
+ghost use Rattle.std.specs.Prelude.{[], ◌≡◌, ◌≤◌, ◌∷◌, Bool, length, vec_capacity, IfNone, IfSome, None, Some, false, if◌then◌else◌, is_some, map, option_map, option_to_list, true};
+ghost use Rattle.fd_core.specs.Images.{applied_of, row_of};
+ghost use Rattle.fd_core.specs.States.{staged_of};
 ghost use Rattle.fd_core.specs.Steps.{applied_by, device_verdict, verdict_after};
 ghost use Rattle.fd_core.specs.Wishes.{has_failed};
+ghost use Rattle.fw_world.specs.Entries.{put_of};
 ghost use Rattle.fw_world.specs.History.{EntryOf};
 ghost use Rattle.fw_world.specs.Nodes.{Rose};
 ghost use Rattle.fw_world.specs.Pairs.{StepOf, activated_down, quietly, step_of};
 
-use crate::cell::Held;
+use crate::entry::Image;
 use crate::pair::{Pair, lent};
-use fd_core::{Bank, Device, Progress, State, Verdict};
+use fd_core::{Bank, Device, Key, Progress, State, Verdict};
 use fw_package::Package;
 use pldm_base::completion::ERROR;
 use ua_core::Recorded;
@@ -83,6 +85,37 @@ impl<'a, B: Bank> Pair<'a, B> {
         Some(verdict != Verdict::ApplyOk || !has_failed(&self.device))
     }
 
+    /// The same, with a copy of the image that is applied by it. `room` is empty, with the capacity of that image.
+    #[tactic(auto, using(crate::proofs::Sealing::applies, crate::proofs::Working::applies_nothing))]
+    pub fn judge_noting(
+        &mut self,
+        packages: &'a [Package],
+        verdict: Verdict,
+        room: Vec<u8>,
+    ) -> Option<(bool, Option<Image>)>
+        requires empty { room.items ≡ [] }
+        requires room { verdict ≡ Verdict.ApplyOk → IfSome (staged_of self.old.node.pair.device.phase) (λ s. s.1 ≤ vec_capacity room) }
+        ensures step { IfSome result (λ r. step_of packages.now self.old.node.pair (StepOf.Judge verdict r.0) ≡ Some (record {
+            after = self.new.node.pair;
+            noted = map EntryOf.Applied (map put_of (option_to_list r.1));
+        })) }
+        ensures none { IfNone result ((works : Bool) → step_of packages.now self.old.node.pair (StepOf.Judge verdict works) ≡ None) }
+        ensures same { result ≡ None → self.new ≡ self.old }
+        ensures failed { IfSome result (λ r. r.0 ≡ false → Rose self.old.faults self.new.faults) }
+        ensures eid { self.new.node.eid ≡ self.old.node.eid }
+        ensures faults { self.old.faults ≤ self.new.faults }
+    {
+        let staged = self.device.staged();
+        let works = self.judge(packages, verdict)?;
+        if verdict != Verdict::ApplyOk || !works {
+            return Some((works, None));
+        }
+        let Some((key, _)) = staged else {
+            return Some((works, None));
+        };
+        Some((works, copied(self.device.bank(), key, room)))
+    }
+
     /// Whether the device waits for this verdict.
     pub fn awaits(&self, verdict: Verdict) -> bool
         ensures { (works : Bool) → is_some (device_verdict self.now.node.pair.device verdict works) ≡ result }
@@ -145,6 +178,20 @@ impl<'a, B: Bank> Pair<'a, B> {
         self.up = None;
         Some(had_failed || !has_failed(&self.device))
     }
+}
+
+/// A copy of the image that is applied for a component, into room that is empty; None where there is none, or not the room.
+fn copied<B: Bank>(bank: &B, key: Key, room: Vec<u8>) -> Option<Image>
+    requires { room.items ≡ [] }
+    ensures { IfSome (applied_of (row_of (B.rows bank.now) key)) (λ image. length image.bytes ≤ vec_capacity room
+        → map put_of (option_to_list result) ≡ record { key = key; bytes = image.bytes } ∷ []) }
+{
+    let (_, image) = bank.applied(key)?;
+    let mut bytes = room;
+    let Ok(()) = bytes.extend_from_slice(image) else {
+        return None;
+    };
+    Some(Image { key, bytes })
 }
 
 /// Whether the work of the device's state failed.
