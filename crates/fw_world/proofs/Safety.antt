@@ -22,3 +22,4 @@ pub mod Takes
 pub mod Turns
 pub mod Up
 pub mod Verdicts
+pub mod Worlds

@@ -5,4 +5,5 @@ pub mod Laws
 pub mod Nodes
 pub mod Pairs
 pub mod Same
+pub mod WorldLaws
 pub mod Worlds

@@ -11,6 +11,6 @@ mod side;
 mod step;
 
 pub use entry::{Entry, Event, Image};
-pub use laws::messages_are_safe;
+pub use laws::{messages_are_safe, worlds_are_safe};
 pub use side::{Side, Way};
 pub use step::{MessageStep, MessageStepFault};

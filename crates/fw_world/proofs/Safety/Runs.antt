@@ -62,13 +62,20 @@ module _ (ps : List PackageText) (ds : List DescriptorOf) (first : List RowOf) w
   abbrev pub Stands : PairRun → Type 0
   Stands r = IsStanding ps ds first r.entries r.pair
 
-  closed_after : (r : PairRun) (o : Option Stepped) → Leaves ps ds first r.entries o → IfSome (option_map (ran_on r) (option_map (closing ps) o)) Stands
-  closed_after r None h = tt
-  closed_after r (Some t) h = closes ps ds first (noted r.entries t.noted) t.after h
+  closed_after : (es : List EntryOf) (o : Option Stepped) → Leaves ps ds first es o → Leaves ps ds first es (option_map (closing ps) o)
+  closed_after es None h = tt
+  closed_after es (Some t) h = closes ps ds first (noted es t.noted) t.after h
+
+  pub pair_stands : (laws : Laws) (es : List EntryOf) (m : PairOf) (s : StepOf) → IsStanding ps ds first es m → Leaves ps ds first es (pair_after ps m s)
+  unfolding pair_after
+  pair_stands laws es m s h = closed_after es (step_of ps m s) (step_stands laws es m s h)
+
+  ran_after : (r : PairRun) (o : Option Stepped) → Leaves ps ds first r.entries o → IfSome (option_map (ran_on r) o) Stands
+  ran_after r None h = tt
+  ran_after r (Some t) h = h
 
   run_stands : (laws : Laws) (r : PairRun) (s : StepOf) → Stands r → IfSome (run_after ps r s) Stands
-  unfolding pair_after
-  run_stands laws r s h = closed_after r (step_of ps r.pair s) (step_stands laws r.entries r.pair s h)
+  run_stands laws r s h = ran_after r (pair_after ps r.pair s) (pair_stands laws r.entries r.pair s h)
 
   pub along_stands : (laws : Laws) (steps : List StepOf) (o : Option PairRun) → IfSome o Stands → IfSome (message_along ps o steps) Stands
   along_stands laws steps None h = tt
@@ -134,7 +141,7 @@ begins ps v h = record {
   history = history_nothing ps (map told_descriptor v.descriptors) v.rows h;
 }
 
-opening_stands : (ps : List PackageText) (r : PairRun) → IsOpening r → Stands ps (map told_descriptor r.pair.device.descriptors) r.pair.device.rows r
+pub opening_stands : (ps : List PackageText) (r : PairRun) → IsOpening r → Stands ps (map told_descriptor r.pair.device.descriptors) r.pair.device.rows r
 opening_stands ps r h =
     let v = r.pair.device in
     let P : Phase → SessionOf → Option HeldOf → Option HeldOf → List EntryOf → Type 0 = λ p s d u es.
