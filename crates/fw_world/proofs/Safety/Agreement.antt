@@ -125,7 +125,8 @@ pub record IsBegun (ps : List PackageText) (ds : List DescriptorOf) (n : ℕ) (r
   pub backed : Backed ps ds n rs rows
   pub nothing : NothingAccepted reply
 
-abbrev pub IsBegunAt : List PackageText → List DescriptorOf → ℕ → List Recorded → ComponentOf → List RowOf → List ℕ → Phase → Option AnswerOf → Type 0
+abbrev pub IsBegunAt : List PackageText → List DescriptorOf → ℕ → List Recorded → ComponentOf → List RowOf → List ℕ → Phase
+    → Option AnswerOf → Type 0
 IsBegunAt ps ds n rs c rows bytes Phase.Idle reply = Unit {0}
 IsBegunAt ps ds n rs c rows bytes (Phase.Download u w progress.InProgress) reply = IsBegun ps ds n rs c rows bytes w reply
 IsBegunAt ps ds n rs c rows bytes (Phase.Download u w progress.Succeeded) reply = IsBegun ps ds n rs c rows bytes w reply
@@ -135,7 +136,8 @@ abbrev pub is_offered : Option AnswerOf → Bool
 is_offered (Some (AnswerOf.UpdateComponent r)) = r.compatibility == 0
 is_offered reply = false
 
-abbrev pub UpdateOffered : List PackageText → List DescriptorOf → ℕ → List Recorded → ComponentOf → List RowOf → List ℕ → Phase → Option AnswerOf → Bool → Type 0
+abbrev pub UpdateOffered : List PackageText → List DescriptorOf → ℕ → List Recorded → ComponentOf → List RowOf → List ℕ → Phase
+    → Option AnswerOf → Bool → Type 0
 UpdateOffered ps ds n rs c rows bytes p reply true = IsBegunAt ps ds n rs c rows bytes p reply
 UpdateOffered ps ds n rs c rows bytes p reply false = Waiting ps ds n rs rows p
 
@@ -156,7 +158,8 @@ pub record IsTransfer (ps : List PackageText) (ds : List DescriptorOf) (n : ℕ)
   pub backed : Backed ps ds n rs rows
   pub piece : IsPieceOf c.image command reply
 
-abbrev pub Transfer : List PackageText → List DescriptorOf → ℕ → List Recorded → ComponentOf → List RowOf → List ℕ → Phase → Option CommandOf → Option AnswerOf → Type 0
+abbrev pub Transfer : List PackageText → List DescriptorOf → ℕ → List Recorded → ComponentOf → List RowOf → List ℕ → Phase
+    → Option CommandOf → Option AnswerOf → Type 0
 Transfer ps ds n rs c rows bytes Phase.Idle command reply = Unit {0}
 Transfer ps ds n rs c rows bytes (Phase.Download u w a) command reply = IsTransfer ps ds n rs c rows bytes w command reply
 Transfer ps ds n rs c rows bytes p command reply = ⊥
@@ -167,7 +170,8 @@ pub record IsHeld (ps : List PackageText) (ds : List DescriptorOf) (n : ℕ) (rs
   pub stage : bytes ≡ c.image
   pub backed : Backed ps ds n rs rows
 
-abbrev pub Verification : List PackageText → List DescriptorOf → ℕ → List Recorded → ComponentOf → List RowOf → List ℕ → Phase → Option AnswerOf → Type 0
+abbrev pub Verification : List PackageText → List DescriptorOf → ℕ → List Recorded → ComponentOf → List RowOf → List ℕ → Phase
+    → Option AnswerOf → Type 0
 Verification ps ds n rs c rows bytes Phase.Idle reply = Unit {0}
 Verification ps ds n rs c rows bytes (Phase.Download u w progress.Succeeded) reply = IsHeld ps ds n rs c rows bytes w
 Verification ps ds n rs c rows bytes (Phase.Verify u w a) reply = IsHeld ps ds n rs c rows bytes w × NothingAccepted reply
@@ -178,7 +182,8 @@ pub record IsSealed (ps : List PackageText) (ds : List DescriptorOf) (n : ℕ) (
   pub applied : AppliedIs rows (key_of c) c.image
   pub others : BackedBut ps ds n rs (key_of c) rows
 
-abbrev pub Application : List PackageText → List DescriptorOf → ℕ → List Recorded → ComponentOf → List RowOf → List ℕ → Phase → Option AnswerOf → Type 0
+abbrev pub Application : List PackageText → List DescriptorOf → ℕ → List Recorded → ComponentOf → List RowOf → List ℕ → Phase
+    → Option AnswerOf → Type 0
 Application ps ds n rs c rows bytes Phase.Idle reply = Unit {0}
 Application ps ds n rs c rows bytes (Phase.Verify u w progress.Succeeded) reply = IsHeld ps ds n rs c rows bytes w
 Application ps ds n rs c rows bytes (Phase.Apply u w progress.Succeeded) reply = IsSealed ps ds n rs c rows × NothingAccepted reply
@@ -207,17 +212,23 @@ abbrev pub Together : List PackageText → List DescriptorOf → List Recorded �
 Together ps ds rs m n (Stage.ClearOld j) = Cleared m.device.phase (reply_of m.down)
 Together ps ds rs m n (Stage.Request j) = FreshUpdate m.device.rows m.device.phase (reply_of m.down)
 Together ps ds rs m n (Stage.Pass j i left todo) = TableTime m.device.rows m.device.phase
-Together ps ds rs m n (Stage.Update t) = UpdateOffered ps ds n rs (at_hand (package_at ps n) t) m.device.rows m.device.stage m.device.phase (reply_of m.up) (is_offered (reply_of m.down))
-Together ps ds rs m n (Stage.Download t) = Transfer ps ds n rs (at_hand (package_at ps n) t) m.device.rows m.device.stage m.device.phase (command_of m.up) (reply_of m.up)
-Together ps ds rs m n (Stage.Verify t) = Verification ps ds n rs (at_hand (package_at ps n) t) m.device.rows m.device.stage m.device.phase (reply_of m.up)
-Together ps ds rs m n (Stage.Apply t) = Application ps ds n rs (at_hand (package_at ps n) t) m.device.rows m.device.stage m.device.phase (reply_of m.up)
+Together ps ds rs m n (Stage.Update t) =
+    UpdateOffered ps ds n rs (at_hand (package_at ps n) t) m.device.rows m.device.stage m.device.phase (reply_of m.up)
+    (is_offered (reply_of m.down))
+Together ps ds rs m n (Stage.Download t) =
+    Transfer ps ds n rs (at_hand (package_at ps n) t) m.device.rows m.device.stage m.device.phase (command_of m.up) (reply_of m.up)
+Together ps ds rs m n (Stage.Verify t) =
+    Verification ps ds n rs (at_hand (package_at ps n) t) m.device.rows m.device.stage m.device.phase (reply_of m.up)
+Together ps ds rs m n (Stage.Apply t) =
+    Application ps ds n rs (at_hand (package_at ps n) t) m.device.rows m.device.stage m.device.phase (reply_of m.up)
 Together ps ds rs m n (Stage.AllApplied j) = Settled ps ds n rs m.device.rows m.device.phase
 Together ps ds rs m n (Stage.Activate j) = Activation ps ds n rs m.device.rows m.device.phase (reply_of m.down)
 Together ps ds rs m n g = Unit {0}
 
 -- in Apply: what is sealed, or told to be applied, is pending
 abbrev pub Pending : List PackageText → List EntryOf → PairOf → ℕ → Stage → Type 0
-Pending ps es m n (Stage.Apply t) = IsUnderWay m.device.phase m.up → IsPending ps (key_of (at_hand (package_at ps n) t)) (at_hand (package_at ps n) t).image es
+Pending ps es m n (Stage.Apply t) =
+    IsUnderWay m.device.phase m.up → IsPending ps (key_of (at_hand (package_at ps n) t)) (at_hand (package_at ps n) t).image es
 Pending ps es m n g = Unit {0}
 
 -- an ActivateFirmware that was asked finds all that is applied recorded of one package; no CancelUpdateComponent is asked

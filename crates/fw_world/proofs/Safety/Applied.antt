@@ -29,7 +29,8 @@ Backed ps ds number rs (r ∷ rows) = BackedBy ps ds number rs r.key r.applied �
 -- all but what is applied under this key
 unfoldable pub BackedBut : List PackageText → List DescriptorOf → ℕ → List Recorded → Key → List RowOf → Type 0
 BackedBut ps ds number rs key [] = Unit {0}
-BackedBut ps ds number rs key (r ∷ rows) = OnFalse (same_key r.key key) (BackedBy ps ds number rs r.key r.applied) × BackedBut ps ds number rs key rows
+BackedBut ps ds number rs key (r ∷ rows) =
+    OnFalse (same_key r.key key) (BackedBy ps ds number rs r.key r.applied) × BackedBut ps ds number rs key rows
 
 unfoldable pub NoneApplied : List RowOf → Type 0
 NoneApplied [] = Unit {0}
@@ -58,7 +59,8 @@ unfolding NoneApplied
 none_switched [] = tt
 none_switched (r ∷ rows) = (none_turned r r.applied refl, none_switched rows)
 
-pub none_backed : (ps : List PackageText) (ds : List DescriptorOf) (n : ℕ) (rs : List Recorded) (rows : List RowOf) → NoneApplied rows → Backed ps ds n rs rows
+pub none_backed : (ps : List PackageText) (ds : List DescriptorOf) (n : ℕ) (rs : List Recorded) (rows : List RowOf) → NoneApplied rows
+    → Backed ps ds n rs rows
 unfolding NoneApplied Backed
 none_backed ps ds n rs [] h = tt
 none_backed ps ds n rs (r ∷ rows) h = (rw h.0 tt, none_backed ps ds n rs rows h.1)
@@ -69,7 +71,8 @@ unfolding Backed BackedBut
 sealed_others ps ds n rs [] key image h = tt
 sealed_others ps ds n rs (r ∷ rows) key image h = (at_row (same_key r.key key) refl, sealed_others ps ds n rs rows key image h.1)
   where
-    at_row : (t : Bool) → same_key r.key key ≡ t → OnFalse (same_key (sealed_if t r image).key key) (BackedBy ps ds n rs (sealed_if t r image).key (sealed_if t r image).applied)
+    at_row : (t : Bool) → same_key r.key key ≡ t
+        → OnFalse (same_key (sealed_if t r image).key key) (BackedBy ps ds n rs (sealed_if t r image).key (sealed_if t r image).applied)
     at_row true e = rw e tt
     at_row false e = rw e h.0
 
@@ -78,16 +81,19 @@ unfolding AppliedIs
 sealed_applied [] key image = tt
 sealed_applied (r ∷ rows) key image = (at_row (same_key r.key key) refl, sealed_applied rows key image)
   where
-    at_row : (t : Bool) → same_key r.key key ≡ t → OnTrue (same_key (sealed_if t r image).key key) (AppliedAt (sealed_if t r image).applied image.bytes)
+    at_row : (t : Bool) → same_key r.key key ≡ t
+        → OnTrue (same_key (sealed_if t r image).key key) (AppliedAt (sealed_if t r image).applied image.bytes)
     at_row true e = rw e refl
     at_row false e = rw e tt
 
 -- a record more
-recording_more : (ps : List PackageText) (n : ℕ) (key : Key) (rs : List Recorded) (r : Recorded) → HasRecording ps n key rs → HasRecording ps n key (rs ++ r ∷ [])
+recording_more : (ps : List PackageText) (n : ℕ) (key : Key) (rs : List Recorded) (r : Recorded) → HasRecording ps n key rs
+    → HasRecording ps n key (rs ++ r ∷ [])
 recording_more ps n key [] r h = absurd h
 recording_more ps n key (x ∷ rs) r h = elim h [ inl here ↦ inl here | inr there ↦ inr (recording_more ps n key rs r there) ]
 
-recording_here : (ps : List PackageText) (n : ℕ) (key : Key) (rs : List Recorded) (r : Recorded) → r.«package» ≡ n → key_of (recorded_component ps r) ≡ key → HasRecording ps n key (rs ++ r ∷ [])
+recording_here : (ps : List PackageText) (n : ℕ) (key : Key) (rs : List Recorded) (r : Recorded) → r.«package» ≡ n
+    → key_of (recorded_component ps r) ≡ key → HasRecording ps n key (rs ++ r ∷ [])
 recording_here ps n key [] r is e = inl (is, subst (λ (k : ℕ). key_of (component_at (package_at ps k) r.component) ≡ key) is e)
 recording_here ps n key (x ∷ rs) r is e = inr (recording_here ps n key rs r is e)
 
@@ -101,7 +107,8 @@ unfoldable pub Names : List PackageText → List DescriptorOf → ℕ → Key �
 Names ps ds n key bytes = image_for (package_at ps n) ds key.classification key.identifier ≡ Some bytes
 
 backed_here : (ps : List PackageText) (ds : List DescriptorOf) (n : ℕ) (rs : List Recorded) (r : Recorded) (key : Key) (bytes : List ℕ) (o : Option ImageOf)
-    → r.«package» ≡ n → key_of (recorded_component ps r) ≡ key → Names ps ds n key bytes → AppliedAt o bytes → BackedBy ps ds n (rs ++ r ∷ []) key o
+    → r.«package» ≡ n → key_of (recorded_component ps r) ≡ key → Names ps ds n key bytes → AppliedAt o bytes
+    → BackedBy ps ds n (rs ++ r ∷ []) key o
 unfolding Names
 backed_here ps ds n rs r key bytes None is k names h = tt
 backed_here ps ds n rs r key bytes (Some image) is k names h =
@@ -116,16 +123,19 @@ pub backed_recorded : (ps : List PackageText) (ds : List DescriptorOf) (n : ℕ)
     → AppliedIs rows key bytes → BackedBut ps ds n rs key rows → Backed ps ds n (rs ++ r ∷ []) rows
 unfolding AppliedIs BackedBut Backed
 backed_recorded ps ds n rs r key bytes [] is k names a b = tt
-backed_recorded ps ds n rs r key bytes (x ∷ rows) is k names a b = (at_row (same_key x.key key) refl a.0 b.0, backed_recorded ps ds n rs r key bytes rows is k names a.1 b.1)
+backed_recorded ps ds n rs r key bytes (x ∷ rows) is k names a b =
+    (at_row (same_key x.key key) refl a.0 b.0, backed_recorded ps ds n rs r key bytes rows is k names a.1 b.1)
   where
-    at_row : (t : Bool) → same_key x.key key ≡ t → OnTrue t (AppliedAt x.applied bytes) → OnFalse t (BackedBy ps ds n rs x.key x.applied) → BackedBy ps ds n (rs ++ r ∷ []) x.key x.applied
+    at_row : (t : Bool) → same_key x.key key ≡ t → OnTrue t (AppliedAt x.applied bytes) → OnFalse t (BackedBy ps ds n rs x.key x.applied)
+        → BackedBy ps ds n (rs ++ r ∷ []) x.key x.applied
     at_row true e a b =
         let same : key ≡ x.key = sym (key_means x.key key e) in
         backed_here ps ds n rs r x.key bytes x.applied is (k ∙ same) (subst (λ (y : Key). Names ps ds n y bytes) same names) a
     at_row false e a b = backed_more ps ds n rs r x.key x.applied b
 
 -- what is put in is from the package
-among_from : (ps : List PackageText) (ds : List DescriptorOf) (n : ℕ) (rs : List Recorded) (p : Put) (qs : List Put) → IsFrom ps ds rs n p → All (IsFrom ps ds rs n) qs → All (IsFrom ps ds rs n) (put_among p qs)
+among_from : (ps : List PackageText) (ds : List DescriptorOf) (n : ℕ) (rs : List Recorded) (p : Put) (qs : List Put) → IsFrom ps ds rs n p
+    → All (IsFrom ps ds rs n) qs → All (IsFrom ps ds rs n) (put_among p qs)
 among_from ps ds n rs p [] h all = All-cons (IsFrom ps ds rs n) p [] h all
 among_from ps ds n rs p (q ∷ qs) h all =
     cond_both (rises q.key p.key) (q ∷ put_among p qs) (p ∷ q ∷ qs) (All (IsFrom ps ds rs n))
@@ -137,7 +147,8 @@ applied_from : (ps : List PackageText) (ds : List DescriptorOf) (n : ℕ) (rs : 
 applied_from ps ds n rs key None qs b all = all
 applied_from ps ds n rs key (Some image) qs b all = among_from ps ds n rs (put_of key image) qs b all
 
-pub puts_from : (ps : List PackageText) (ds : List DescriptorOf) (n : ℕ) (rs : List Recorded) (rows : List RowOf) → Backed ps ds n rs rows → All (IsFrom ps ds rs n) (puts rows)
+pub puts_from : (ps : List PackageText) (ds : List DescriptorOf) (n : ℕ) (rs : List Recorded) (rows : List RowOf) → Backed ps ds n rs rows
+    → All (IsFrom ps ds rs n) (puts rows)
 unfolding Backed
 puts_from ps ds n rs [] b = All-nil (IsFrom ps ds rs n)
 puts_from ps ds n rs (r ∷ rows) b = applied_from ps ds n rs r.key r.applied (puts rows) b.0 (puts_from ps ds n rs rows b.1)

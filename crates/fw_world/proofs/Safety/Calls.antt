@@ -35,19 +35,25 @@ none_open (Some h) s = absurd (let e = s.1 in cc)
 
 module _ (ps : List PackageText) (ds : List DescriptorOf) (first : List RowOf) (es : List EntryOf) where
   -- a test before a step
-  when : (b : Bool) (t : Stepped) → IfSome (Some t) (λ x. Leaves ps ds first es (Some x)) → Leaves ps ds first es (if b then Some t else None)
+  when : (b : Bool) (t : Stepped) → IfSome (Some t) (λ x. Leaves ps ds first es (Some x))
+      → Leaves ps ds first es (if b then Some t else None)
   when true t s = s
   when false t s = tt
 
   -- GiveUp of the agent
-  silent_at : (m : PairOf) (h : HeldOf) → IsStanding ps ds first es (with_down m (Some h)) → IsStanding ps ds first es (loosened m (silent_stage m.session.stage) m.session.number (Some (record h { live = false })))
-  silent_at m h s = loose_stands ps ds first es (with_down m (Some h)) (silent_stage m.session.stage) m.session.number (Some (record h { live = false })) (loose_silent m.session.stage) s.stray s.told s
+  silent_at : (m : PairOf) (h : HeldOf) → IsStanding ps ds first es (with_down m (Some h))
+      → IsStanding ps ds first es (loosened m (silent_stage m.session.stage) m.session.number (Some (record h { live = false })))
+  silent_at m h s =
+      loose_stands ps ds first es (with_down m (Some h)) (silent_stage m.session.stage) m.session.number (Some (record h { live = false }))
+      (loose_silent m.session.stage) s.stray s.told s
 
-  gives_up : (m : PairOf) (down : Option HeldOf) → IsStanding ps ds first es (with_down m down) → Leaves ps ds first es (silenced (with_down m down) (given_up down))
+  gives_up : (m : PairOf) (down : Option HeldOf) → IsStanding ps ds first es (with_down m down)
+      → Leaves ps ds first es (silenced (with_down m down) (given_up down))
   gives_up m None s = tt
   gives_up m (Some h) s = at_live h.live
     where
-      at_live : (l : Bool) → Leaves ps ds first es (silenced (with_down m (Some h)) (if l then Some (Some (record h { live = false })) else None))
+      at_live : (l : Bool)
+          → Leaves ps ds first es (silenced (with_down m (Some h)) (if l then Some (Some (record h { live = false })) else None))
       at_live true = silent_at m h s
       at_live false = tt
 
@@ -66,7 +72,9 @@ module _ (ps : List PackageText) (ds : List DescriptorOf) (first : List RowOf) (
       (λ e. loose_stands ps ds first es m Stage.Cancelling m.session.number m.down tt s.stray s.told s) (λ e. s)
 
   -- Activate
-  activates_none : (m : PairOf) (j : JobOf) → IsStanding ps ds first es (record m { session = at_stage m.session (Stage.AllApplied j); down = None }) → IsStanding ps ds first es (record m { session = at_stage m.session (Stage.Activate j); down = None })
+  activates_none : (m : PairOf) (j : JobOf)
+      → IsStanding ps ds first es (record m { session = at_stage m.session (Stage.AllApplied j); down = None })
+      → IsStanding ps ds first es (record m { session = at_stage m.session (Stage.Activate j); down = None })
   activates_none m j s =
       record {
         own = s.own;
@@ -82,12 +90,14 @@ module _ (ps : List PackageText) (ds : List DescriptorOf) (first : List RowOf) (
         history = s.history;
       }
 
-  activates_with : (m : PairOf) (j : JobOf) (down : Option HeldOf) → down ≡ None → IsStanding ps ds first es (record m { session = at_stage m.session (Stage.AllApplied j); down = down })
+  activates_with : (m : PairOf) (j : JobOf) (down : Option HeldOf) → down ≡ None
+      → IsStanding ps ds first es (record m { session = at_stage m.session (Stage.AllApplied j); down = down })
       → IsStanding ps ds first es (record m { session = at_stage m.session (Stage.Activate j); down = down })
   activates_with m j None e s = activates_none m j s
   activates_with m j (Some h) e s = absurd (cc)
 
-  activates_at : (m : PairOf) (g : Stage) → IsStanding ps ds first es (with_session m (at_stage m.session g)) → Leaves ps ds first es (activate_with (with_session m (at_stage m.session g)) (option_map (at_stage (at_stage m.session g)) (activated_stage g)))
+  activates_at : (m : PairOf) (g : Stage) → IsStanding ps ds first es (with_session m (at_stage m.session g))
+      → Leaves ps ds first es (activate_with (with_session m (at_stage m.session g)) (option_map (at_stage (at_stage m.session g)) (activated_stage g)))
   activates_at m (Stage.AllApplied j) s = activates_with m j m.down (none_open m.down s.command) s
   activates_at m g s = tt
 
@@ -106,14 +116,17 @@ module _ (ps : List PackageText) (ds : List DescriptorOf) (first : List RowOf) (
       (reset_stands ps ds first es m [] (state_of m.device.phase) (timeout_reason m.device.phase) s)
 
   -- Restart
-  restarts : (m : PairOf) (down : Option HeldOf) → IsStanding ps ds first es (with_down m down) → IsStanding ps ds first es (loosened m Stage.Idle m.session.number (closed down))
+  restarts : (m : PairOf) (down : Option HeldOf) → IsStanding ps ds first es (with_down m down)
+      → IsStanding ps ds first es (loosened m Stage.Idle m.session.number (closed down))
   restarts m None s = loose_stands ps ds first es (with_down m None) Stage.Idle m.session.number None tt s.stray s.told s
-  restarts m (Some h) s = loose_stands ps ds first es (with_down m (Some h)) Stage.Idle m.session.number (Some (record h { live = false })) tt s.stray s.told s
+  restarts m (Some h) s =
+      loose_stands ps ds first es (with_down m (Some h)) Stage.Idle m.session.number (Some (record h { live = false })) tt s.stray s.told s
 
   pub agent_restarts : (m : PairOf) → IsStanding ps ds first es m → Leaves ps ds first es (step_of ps m (StepOf.Restart sides.Agent))
   agent_restarts m s = restarts m m.down s
 
-  closes_up : (m : PairOf) (up : Option HeldOf) → IsStanding ps ds first es (with_up m up) → IsStanding ps ds first es (with_up m (closed up))
+  closes_up : (m : PairOf) (up : Option HeldOf) → IsStanding ps ds first es (with_up m up)
+      → IsStanding ps ds first es (with_up m (closed up))
   closes_up m None s = s
   closes_up m (Some h) s = closed_up ps ds first es m h false s
 

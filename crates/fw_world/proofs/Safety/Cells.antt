@@ -43,12 +43,14 @@ applied_sealed p have e = absurd (cc)
 
 module _ (ps : List PackageText) (ds : List DescriptorOf) where
   module _ (n : ℕ) (rs : List Recorded) (c : ComponentOf) (rows : List RowOf) (bytes : List ℕ) where
-    transfer_asked : (p : Phase) (d e : Option CommandOf) → Transfer ps ds n rs c rows bytes p d None → Transfer ps ds n rs c rows bytes p e None
+    transfer_asked : (p : Phase) (d e : Option CommandOf) → Transfer ps ds n rs c rows bytes p d None
+        → Transfer ps ds n rs c rows bytes p e None
     transfer_asked Phase.Idle d e h = tt
     transfer_asked (Phase.Download u w a) d e h = record { same = h.same; stage = h.stage; backed = h.backed; piece = tt }
     transfer_asked p d e h = absurd h
 
-    pub transfer_none : (p : Phase) (d : Option CommandOf) (r : Option AnswerOf) → Transfer ps ds n rs c rows bytes p d r → Transfer ps ds n rs c rows bytes p None None
+    pub transfer_none : (p : Phase) (d : Option CommandOf) (r : Option AnswerOf) → Transfer ps ds n rs c rows bytes p d r
+        → Transfer ps ds n rs c rows bytes p None None
     transfer_none Phase.Idle d r h = tt
     transfer_none (Phase.Download u w a) d r h = record { same = h.same; stage = h.stage; backed = h.backed; piece = tt }
     transfer_none p d r h = absurd h
@@ -59,17 +61,20 @@ module _ (ps : List PackageText) (ds : List DescriptorOf) where
     begun_none (Phase.Download u w progress.Succeeded) r h = record { same = h.same; stage = h.stage; backed = h.backed; nothing = tt }
     begun_none p r h = absurd h
 
-    pub offered_none : (p : Phase) (r : Option AnswerOf) (b : Bool) → UpdateOffered ps ds n rs c rows bytes p r b → UpdateOffered ps ds n rs c rows bytes p None b
+    pub offered_none : (p : Phase) (r : Option AnswerOf) (b : Bool) → UpdateOffered ps ds n rs c rows bytes p r b
+        → UpdateOffered ps ds n rs c rows bytes p None b
     offered_none p r true h = begun_none p r h
     offered_none p r false h = h
 
-    pub verification_none : (p : Phase) (r : Option AnswerOf) → Verification ps ds n rs c rows bytes p r → Verification ps ds n rs c rows bytes p None
+    pub verification_none : (p : Phase) (r : Option AnswerOf) → Verification ps ds n rs c rows bytes p r
+        → Verification ps ds n rs c rows bytes p None
     verification_none Phase.Idle r h = tt
     verification_none (Phase.Download u w progress.Succeeded) r h = h
     verification_none (Phase.Verify u w a) r h = (h.0, tt)
     verification_none p r h = absurd h
 
-    pub application_none : (p : Phase) (r : Option AnswerOf) → Application ps ds n rs c rows bytes p r → Application ps ds n rs c rows bytes p None
+    pub application_none : (p : Phase) (r : Option AnswerOf) → Application ps ds n rs c rows bytes p r
+        → Application ps ds n rs c rows bytes p None
     application_none Phase.Idle r h = tt
     application_none (Phase.Verify u w progress.Succeeded) r h = h
     application_none (Phase.Apply u w progress.InProgress) r h = (h.0, tt)
@@ -78,22 +83,31 @@ module _ (ps : List PackageText) (ds : List DescriptorOf) where
     application_none p r h = absurd h
 
   -- the device's cell is emptied
-  emptied_together : (rs : List Recorded) (m : PairOf) (n : ℕ) (g : Stage) → Together ps ds rs m n g → Together ps ds rs (with_up m None) n g
-  emptied_together rs m n (Stage.Update t) h = offered_none n rs (at_hand (package_at ps n) t) m.device.rows m.device.stage m.device.phase (reply_of m.up) (is_offered (reply_of m.down)) h
-  emptied_together rs m n (Stage.Download t) h = transfer_none n rs (at_hand (package_at ps n) t) m.device.rows m.device.stage m.device.phase (command_of m.up) (reply_of m.up) h
-  emptied_together rs m n (Stage.Verify t) h = verification_none n rs (at_hand (package_at ps n) t) m.device.rows m.device.stage m.device.phase (reply_of m.up) h
-  emptied_together rs m n (Stage.Apply t) h = application_none n rs (at_hand (package_at ps n) t) m.device.rows m.device.stage m.device.phase (reply_of m.up) h
+  emptied_together : (rs : List Recorded) (m : PairOf) (n : ℕ) (g : Stage) → Together ps ds rs m n g
+      → Together ps ds rs (with_up m None) n g
+  emptied_together rs m n (Stage.Update t) h =
+      offered_none n rs (at_hand (package_at ps n) t) m.device.rows m.device.stage m.device.phase (reply_of m.up)
+      (is_offered (reply_of m.down)) h
+  emptied_together rs m n (Stage.Download t) h =
+      transfer_none n rs (at_hand (package_at ps n) t) m.device.rows m.device.stage m.device.phase (command_of m.up) (reply_of m.up) h
+  emptied_together rs m n (Stage.Verify t) h =
+      verification_none n rs (at_hand (package_at ps n) t) m.device.rows m.device.stage m.device.phase (reply_of m.up) h
+  emptied_together rs m n (Stage.Apply t) h =
+      application_none n rs (at_hand (package_at ps n) t) m.device.rows m.device.stage m.device.phase (reply_of m.up) h
   emptied_together rs m n g h = h
 
   emptied_pending : (es : List EntryOf) (m : PairOf) (n : ℕ) (g : Stage) → Pending ps es m n g → Pending ps es (with_up m None) n g
   emptied_pending es m n (Stage.Apply t) h = λ e. elim e [ inl sealed ↦ h (inl sealed) | inr told ↦ absurd (cc) ]
   emptied_pending es m n g h = tt
 
-  asked_together : (rs : List Recorded) (m : PairOf) (c : CommandOf) (n : ℕ) (g : Stage) → Together ps ds rs (with_up m None) n g → Together ps ds rs (with_up m (Some (fresh_cell c))) n g
-  asked_together rs m c n (Stage.Download t) h = transfer_asked n rs (at_hand (package_at ps n) t) m.device.rows m.device.stage m.device.phase None (Some c) h
+  asked_together : (rs : List Recorded) (m : PairOf) (c : CommandOf) (n : ℕ) (g : Stage) → Together ps ds rs (with_up m None) n g
+      → Together ps ds rs (with_up m (Some (fresh_cell c))) n g
+  asked_together rs m c n (Stage.Download t) h =
+      transfer_asked n rs (at_hand (package_at ps n) t) m.device.rows m.device.stage m.device.phase None (Some c) h
   asked_together rs m c n g h = h
 
-  asked_pending : (es : List EntryOf) (m : PairOf) (c : CommandOf) (n : ℕ) (g : Stage) → device_wish m.device ≡ Some c → Pending ps es (with_up m None) n g → Pending ps es (with_up m (Some (fresh_cell c))) n g
+  asked_pending : (es : List EntryOf) (m : PairOf) (c : CommandOf) (n : ℕ) (g : Stage) → device_wish m.device ≡ Some c
+      → Pending ps es (with_up m None) n g → Pending ps es (with_up m (Some (fresh_cell c))) n g
   asked_pending es m c n (Stage.Apply t) e h = λ k. elim k [
     | inl sealed ↦ h (inl sealed)
     | inr told ↦ h (inl (applied_sealed m.device.phase (length m.device.stage) (subst (λ (x : Option CommandOf). is_applied x ≡ true) (sym e) told)))
@@ -101,8 +115,10 @@ module _ (ps : List PackageText) (ds : List DescriptorOf) where
   asked_pending es m c n g e h = tt
 
   -- the agent's cell is emptied where nobody waits for it
-  dropped_down : (rs : List Recorded) (m : PairOf) (c : CommandOf) (r : Option AnswerOf) (n : ℕ) (g : Stage) → CommandStands g (stage_wish (package_at ps n) g) (Some (record { command = c; reply = r; live = false }))
-      → Together ps ds rs (with_down m (Some (record { command = c; reply = r; live = false }))) n g → Together ps ds rs (with_down m None) n g
+  dropped_down : (rs : List Recorded) (m : PairOf) (c : CommandOf) (r : Option AnswerOf) (n : ℕ) (g : Stage)
+      → CommandStands g (stage_wish (package_at ps n) g) (Some (record { command = c; reply = r; live = false }))
+      → Together ps ds rs (with_down m (Some (record { command = c; reply = r; live = false }))) n g
+      → Together ps ds rs (with_down m None) n g
   dropped_down rs m c r n (Stage.ClearOld j) s h = absurd (let e = s.0 in cc)
   dropped_down rs m c r n (Stage.Request j) s h = absurd (let e = s.0 in cc)
   dropped_down rs m c r n (Stage.Update t) s h = absurd (let e = s.0 in cc)
@@ -119,7 +135,8 @@ module _ (ps : List PackageText) (ds : List DescriptorOf) where
 
   module _ (first : List RowOf) (es : List EntryOf) where
     -- Ask Up
-    asks : (m : PairOf) (wish : Option CommandOf) → wish ≡ device_wish m.device → IsStanding ps ds first es (with_up m None) → Leaves ps ds first es (put_up (with_up m None) (asked None wish))
+    asks : (m : PairOf) (wish : Option CommandOf) → wish ≡ device_wish m.device → IsStanding ps ds first es (with_up m None)
+        → Leaves ps ds first es (put_up (with_up m None) (asked None wish))
     asks m None e s = tt
     asks m (Some c) e s =
         record {
@@ -136,7 +153,8 @@ module _ (ps : List PackageText) (ds : List DescriptorOf) where
           history = s.history;
         }
 
-    asks_at : (m : PairOf) (up : Option HeldOf) → IsStanding ps ds first es (with_up m up) → Leaves ps ds first es (put_up (with_up m up) (asked up (device_wish m.device)))
+    asks_at : (m : PairOf) (up : Option HeldOf) → IsStanding ps ds first es (with_up m up)
+        → Leaves ps ds first es (put_up (with_up m up) (asked up (device_wish m.device)))
     asks_at m None s = asks m (device_wish m.device) refl s
     asks_at m (Some h) s = tt
 
@@ -160,7 +178,8 @@ module _ (ps : List PackageText) (ds : List DescriptorOf) where
           history = s.history;
         }
 
-    drops_up : (m : PairOf) (up : Option HeldOf) → IsStanding ps ds first es (with_up m up) → Leaves ps ds first es (put_up (with_up m up) (dropped_cell up))
+    drops_up : (m : PairOf) (up : Option HeldOf) → IsStanding ps ds first es (with_up m up)
+        → Leaves ps ds first es (put_up (with_up m up) (dropped_cell up))
     drops_up m None s = tt
     drops_up m (Some h) s = at_live h.live
       where
@@ -172,7 +191,8 @@ module _ (ps : List PackageText) (ds : List DescriptorOf) where
     up_drops m s = drops_up m m.up s
 
     -- GiveUp Up
-    pub closed_up : (m : PairOf) (h : HeldOf) (l : Bool) → IsStanding ps ds first es (with_up m (Some h)) → IsStanding ps ds first es (with_up m (Some (record h { live = l })))
+    pub closed_up : (m : PairOf) (h : HeldOf) (l : Bool) → IsStanding ps ds first es (with_up m (Some h))
+        → IsStanding ps ds first es (with_up m (Some (record h { live = l })))
     closed_up m h l s = record {
       own = s.own;
       command = s.command;
@@ -187,11 +207,13 @@ module _ (ps : List PackageText) (ds : List DescriptorOf) where
       history = s.history;
     }
 
-    gives_up : (m : PairOf) (up : Option HeldOf) → IsStanding ps ds first es (with_up m up) → Leaves ps ds first es (put_up (with_up m up) (given_up up))
+    gives_up : (m : PairOf) (up : Option HeldOf) → IsStanding ps ds first es (with_up m up)
+        → Leaves ps ds first es (put_up (with_up m up) (given_up up))
     gives_up m None s = tt
     gives_up m (Some h) s = at_live h.live
       where
-        at_live : (l : Bool) → Leaves ps ds first es (put_up (with_up m (Some h)) (if l then Some (Some (record h { live = false })) else None))
+        at_live : (l : Bool)
+            → Leaves ps ds first es (put_up (with_up m (Some h)) (if l then Some (Some (record h { live = false })) else None))
         at_live true = closed_up m h false s
         at_live false = tt
 
@@ -199,7 +221,9 @@ module _ (ps : List PackageText) (ds : List DescriptorOf) where
     device_gives_up m s = gives_up m m.up s
 
     -- Drop Down
-    drop_dead : (m : PairOf) (c : CommandOf) (r : Option AnswerOf) → IsStanding ps ds first es (with_down m (Some (record { command = c; reply = r; live = false }))) → IsStanding ps ds first es (with_down m None)
+    drop_dead : (m : PairOf) (c : CommandOf) (r : Option AnswerOf)
+        → IsStanding ps ds first es (with_down m (Some (record { command = c; reply = r; live = false })))
+        → IsStanding ps ds first es (with_down m None)
     drop_dead m c r s =
         record {
           own = s.own;
@@ -215,12 +239,14 @@ module _ (ps : List PackageText) (ds : List DescriptorOf) where
           history = s.history;
         }
 
-    drop_at : (m : PairOf) (c : CommandOf) (r : Option AnswerOf) (l : Bool) → IsStanding ps ds first es (with_down m (Some (record { command = c; reply = r; live = l })))
+    drop_at : (m : PairOf) (c : CommandOf) (r : Option AnswerOf) (l : Bool)
+        → IsStanding ps ds first es (with_down m (Some (record { command = c; reply = r; live = l })))
         → Leaves ps ds first es (put_down (with_down m (Some (record { command = c; reply = r; live = l }))) (if l then None else Some None))
     drop_at m c r true s = tt
     drop_at m c r false s = drop_dead m c r s
 
-    drops_down : (m : PairOf) (down : Option HeldOf) → IsStanding ps ds first es (with_down m down) → Leaves ps ds first es (put_down (with_down m down) (dropped_cell down))
+    drops_down : (m : PairOf) (down : Option HeldOf) → IsStanding ps ds first es (with_down m down)
+        → Leaves ps ds first es (put_down (with_down m down) (dropped_cell down))
     drops_down m None s = tt
     drops_down m (Some h) s = drop_at m h.command h.reply h.live s
 

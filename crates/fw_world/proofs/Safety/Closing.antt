@@ -18,7 +18,8 @@ stands_closes : (wish : Option CommandOf) (cell : Option HeldOf) → StandsOpen 
 stands_closes wish None s = tt
 stands_closes wish (Some h) s = (rw (s.0, wished_self h.command wish s.1) refl, s.1)
 
-command_closes : (g : Stage) (wish : Option CommandOf) (cell : Option HeldOf) → CommandStands g wish cell → CommandStands g wish (closed_unless wish cell)
+command_closes : (g : Stage) (wish : Option CommandOf) (cell : Option HeldOf) → CommandStands g wish cell
+    → CommandStands g wish (closed_unless wish cell)
 command_closes Stage.Idle wish cell s = tt
 command_closes Stage.Query wish cell s = tt
 command_closes Stage.Done wish cell s = tt
@@ -28,7 +29,8 @@ command_closes g wish cell s = stands_closes wish cell s
 
 standing_closes : (ps : List PackageText) (ds : List DescriptorOf) (first : List RowOf) (es : List EntryOf) (m : PairOf) (d u : Option HeldOf) (x y : Option CommandOf)
     → CommandStands m.session.stage (down_wish ps m.session) (closed_unless x d)
-    → IsStanding ps ds first es (record m { down = d; up = u }) → IsStanding ps ds first es (record m { down = closed_unless x d; up = closed_unless y u })
+    → IsStanding ps ds first es (record m { down = d; up = u })
+    → IsStanding ps ds first es (record m { down = closed_unless x d; up = closed_unless y u })
 standing_closes ps ds first es m None None x y c s =
     record {
       own = s.own;
@@ -87,7 +89,8 @@ standing_closes ps ds first es m (Some h) (Some k) x y c s =
     }
 
 -- what stands is there after the closing
-pub closes : (ps : List PackageText) (ds : List DescriptorOf) (first : List RowOf) (es : List EntryOf) (m : PairOf) → IsStanding ps ds first es m → IsStanding ps ds first es (unwished_closed ps m)
+pub closes : (ps : List PackageText) (ds : List DescriptorOf) (first : List RowOf) (es : List EntryOf) (m : PairOf)
+    → IsStanding ps ds first es m → IsStanding ps ds first es (unwished_closed ps m)
 unfolding unwished_closed
 closes ps ds first es m s =
     standing_closes ps ds first es m m.down m.up (down_wish ps m.session) (device_wish m.device)

@@ -78,7 +78,8 @@ put_self p = rw (key_self p.key, bytes_self p.bytes) refl
 
 -- a pending application may be recorded
 pub never_recorded : (ps : List PackageText) (es : List EntryOf) (r : Recorded)
-    → IsPending ps (key_of (recorded_component ps r)) (recorded_component ps r).image es → NeverMore ps es → NeverMore ps (es ++ EntryOf.Recording r ∷ [])
+    → IsPending ps (key_of (recorded_component ps r)) (recorded_component ps r).image es → NeverMore ps es
+    → NeverMore ps (es ++ EntryOf.Recording r ∷ [])
 unfolding IsPending NeverMore
 never_recorded ps es r p h key bytes =
     counted (key_of (recorded_component ps r)) (recorded_component ps r).image (records_put ps key bytes r) refl p (recorded_more ps key bytes es r)
@@ -102,7 +103,8 @@ never_recorded ps es r p h key bytes =
         omega arith
 
 -- an application that is noted is pending, and no harm to the balance
-pub pending_applied : (ps : List PackageText) (es : List EntryOf) (p : Put) → NeverMore ps es → IsPending ps p.key p.bytes (es ++ EntryOf.Applied p ∷ [])
+pub pending_applied : (ps : List PackageText) (es : List EntryOf) (p : Put) → NeverMore ps es
+    → IsPending ps p.key p.bytes (es ++ EntryOf.Applied p ∷ [])
 unfolding IsPending NeverMore
 pending_applied ps es p h =
     let one : one_if (same_put p.key p.bytes p.key p.bytes) ≡ 1 = rw (put_self p) refl in
@@ -119,7 +121,8 @@ never_applied ps es p h key bytes =
     let le = h key bytes in
     omega arith
 
-pub never_activated : (ps : List PackageText) (es : List EntryOf) (p : Put) → NeverMore ps es → NeverMore ps (es ++ EntryOf.Activated p ∷ [])
+pub never_activated : (ps : List PackageText) (es : List EntryOf) (p : Put) → NeverMore ps es
+    → NeverMore ps (es ++ EntryOf.Activated p ∷ [])
 unfolding NeverMore
 never_activated ps es p h key bytes =
     let more = applied_activated key bytes es p in
@@ -128,7 +131,8 @@ never_activated ps es p h key bytes =
     omega arith
 
 -- what holds of each beginning, and of the whole with one more, holds of each beginning of that
-pub prefix_more : {A : Type 0} (P : List A → Type 0) (es : List A) (x : A) → ((n : ℕ) → P (take n es)) → P (es ++ x ∷ []) → (n : ℕ) → P (take n (es ++ x ∷ []))
+pub prefix_more : {A : Type 0} (P : List A → Type 0) (es : List A) (x : A) → ((n : ℕ) → P (take n es)) → P (es ++ x ∷ []) → (n : ℕ)
+    → P (take n (es ++ x ∷ []))
 prefix_more P [] x h e zero = h 0
 prefix_more P [] x h e (suc zero) = e
 prefix_more P [] x h e (suc (suc n)) = e

@@ -53,26 +53,31 @@ never_more ps ds es h key bytes =
     let at : P (take (length es) es) = h.applied (length es) key bytes in
     subst P (take-length es) at
 
-balanced : (ps : List PackageText) (ds : List DescriptorOf) (es : List EntryOf) (x : EntryOf) → IsSafe ps ds es → NeverMore ps (es ++ x ∷ [])
-    → (n : ℕ) (key : Key) (bytes : List ℕ) → recorded_count ps key bytes (take n (es ++ x ∷ [])) ≤ applied_count key bytes (take n (es ++ x ∷ []))
+balanced : (ps : List PackageText) (ds : List DescriptorOf) (es : List EntryOf) (x : EntryOf) → IsSafe ps ds es
+    → NeverMore ps (es ++ x ∷ [])
+    → (n : ℕ) (key : Key) (bytes : List ℕ)
+    → recorded_count ps key bytes (take n (es ++ x ∷ [])) ≤ applied_count key bytes (take n (es ++ x ∷ []))
 unfolding NeverMore
 balanced ps ds es x h more n key bytes =
     prefix_more (λ xs. recorded_count ps key bytes xs ≤ applied_count key bytes xs) es x (λ k. h.applied k key bytes) (more key bytes) n
 
 -- an image is applied
-pub safe_applied : (ps : List PackageText) (ds : List DescriptorOf) (es : List EntryOf) (p : Put) → IsSafe ps ds es → IsSafe ps ds (es ++ EntryOf.Applied p ∷ [])
+pub safe_applied : (ps : List PackageText) (ds : List DescriptorOf) (es : List EntryOf) (p : Put) → IsSafe ps ds es
+    → IsSafe ps ds (es ++ EntryOf.Applied p ∷ [])
 safe_applied ps ds es p h = record {
   activated = rw (activations_applied es p) h.activated;
   named = rw (in_applied es p) h.named;
   applied = balanced ps ds es (EntryOf.Applied p) h (never_applied ps es p (never_more ps ds es h));
 }
 
-was_more : (es : List EntryOf) (p : Put) (row : RowOf) (o : Option ImageOf) → IfSome o (λ image. Contains (applied_since [] es) (put_of row.key image))
+was_more : (es : List EntryOf) (p : Put) (row : RowOf) (o : Option ImageOf)
+    → IfSome o (λ image. Contains (applied_since [] es) (put_of row.key image))
     → IfSome o (λ image. Contains (applied_since [] es ++ p ∷ []) (put_of row.key image))
 was_more es p row None h = h
 was_more es p row (Some image) h = Contains-append_left (applied_since [] es) (p ∷ []) (put_of row.key image) h
 
-was_sealed : (es : List EntryOf) (key : Key) (image : ImageOf) (row : RowOf) → WasApplied es row → WasApplied (es ++ EntryOf.Applied (put_of key image) ∷ []) (sealed_if (same_key row.key key) row image)
+was_sealed : (es : List EntryOf) (key : Key) (image : ImageOf) (row : RowOf) → WasApplied es row
+    → WasApplied (es ++ EntryOf.Applied (put_of key image) ∷ []) (sealed_if (same_key row.key key) row image)
 was_sealed es key image row h = rw (since_push_applied [] es (put_of key image)) (at_row (same_key row.key key) refl)
   where
     at_row : (t : Bool) → same_key row.key key ≡ t
@@ -85,7 +90,8 @@ was_sealed es key image row h = rw (since_push_applied [] es (put_of key image))
     at_row false e = was_more es (put_of key image) row row.applied h
 
 pub history_applied : (ps : List PackageText) (ds : List DescriptorOf) (first rows : List RowOf) (made : List Recorded) (es : List EntryOf) (key : Key) (image : ImageOf)
-    → IsHistory ps ds first rows made es → IsHistory ps ds first (sealed rows key image) made (es ++ EntryOf.Applied (put_of key image) ∷ [])
+    → IsHistory ps ds first rows made es
+    → IsHistory ps ds first (sealed rows key image) made (es ++ EntryOf.Applied (put_of key image) ∷ [])
 history_applied ps ds first rows made es key image h = record {
   safe = safe_applied ps ds es (put_of key image) h.safe;
   tied = record {
@@ -99,7 +105,8 @@ history_applied ps ds first rows made es key image h = record {
 
 -- a component is recorded
 safe_recorded : (ps : List PackageText) (ds : List DescriptorOf) (es : List EntryOf) (r : Recorded) → IsNamed ps ds r
-    → IsPending ps (key_of (recorded_component ps r)) (recorded_component ps r).image es → IsSafe ps ds es → IsSafe ps ds (es ++ EntryOf.Recording r ∷ [])
+    → IsPending ps (key_of (recorded_component ps r)) (recorded_component ps r).image es → IsSafe ps ds es
+    → IsSafe ps ds (es ++ EntryOf.Recording r ∷ [])
 safe_recorded ps ds es r named pending h = record {
   activated = rw (activations_recorded es r) h.activated;
   named = rw (in_recorded es r) (All-push (IsNamed ps ds) (recorded_in es) r h.named named);
@@ -109,7 +116,8 @@ safe_recorded ps ds es r named pending h = record {
 was_recorded : (es : List EntryOf) (r : Recorded) (row : RowOf) → WasApplied es row → WasApplied (es ++ EntryOf.Recording r ∷ []) row
 was_recorded es r row h = rw (since_push_recorded [] es r) h
 
-pub history_recorded : (ps : List PackageText) (ds : List DescriptorOf) (first rows : List RowOf) (made : List Recorded) (es : List EntryOf) (r : Recorded) → IsNamed ps ds r
+pub history_recorded : (ps : List PackageText) (ds : List DescriptorOf) (first rows : List RowOf) (made : List Recorded) (es : List EntryOf) (r : Recorded)
+    → IsNamed ps ds r
     → IsPending ps (key_of (recorded_component ps r)) (recorded_component ps r).image es
     → IsHistory ps ds first rows made es → IsHistory ps ds first rows (made ++ r ∷ []) (es ++ EntryOf.Recording r ∷ [])
 history_recorded ps ds first rows made es r named pending h = record {
@@ -161,7 +169,8 @@ balanced_one ps es p h n key bytes =
     prefix_more (λ xs. recorded_count ps key bytes xs ≤ applied_count key bytes xs) es (EntryOf.Activated p) (λ k. h k key bytes)
     (never_activated ps es p (balanced_never ps es h) key bytes) n
 
-balanced_all : (ps : List PackageText) (qs : List Put) (es : List EntryOf) → Balanced ps es → Balanced ps (noted es (map EntryOf.Activated qs))
+balanced_all : (ps : List PackageText) (qs : List Put) (es : List EntryOf) → Balanced ps es
+    → Balanced ps (noted es (map EntryOf.Activated qs))
 balanced_all ps [] es h = h
 balanced_all ps (q ∷ qs) es h = balanced_all ps qs (es ++ EntryOf.Activated q ∷ []) (balanced_one ps es q h)
 
@@ -175,7 +184,8 @@ unfolding Balanced
 safe_balanced ps es h = h
 
 -- an activation begins
-read_begun : (es : List EntryOf) (q : Put) → current_of es ≡ None → read_along nothing_read (es ++ EntryOf.Activated q ∷ []) ≡ activating (read_along nothing_read es).ended (since es) (q ∷ [])
+read_begun : (es : List EntryOf) (q : Put) → current_of es ≡ None
+    → read_along nothing_read (es ++ EntryOf.Activated q ∷ []) ≡ activating (read_along nothing_read es).ended (since es) (q ∷ [])
 unfolding current_of since
 read_begun es q e =
     let r = read_along nothing_read es in
@@ -192,7 +202,8 @@ activations_begun es q qs e =
     ∙ ap (λ all. all ++ record { before = since es; images = q ∷ qs } ∷ []) (sym (activations_none es e))
 
 safe_activated : (ps : List PackageText) (ds : List DescriptorOf) (n : ℕ) (rows : List RowOf) (es : List EntryOf) (o : Option ActivationOf) (qs : List Put)
-    → current_of es ≡ o → IsEnded o rows → puts rows ≡ qs → All (IsFrom ps ds (since es) n) qs → IsSafe ps ds es → IsSafe ps ds (noted es (map EntryOf.Activated qs))
+    → current_of es ≡ o → IsEnded o rows → puts rows ≡ qs → All (IsFrom ps ds (since es) n) qs → IsSafe ps ds es
+    → IsSafe ps ds (noted es (map EntryOf.Activated qs))
 safe_activated ps ds n rows es o [] c e p all h = h
 safe_activated ps ds n rows es (Some a) (q ∷ qs) c e p all h = absurd (let none : puts rows ≡ [] = puts_none rows e in cc)
 safe_activated ps ds n rows es None (q ∷ qs) c e p all h = record {
@@ -214,7 +225,8 @@ all_turned es [] = All-nil (WasApplied es)
 all_turned es (r ∷ rows) = All-cons (WasApplied es) (turned r) (switched rows) (was_turned es r r.applied refl) (all_turned es rows)
 
 pub history_activated : (ps : List PackageText) (ds : List DescriptorOf) (n : ℕ) (first rows : List RowOf) (made : List Recorded) (es : List EntryOf)
-    → Backed ps ds n (since es) rows → IsHistory ps ds first rows made es → IsHistory ps ds first (switched rows) made (noted es (map EntryOf.Activated (puts rows)))
+    → Backed ps ds n (since es) rows → IsHistory ps ds first rows made es
+    → IsHistory ps ds first (switched rows) made (noted es (map EntryOf.Activated (puts rows)))
 history_activated ps ds n first rows made es b h = record {
   safe = safe_activated ps ds n rows es (current_of es) (puts rows) refl h.ended refl (puts_from ps ds n (since es) rows b) h.safe;
   tied = record {

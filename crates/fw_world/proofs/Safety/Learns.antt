@@ -46,7 +46,8 @@ fresh_time rows (Phase.Learn u) h = h
 fresh_time rows p h = absurd h
 
 -- the record of the device's descriptors is the job's
-chosen_planned : (p : PackageText) (ds : List DescriptorOf) (number : ℕ) (r : Result (List ℕ) PlanFault) → record_number p ds ≡ Some number → HasChosen p ds (begun (planned number r))
+chosen_planned : (p : PackageText) (ds : List DescriptorOf) (number : ℕ) (r : Result (List ℕ) PlanFault) → record_number p ds ≡ Some number
+    → HasChosen p ds (begun (planned number r))
 chosen_planned p ds number (Err fault) e = tt
 chosen_planned p ds number (Ok []) e = tt
 chosen_planned p ds number (Ok (n ∷ ns)) e = e
@@ -88,53 +89,65 @@ module _ (ps : List PackageText) (ds : List DescriptorOf) (es : List EntryOf) wh
   failed : (m : PairOf) (s : SessionOf) (n : ℕ) (g : Stage) (cause : Cause) → Learns m s n g (fails cause)
   failed m s n g cause = (tt, tt, tt)
 
-  begun_gone : (m : PairOf) (s : SessionOf) (n : ℕ) (r : Result JobOf Cause) → HasChosen (package_at ps n) ds (begun r) → Gone m s n (begun r)
+  begun_gone : (m : PairOf) (s : SessionOf) (n : ℕ) (r : Result JobOf Cause) → HasChosen (package_at ps n) ds (begun r)
+      → Gone m s n (begun r)
   begun_gone m s n (Err cause) h = (tt, tt, tt)
   begun_gone m s n (Ok j) h = (tt, tt, h)
 
-  query_learns : (m : PairOf) (s : SessionOf) (n : ℕ) (a : AnswerOf) → AreTold ds (Some a) → Learns m s n Stage.Query (learn_row (package_at ps n) Stage.Query (Ok a))
+  query_learns : (m : PairOf) (s : SessionOf) (n : ℕ) (a : AnswerOf) → AreTold ds (Some a)
+      → Learns m s n Stage.Query (learn_row (package_at ps n) Stage.Query (Ok a))
   query_learns m s n (AnswerOf.QueryDeviceIdentifiers xs) t =
       begun_gone m s n (job_for (package_at ps n) xs) (chosen_job (package_at ps n) ds (record_number (package_at ps n) (map told_descriptor xs)) (ap (record_number (package_at ps n)) (sym t)))
   query_learns m s n a t = failed m s n Stage.Query causes.Answer
 
-  params_learns : (m : PairOf) (s : SessionOf) (n : ℕ) (j : JobOf) (a : AnswerOf) → IsChosen (package_at ps n) ds j → Learns m s n (Stage.Params j) (learn_row (package_at ps n) (Stage.Params j) (Ok a))
+  params_learns : (m : PairOf) (s : SessionOf) (n : ℕ) (j : JobOf) (a : AnswerOf) → IsChosen (package_at ps n) ds j
+      → Learns m s n (Stage.Params j) (learn_row (package_at ps n) (Stage.Params j) (Ok a))
   params_learns m s n j (AnswerOf.GetFirmwareParameters devices) c = (tt, tt, c)
   params_learns m s n j a c = failed m s n (Stage.Params j) causes.Answer
 
-  clear_learns : (m : PairOf) (s : SessionOf) (n : ℕ) (j : JobOf) (a : AnswerOf) → IsChosen (package_at ps n) ds j → Cleared m.device.phase (Some a)
+  clear_learns : (m : PairOf) (s : SessionOf) (n : ℕ) (j : JobOf) (a : AnswerOf) → IsChosen (package_at ps n) ds j
+      → Cleared m.device.phase (Some a)
       → Learns m s n (Stage.ClearOld j) (learn_row (package_at ps n) (Stage.ClearOld j) (Ok a))
   clear_learns m s n j AnswerOf.CancelUpdate c h = (h, tt, c)
   clear_learns m s n j (AnswerOf.Refused code) c h =
       cond_both (code == 0x80) (LearnRow.Go (Stage.Request j)) (fails causes.Answer) (Learns m s n (Stage.ClearOld j)) (λ e. (h (eqb-true code 0x80 e), tt, c)) (λ e. failed m s n (Stage.ClearOld j) causes.Answer)
   clear_learns m s n j a c h = failed m s n (Stage.ClearOld j) causes.Answer
 
-  first_gone : (m : PairOf) (s : SessionOf) (n : ℕ) (j : JobOf) (is : List Planned) → IsChosen (package_at ps n) ds j → FreshIn m.device.rows m.device.phase → Gone m s n (first_pass j is)
+  first_gone : (m : PairOf) (s : SessionOf) (n : ℕ) (j : JobOf) (is : List Planned) → IsChosen (package_at ps n) ds j
+      → FreshIn m.device.rows m.device.phase → Gone m s n (first_pass j is)
   first_gone m s n j [] c h = (tt, tt, tt)
   first_gone m s n j (i ∷ is) c h = (fresh_time m.device.rows m.device.phase h, tt, c)
 
-  request_learns : (m : PairOf) (s : SessionOf) (n : ℕ) (j : JobOf) (a : AnswerOf) (d : CommandOf) (l : Bool) → IsChosen (package_at ps n) ds j
-      → Together ps ds (since es) (with_down m (Some (cell d (Some a) l))) n (Stage.Request j) → Learns m s n (Stage.Request j) (learn_row (package_at ps n) (Stage.Request j) (Ok a))
+  request_learns : (m : PairOf) (s : SessionOf) (n : ℕ) (j : JobOf) (a : AnswerOf) (d : CommandOf) (l : Bool)
+      → IsChosen (package_at ps n) ds j
+      → Together ps ds (since es) (with_down m (Some (cell d (Some a) l))) n (Stage.Request j)
+      → Learns m s n (Stage.Request j) (learn_row (package_at ps n) (Stage.Request j) (Ok a))
   request_learns m s n j AnswerOf.RequestUpdate d l c h = first_gone m s n j j.plan c h
   request_learns m s n j (AnswerOf.Refused code) d l c h =
       cond_both (code == 4) LearnRow.Stay (fails causes.Answer) (Learns m s n (Stage.Request j)) (λ e. h) (λ e. failed m s n (Stage.Request j) causes.Answer)
   request_learns m s n j a d l c h = failed m s n (Stage.Request j) causes.Answer
 
-  task_gone : (m : PairOf) (s : SessionOf) (n : ℕ) (j : JobOf) (todo : List Planned) → IsChosen (package_at ps n) ds j → TableTime m.device.rows m.device.phase → Gone m s n (first_task j todo)
+  task_gone : (m : PairOf) (s : SessionOf) (n : ℕ) (j : JobOf) (todo : List Planned) → IsChosen (package_at ps n) ds j
+      → TableTime m.device.rows m.device.phase → Gone m s n (first_task j todo)
   task_gone m s n j [] c h = (tt, tt, tt)
   task_gone m s n j (i ∷ is) c h = (time_waits n (since es) m.device.rows m.device.phase h, tt, c)
 
-  next_gone : (m : PairOf) (s : SessionOf) (n : ℕ) (j : JobOf) (left todo : List Planned) → IsChosen (package_at ps n) ds j → TableTime m.device.rows m.device.phase → Gone m s n (next_pass j left todo)
+  next_gone : (m : PairOf) (s : SessionOf) (n : ℕ) (j : JobOf) (left todo : List Planned) → IsChosen (package_at ps n) ds j
+      → TableTime m.device.rows m.device.phase → Gone m s n (next_pass j left todo)
   next_gone m s n j [] todo c h = task_gone m s n j todo c h
   next_gone m s n j (i ∷ is) todo c h = (h, tt, c)
 
-  pass_learns : (m : PairOf) (s : SessionOf) (n : ℕ) (j : JobOf) (i : Planned) (left todo : List Planned) (a : AnswerOf) → IsChosen (package_at ps n) ds j → TableTime m.device.rows m.device.phase
+  pass_learns : (m : PairOf) (s : SessionOf) (n : ℕ) (j : JobOf) (i : Planned) (left todo : List Planned) (a : AnswerOf)
+      → IsChosen (package_at ps n) ds j → TableTime m.device.rows m.device.phase
       → Learns m s n (Stage.Pass j i left todo) (learn_row (package_at ps n) (Stage.Pass j i left todo) (Ok a))
   pass_learns m s n j i left todo (AnswerOf.PassComponentTable response) c h =
       next_gone m s n j left (with_passed (component_at (package_at ps n) i.component) response.code i todo) c h
   pass_learns m s n j i left todo a c h = failed m s n (Stage.Pass j i left todo) causes.Answer
 
-  update_learns : (m : PairOf) (s : SessionOf) (n : ℕ) (t : TaskOf) (a : AnswerOf) (d : CommandOf) (l : Bool) → IsChosen (package_at ps n) ds t.job
-      → Together ps ds (since es) (with_down m (Some (cell d (Some a) l))) n (Stage.Update t) → Learns m s n (Stage.Update t) (learn_row (package_at ps n) (Stage.Update t) (Ok a))
+  update_learns : (m : PairOf) (s : SessionOf) (n : ℕ) (t : TaskOf) (a : AnswerOf) (d : CommandOf) (l : Bool)
+      → IsChosen (package_at ps n) ds t.job
+      → Together ps ds (since es) (with_down m (Some (cell d (Some a) l))) n (Stage.Update t)
+      → Learns m s n (Stage.Update t) (learn_row (package_at ps n) (Stage.Update t) (Ok a))
   update_learns m s n t (AnswerOf.UpdateComponent response) d l c h =
       cond_both (response.compatibility == 0) (LearnRow.Go (Stage.Download t)) (fails causes.Refused) (Learns m s n (Stage.Update t))
       (λ e.
@@ -146,13 +159,15 @@ module _ (ps : List PackageText) (ds : List DescriptorOf) (es : List EntryOf) wh
   update_learns m s n t a d l c h = failed m s n (Stage.Update t) causes.Answer
 
   activate_learns : (m : PairOf) (s : SessionOf) (n : ℕ) (j : JobOf) (a : AnswerOf) (d : CommandOf) (l : Bool)
-      → Together ps ds (since es) (with_down m (Some (cell d (Some a) l))) n (Stage.Activate j) → Learns m s n (Stage.Activate j) (learn_row (package_at ps n) (Stage.Activate j) (Ok a))
+      → Together ps ds (since es) (with_down m (Some (cell d (Some a) l))) n (Stage.Activate j)
+      → Learns m s n (Stage.Activate j) (learn_row (package_at ps n) (Stage.Activate j) (Ok a))
   activate_learns m s n j (AnswerOf.ActivateFirmware time) d l h = (tt, tt, tt)
   activate_learns m s n j (AnswerOf.Refused code) d l h =
       cond_both (code == 0x84) LearnRow.Stay (fails causes.Answer) (Learns m s n (Stage.Activate j)) (λ e. h) (λ e. failed m s n (Stage.Activate j) causes.Answer)
   activate_learns m s n j a d l h = failed m s n (Stage.Activate j) causes.Answer
 
-  stage_learns : (m : PairOf) (s : SessionOf) (n : ℕ) (a : AnswerOf) (d : CommandOf) (l : Bool) (g : Stage) → AreTold ds (Some a) → HasChosen (package_at ps n) ds g
+  stage_learns : (m : PairOf) (s : SessionOf) (n : ℕ) (a : AnswerOf) (d : CommandOf) (l : Bool) (g : Stage) → AreTold ds (Some a)
+      → HasChosen (package_at ps n) ds g
       → Together ps ds (since es) (with_down m (Some (cell d (Some a) l))) n g → Learns m s n g (learn_row (package_at ps n) g (Ok a))
   stage_learns m s n a d l Stage.Query t c h = query_learns m s n a t
   stage_learns m s n a d l (Stage.Params j) t c h = params_learns m s n j a c
@@ -198,7 +213,8 @@ module _ (ps : List PackageText) (ds : List DescriptorOf) (es : List EntryOf) wh
           history = s.history;
         }
 
-    learn_cell : (law : LearnsInPlan) (m : PairOf) (c : CommandOf) (a : AnswerOf) (l : Bool) → IsStanding ps ds first es (with_down m (Some (cell c (Some a) l)))
+    learn_cell : (law : LearnsInPlan) (m : PairOf) (c : CommandOf) (a : AnswerOf) (l : Bool)
+        → IsStanding ps ds first es (with_down m (Some (cell c (Some a) l)))
         → Leaves ps ds first es (learn_down ps (with_down m (Some (cell c (Some a) l))) (Some a))
     learn_cell law m c a l s =
         let p = package_at ps m.session.number in
@@ -206,15 +222,18 @@ module _ (ps : List PackageText) (ds : List DescriptorOf) (es : List EntryOf) wh
         learn_by_row m (Some (cell c (Some a) l)) row s (law p m.session (Ok a) s.plan)
         (stage_learns m (learn_by m.session row) m.session.number a c l m.session.stage s.told s.chosen s.together)
 
-    learn_at : (law : LearnsInPlan) (m : PairOf) (c : CommandOf) (r : Option AnswerOf) (l : Bool) → IsStanding ps ds first es (with_down m (Some (cell c r l)))
+    learn_at : (law : LearnsInPlan) (m : PairOf) (c : CommandOf) (r : Option AnswerOf) (l : Bool)
+        → IsStanding ps ds first es (with_down m (Some (cell c r l)))
         → Leaves ps ds first es (learn_down ps (with_down m (Some (cell c r l))) (if l then r else None))
     learn_at law m c (Some a) true s = learn_cell law m c a true s
     learn_at law m c None true s = tt
     learn_at law m c r false s = tt
 
-    learn_held : (law : LearnsInPlan) (m : PairOf) (down : Option HeldOf) → IsStanding ps ds first es (with_down m down) → Leaves ps ds first es (learn_down ps (with_down m down) (brought down))
+    learn_held : (law : LearnsInPlan) (m : PairOf) (down : Option HeldOf) → IsStanding ps ds first es (with_down m down)
+        → Leaves ps ds first es (learn_down ps (with_down m down) (brought down))
     learn_held law m None s = tt
     learn_held law m (Some h) s = learn_at law m h.command h.reply h.live s
 
-    pub agent_learns : (law : LearnsInPlan) (m : PairOf) → IsStanding ps ds first es m → Leaves ps ds first es (step_of ps m StepOf.LearnDown)
+    pub agent_learns : (law : LearnsInPlan) (m : PairOf) → IsStanding ps ds first es m
+        → Leaves ps ds first es (step_of ps m StepOf.LearnDown)
     agent_learns law m s = learn_held law m m.down s

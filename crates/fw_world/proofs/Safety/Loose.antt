@@ -22,7 +22,8 @@ cell c r l = record { command = c; reply = r; live = l }
 
 -- a device that is idle again, with nothing applied
 abbrev pub idle_device : DeviceState → List ℕ → State → Reason → DeviceState
-idle_device v bytes previous reason = record v { phase = Phase.Idle; rows = dropped v.rows; stage = bytes; previous = previous; reason = reason }
+idle_device v bytes previous reason =
+    record v { phase = Phase.Idle; rows = dropped v.rows; stage = bytes; previous = previous; reason = reason }
 
 -- the session in another state, and perhaps with another package
 abbrev pub loosened : PairOf → Stage → ℕ → Option HeldOf → PairOf
@@ -38,7 +39,8 @@ fresh_lost rows (Some AnswerOf.RequestUpdate) = tt
 fresh_lost rows r = tt
 
 module _ (ps : List PackageText) (ds : List DescriptorOf) where
-  offered_lost : (n : ℕ) (rs : List Recorded) (c : ComponentOf) (rows : List RowOf) (bytes : List ℕ) (r : Option AnswerOf) (b : Bool) → UpdateOffered ps ds n rs c rows bytes Phase.Idle r b
+  offered_lost : (n : ℕ) (rs : List Recorded) (c : ComponentOf) (rows : List RowOf) (bytes : List ℕ) (r : Option AnswerOf) (b : Bool)
+      → UpdateOffered ps ds n rs c rows bytes Phase.Idle r b
   offered_lost n rs c rows bytes r true = tt
   offered_lost n rs c rows bytes r false = tt
 
@@ -46,21 +48,25 @@ module _ (ps : List PackageText) (ds : List DescriptorOf) where
   activation_lost n rs rows (Some (AnswerOf.ActivateFirmware time)) = tt
   activation_lost n rs rows r = tt
 
-  stray_lost : (rs : List Recorded) (rows other : List RowOf) (p : Phase) (c : Option CommandOf) → Stray ps ds rs rows p c → Stray ps ds rs other Phase.Idle c
+  stray_lost : (rs : List Recorded) (rows other : List RowOf) (p : Phase) (c : Option CommandOf) → Stray ps ds rs rows p c
+      → Stray ps ds rs other Phase.Idle c
   stray_lost rs rows other p (Some (CommandOf.ActivateFirmware b)) s = (s.0, tt)
   stray_lost rs rows other p (Some CommandOf.CancelUpdateComponent) s = s
   stray_lost rs rows other p c s = tt
 
   -- whatever the session and the cells are, a lost device agrees
-  pub lost_together : (rs : List Recorded) (m : PairOf) (v : DeviceState) (n : ℕ) (g : Stage) → Together ps ds rs (record m { device = record v { phase = Phase.Idle } }) n g
+  pub lost_together : (rs : List Recorded) (m : PairOf) (v : DeviceState) (n : ℕ) (g : Stage)
+      → Together ps ds rs (record m { device = record v { phase = Phase.Idle } }) n g
   lost_together rs m v n (Stage.ClearOld j) = cleared_lost (reply_of m.down)
   lost_together rs m v n (Stage.Request j) = fresh_lost v.rows (reply_of m.down)
-  lost_together rs m v n (Stage.Update t) = offered_lost n rs (at_hand (package_at ps n) t) v.rows v.stage (reply_of m.up) (is_offered (reply_of m.down))
+  lost_together rs m v n (Stage.Update t) =
+      offered_lost n rs (at_hand (package_at ps n) t) v.rows v.stage (reply_of m.up) (is_offered (reply_of m.down))
   lost_together rs m v n (Stage.Activate j) = activation_lost n rs v.rows (reply_of m.down)
   lost_together rs m v n g = tt
 
   -- what is told to be applied still is
-  pub lost_pending : (es : List EntryOf) (m : PairOf) (v : DeviceState) (n : ℕ) (g : Stage) → Pending ps es m n g → Pending ps es (record m { device = record v { phase = Phase.Idle } }) n g
+  pub lost_pending : (es : List EntryOf) (m : PairOf) (v : DeviceState) (n : ℕ) (g : Stage) → Pending ps es m n g
+      → Pending ps es (record m { device = record v { phase = Phase.Idle } }) n g
   lost_pending es m v n (Stage.Apply t) s = λ e. elim e [ inl bad ↦ absurd (cc) | inr told ↦ s (inr told) ]
   lost_pending es m v n g s = tt
 

@@ -18,7 +18,8 @@ cut_behind zero (x ∷ xs) ys le = absurd (omega (arith, le))
 cut_behind (suc k) (x ∷ xs) ys le = let less : suc k - suc (length xs) ≡ k - length xs = omega arith in rw less (ap (λ zs. x ∷ zs) (cut_behind k xs ys (omega (arith, le))))
 
 -- what was begun goes on by a window of the same list
-pub piece_kept : (law : WindowContinues) (image stage bytes : List ℕ) (size n : ℕ) → size ≡ length image → stage ≡ take (length stage) image → length stage ≤ size → bytes ≡ window image (length stage) n
+pub piece_kept : (law : WindowContinues) (image stage bytes : List ℕ) (size n : ℕ) → size ≡ length image → stage ≡ take (length stage) image
+    → length stage ≤ size → bytes ≡ window image (length stage) n
     → stage ++ take (size - length stage) bytes ≡ take (length (stage ++ take (size - length stage) bytes)) image
 piece_kept law image stage bytes size n long s le b =
     let whole : take (length image) (take (length stage) image ++ window image (length stage) n) ≡ take (length stage + n) image = law image (length stage) n in

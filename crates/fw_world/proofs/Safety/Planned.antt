@@ -34,20 +34,23 @@ plan_uses p number ns e =
     (nat_lt 200 (length (record_at p number).set_text.bytes) || has_long_text p (record_at p number).uses) (record_at p number).uses e
   where
     tested : (a b c d : Bool) (uses : List ℕ)
-        → (if a then Err DuplicateComponent else if b then Err TooManyComponents else if c then Err ImageTooLarge else if d then Err TextTooLong else Ok uses) ≡ Ok ns → uses ≡ ns
+        → (if a then Err DuplicateComponent else if b then Err TooManyComponents else if c then Err ImageTooLarge else if d then Err TextTooLong else Ok uses) ≡ Ok ns
+        → uses ≡ ns
     tested true b c d uses e = absurd (cc)
     tested false true c d uses e = absurd (cc)
     tested false false true d uses e = absurd (cc)
     tested false false false true uses e = absurd (cc)
     tested false false false false uses e = cc
 
-pub task_names : (law : PlansNamedImages) (ps : List PackageText) (ds : List DescriptorOf) (n : ℕ) (t : TaskOf) → IsChosen (package_at ps n) ds t.job → IsTask (package_at ps n) t
+pub task_names : (law : PlansNamedImages) (ps : List PackageText) (ds : List DescriptorOf) (n : ℕ) (t : TaskOf)
+    → IsChosen (package_at ps n) ds t.job → IsTask (package_at ps n) t
     → Names ps ds n (key_of (at_hand (package_at ps n) t)) (at_hand (package_at ps n) t).image
 unfolding Names
 task_names law ps ds n t c h =
     law (package_at ps n) ds t.job.chosen t.at_hand.component (map number_of t.job.plan) c h.0 (contains_number t.job.plan t.at_hand h.1)
 
-pub task_named : (ps : List PackageText) (ds : List DescriptorOf) (n : ℕ) (t : TaskOf) → IsChosen (package_at ps n) ds t.job → IsTask (package_at ps n) t
+pub task_named : (ps : List PackageText) (ds : List DescriptorOf) (n : ℕ) (t : TaskOf) → IsChosen (package_at ps n) ds t.job
+    → IsTask (package_at ps n) t
     → IsNamed ps ds (record { «package» = n; component = t.at_hand.component })
 task_named ps ds n t c h =
     rw c (subst (λ (ns : List ℕ). Contains ns t.at_hand.component) (sym (plan_uses (package_at ps n) t.job.chosen (map number_of t.job.plan) h.0)) (contains_number t.job.plan t.at_hand h.1))

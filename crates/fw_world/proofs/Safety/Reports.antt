@@ -28,12 +28,14 @@ put_form : (u : UpdateOf) (w : WorkOf) (have : ℕ) → have ≤ w.size → Stag
 put_form u w have le = full_either have w.size (λ a. StageForm (Phase.Download u w a) have) (λ lt. lt) (λ ge. omega (arith, le, ge))
 
 -- nothing is under way
-not_sealed : (u : UpdateOf) (w : WorkOf) (p : Progress) (q : Phase) (x : Option HeldOf) → IsUnderWay (Phase.Download u w p) None → IsUnderWay q x
+not_sealed : (u : UpdateOf) (w : WorkOf) (p : Progress) (q : Phase) (x : Option HeldOf) → IsUnderWay (Phase.Download u w p) None
+    → IsUnderWay q x
 not_sealed u w p q x h = elim h [ inl bad ↦ absurd (cc) | inr bad ↦ absurd (cc) ]
 
 module _ (ps : List PackageText) (ds : List DescriptorOf) where
   put_transfer : (law : WindowContinues) (n : ℕ) (rs : List Recorded) (c : ComponentOf) (rows : List RowOf) (stage bytes : List ℕ) (w : WorkOf) (d : CommandOf) (asked : ℕ)
-      → CommandOf.RequestFirmwareData (length stage) asked ≡ d → length stage < w.size → IsTransfer ps ds n rs c rows stage w (Some d) (Some (AnswerOf.RequestFirmwareData bytes))
+      → CommandOf.RequestFirmwareData (length stage) asked ≡ d → length stage < w.size
+      → IsTransfer ps ds n rs c rows stage w (Some d) (Some (AnswerOf.RequestFirmwareData bytes))
       → IsTransfer ps ds n rs c rows (stage ++ take (w.size - length stage) bytes) w None None
   put_transfer law n rs c rows stage bytes w d asked is lt h =
       let piece : IsPieceOf c.image (Some (CommandOf.RequestFirmwareData (length stage) asked)) (Some (AnswerOf.RequestFirmwareData bytes)) =
@@ -187,12 +189,17 @@ module _ (ps : List PackageText) (ds : List DescriptorOf) where
     download_learnt : (law : WindowContinues) (m : PairOf) (v : DeviceState) (u : UpdateOf) (w : WorkOf) (p : Progress) (d : CommandOf) (a : AnswerOf) (l works : Bool)
         → IsStanding ps ds first es (with_device m (record v { phase = Phase.Download u w p }) (Some (cell d (Some a) l)))
         → IsStanding ps ds first es (with_device m (learn_at (record v { phase = Phase.Download u w p }) (Phase.Download u w p) (Some a) works).after None)
-    download_learnt law m v u w progress.InProgress d (AnswerOf.RequestFirmwareData bytes) l works s = piece_learnt law m v u w d bytes l works s
-    download_learnt law m v u w progress.InProgress d a l works s = emptied_stands ps ds first es (with_device m (record v { phase = Phase.Download u w progress.InProgress }) (Some (cell d (Some a) l))) s
+    download_learnt law m v u w progress.InProgress d (AnswerOf.RequestFirmwareData bytes) l works s =
+        piece_learnt law m v u w d bytes l works s
+    download_learnt law m v u w progress.InProgress d a l works s =
+        emptied_stands ps ds first es
+        (with_device m (record v { phase = Phase.Download u w progress.InProgress }) (Some (cell d (Some a) l))) s
     download_learnt law m v u w progress.Succeeded d AnswerOf.TransferComplete l works s =
         moves_stand ps ds first es m (record v { phase = Phase.Download u w progress.Succeeded }) (Phase.Verify u w progress.InProgress) v.stage (state_of (Phase.Download u w progress.Succeeded)) (Some (cell d (Some AnswerOf.TransferComplete) l)) None
         (verify_moves (since es) v u w (state_of (Phase.Download u w progress.Succeeded)) d l) tt tt (λ h. elim h [ inl bad ↦ absurd (cc) | inr bad ↦ absurd (cc) ]) s
-    download_learnt law m v u w progress.Succeeded d a l works s = emptied_stands ps ds first es (with_device m (record v { phase = Phase.Download u w progress.Succeeded }) (Some (cell d (Some a) l))) s
+    download_learnt law m v u w progress.Succeeded d a l works s =
+        emptied_stands ps ds first es
+        (with_device m (record v { phase = Phase.Download u w progress.Succeeded }) (Some (cell d (Some a) l))) s
     download_learnt law m v u w (progress.Failed b) d a l works s =
         moves_stand ps ds first es m (record v { phase = Phase.Download u w (progress.Failed b) }) (Phase.Download u w (progress.Failed true)) v.stage v.previous (Some (cell d (Some a) l)) None
         (reported_download (since es) v u w b (Some (cell d (Some a) l))) tt tt (λ h. elim h [ inl bad ↦ absurd (cc) | inr bad ↦ absurd (cc) ]) s
@@ -201,11 +208,15 @@ module _ (ps : List PackageText) (ds : List DescriptorOf) where
     verify_learnt : (m : PairOf) (v : DeviceState) (u : UpdateOf) (w : WorkOf) (p : Progress) (d : CommandOf) (a : AnswerOf) (l works : Bool)
         → IsStanding ps ds first es (with_device m (record v { phase = Phase.Verify u w p }) (Some (cell d (Some a) l)))
         → IsStanding ps ds first es (with_device m (learn_at (record v { phase = Phase.Verify u w p }) (Phase.Verify u w p) (Some a) works).after None)
-    verify_learnt m v u w progress.InProgress d a l works s = emptied_stands ps ds first es (with_device m (record v { phase = Phase.Verify u w progress.InProgress }) (Some (cell d (Some a) l))) s
+    verify_learnt m v u w progress.InProgress d a l works s =
+        emptied_stands ps ds first es (with_device m (record v { phase = Phase.Verify u w progress.InProgress }) (Some (cell d (Some a) l)))
+        s
     verify_learnt m v u w progress.Succeeded d AnswerOf.VerifyComplete l works s =
         moves_stand ps ds first es m (record v { phase = Phase.Verify u w progress.Succeeded }) (Phase.Apply u w progress.InProgress) v.stage (state_of (Phase.Verify u w progress.Succeeded)) (Some (cell d (Some AnswerOf.VerifyComplete) l)) None
         (apply_moves (since es) v u w (state_of (Phase.Verify u w progress.Succeeded)) d l) tt tt (λ h. elim h [ inl bad ↦ absurd (cc) | inr bad ↦ absurd (cc) ]) s
-    verify_learnt m v u w progress.Succeeded d a l works s = emptied_stands ps ds first es (with_device m (record v { phase = Phase.Verify u w progress.Succeeded }) (Some (cell d (Some a) l))) s
+    verify_learnt m v u w progress.Succeeded d a l works s =
+        emptied_stands ps ds first es (with_device m (record v { phase = Phase.Verify u w progress.Succeeded }) (Some (cell d (Some a) l)))
+        s
     verify_learnt m v u w (progress.Failed b) d a l works s =
         moves_stand ps ds first es m (record v { phase = Phase.Verify u w (progress.Failed b) }) (Phase.Verify u w (progress.Failed true)) v.stage v.previous (Some (cell d (Some a) l)) None
         (reported_verify (since es) v u w b (Some (cell d (Some a) l))) tt tt (λ h. elim h [ inl bad ↦ absurd (cc) | inr bad ↦ absurd (cc) ]) s
@@ -214,11 +225,14 @@ module _ (ps : List PackageText) (ds : List DescriptorOf) where
     apply_learnt : (m : PairOf) (v : DeviceState) (u : UpdateOf) (w : WorkOf) (p : Progress) (d : CommandOf) (a : AnswerOf) (l works : Bool)
         → IsStanding ps ds first es (with_device m (record v { phase = Phase.Apply u w p }) (Some (cell d (Some a) l)))
         → IsStanding ps ds first es (with_device m (learn_at (record v { phase = Phase.Apply u w p }) (Phase.Apply u w p) (Some a) works).after None)
-    apply_learnt m v u w progress.InProgress d a l works s = emptied_stands ps ds first es (with_device m (record v { phase = Phase.Apply u w progress.InProgress }) (Some (cell d (Some a) l))) s
+    apply_learnt m v u w progress.InProgress d a l works s =
+        emptied_stands ps ds first es (with_device m (record v { phase = Phase.Apply u w progress.InProgress }) (Some (cell d (Some a) l)))
+        s
     apply_learnt m v u w progress.Succeeded d AnswerOf.ApplyComplete l works s =
         moves_stand ps ds first es m (record v { phase = Phase.Apply u w progress.Succeeded }) (Phase.Ready u) [] (state_of (Phase.Apply u w progress.Succeeded)) (Some (cell d (Some AnswerOf.ApplyComplete) l)) None
         (ready_moves (since es) v u w (state_of (Phase.Apply u w progress.Succeeded)) d l) tt tt (λ h. elim h [ inl bad ↦ absurd (cc) | inr bad ↦ absurd (cc) ]) s
-    apply_learnt m v u w progress.Succeeded d a l works s = emptied_stands ps ds first es (with_device m (record v { phase = Phase.Apply u w progress.Succeeded }) (Some (cell d (Some a) l))) s
+    apply_learnt m v u w progress.Succeeded d a l works s =
+        emptied_stands ps ds first es (with_device m (record v { phase = Phase.Apply u w progress.Succeeded }) (Some (cell d (Some a) l))) s
     apply_learnt m v u w (progress.Failed b) d a l works s =
         moves_stand ps ds first es m (record v { phase = Phase.Apply u w (progress.Failed b) }) (Phase.Apply u w (progress.Failed true)) v.stage v.previous (Some (cell d (Some a) l)) None
         (reported_apply (since es) v u w b (Some (cell d (Some a) l))) tt tt (λ h. elim h [ inl bad ↦ absurd (cc) | inr bad ↦ absurd (cc) ]) s
@@ -231,15 +245,18 @@ module _ (ps : List PackageText) (ds : List DescriptorOf) where
     learnt_at law m v (Phase.Apply u w p) d a l works s = apply_learnt m v u w p d a l works s
     learnt_at law m v p d a l works s = emptied_stands ps ds first es (with_device m (record v { phase = p }) (Some (cell d (Some a) l))) s
 
-    learn_live : (law : WindowContinues) (m : PairOf) (c : CommandOf) (r : Option AnswerOf) (l works : Bool) → IsStanding ps ds first es (with_up m (Some (cell c r l)))
+    learn_live : (law : WindowContinues) (m : PairOf) (c : CommandOf) (r : Option AnswerOf) (l works : Bool)
+        → IsStanding ps ds first es (with_up m (Some (cell c r l)))
         → Leaves ps ds first es (learn_up (with_up m (Some (cell c r l))) (if l then r else None) works)
     learn_live law m c (Some a) true works s = learnt_at law m m.device m.device.phase c a true works s
     learn_live law m c None true works s = tt
     learn_live law m c r false works s = tt
 
-    learn_held : (law : WindowContinues) (m : PairOf) (up : Option HeldOf) (works : Bool) → IsStanding ps ds first es (with_up m up) → Leaves ps ds first es (learn_up (with_up m up) (brought up) works)
+    learn_held : (law : WindowContinues) (m : PairOf) (up : Option HeldOf) (works : Bool) → IsStanding ps ds first es (with_up m up)
+        → Leaves ps ds first es (learn_up (with_up m up) (brought up) works)
     learn_held law m None works s = tt
     learn_held law m (Some h) works s = learn_live law m h.command h.reply h.live works s
 
-  pub device_learns : (first : List RowOf) (es : List EntryOf) (law : WindowContinues) (m : PairOf) (works : Bool) → IsStanding ps ds first es m → Leaves ps ds first es (step_of ps m (StepOf.LearnUp works))
+  pub device_learns : (first : List RowOf) (es : List EntryOf) (law : WindowContinues) (m : PairOf) (works : Bool)
+      → IsStanding ps ds first es m → Leaves ps ds first es (step_of ps m (StepOf.LearnUp works))
   device_learns first es law m works s = learn_held first es law m m.up works s

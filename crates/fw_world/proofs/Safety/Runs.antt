@@ -38,7 +38,8 @@ pub record Laws : Type 0 where
   pub pieces : WindowContinues
 
 module _ (ps : List PackageText) (ds : List DescriptorOf) (first : List RowOf) where
-  step_stands : (laws : Laws) (es : List EntryOf) (m : PairOf) (s : StepOf) → IsStanding ps ds first es m → Leaves ps ds first es (step_of ps m s)
+  step_stands : (laws : Laws) (es : List EntryOf) (m : PairOf) (s : StepOf) → IsStanding ps ds first es m
+      → Leaves ps ds first es (step_of ps m s)
   step_stands laws es m StepOf.AskDown h = agent_asks ps ds first es m h
   step_stands laws es m StepOf.AskUp h = device_asks ps ds first es m h
   step_stands laws es m (StepOf.TakeDown quiet works) h = device_takes ps ds first es m quiet works h
@@ -66,7 +67,8 @@ module _ (ps : List PackageText) (ds : List DescriptorOf) (first : List RowOf) w
   closed_after es None h = tt
   closed_after es (Some t) h = closes ps ds first (noted es t.noted) t.after h
 
-  pub pair_stands : (laws : Laws) (es : List EntryOf) (m : PairOf) (s : StepOf) → IsStanding ps ds first es m → Leaves ps ds first es (pair_after ps m s)
+  pub pair_stands : (laws : Laws) (es : List EntryOf) (m : PairOf) (s : StepOf) → IsStanding ps ds first es m
+      → Leaves ps ds first es (pair_after ps m s)
   unfolding pair_after
   pair_stands laws es m s h = closed_after es (step_of ps m s) (step_stands laws es m s h)
 
@@ -95,7 +97,8 @@ none_more : (ps : List PackageText) (key : Key) (bytes : List ℕ) → recorded_
 unfolding recorded_count applied_count
 none_more ps key bytes = omega arith
 
-balanced_nothing : (ps : List PackageText) (n : ℕ) (key : Key) (bytes : List ℕ) → recorded_count ps key bytes (take n []) ≤ applied_count key bytes (take n [])
+balanced_nothing : (ps : List PackageText) (n : ℕ) (key : Key) (bytes : List ℕ)
+    → recorded_count ps key bytes (take n []) ≤ applied_count key bytes (take n [])
 balanced_nothing ps zero key bytes = none_more ps key bytes
 balanced_nothing ps (suc n) key bytes = none_more ps key bytes
 
@@ -117,7 +120,8 @@ none_are (r ∷ rows) h = (All-head IsUnapplied r rows h, none_are rows (All-tai
 was_unapplied : (row : RowOf) → IsUnapplied row → WasApplied [] row
 was_unapplied row e = rw e tt
 
-history_nothing : (ps : List PackageText) (ds : List DescriptorOf) (rows : List RowOf) → All IsUnapplied rows → IsHistory ps ds rows rows [] []
+history_nothing : (ps : List PackageText) (ds : List DescriptorOf) (rows : List RowOf) → All IsUnapplied rows
+    → IsHistory ps ds rows rows [] []
 history_nothing ps ds rows h = record {
   safe = safe_nothing ps ds;
   tied = record { active = refl; applied = (λ k d lt. was_unapplied (slice_index_or rows k d) (h k d lt)); records = refl };
@@ -141,7 +145,8 @@ begins ps v h = record {
   history = history_nothing ps (map told_descriptor v.descriptors) v.rows h;
 }
 
-pub opening_stands : (ps : List PackageText) (r : PairRun) → IsOpening r → Stands ps (map told_descriptor r.pair.device.descriptors) r.pair.device.rows r
+pub opening_stands : (ps : List PackageText) (r : PairRun) → IsOpening r
+    → Stands ps (map told_descriptor r.pair.device.descriptors) r.pair.device.rows r
 opening_stands ps r h =
     let v = r.pair.device in
     let P : Phase → SessionOf → Option HeldOf → Option HeldOf → List EntryOf → Type 0 = λ p s d u es.
@@ -154,7 +159,8 @@ opening_stands ps r h =
     subst (λ (x : List EntryOf). P r.pair.device.phase r.pair.session r.pair.down r.pair.up x) (sym h.entries) e
 
 -- what stands is safe and tied
-safe_and_tied : (ps : List PackageText) (opening : PairRun) (o : Option PairRun) → IfSome o (Stands ps (map told_descriptor opening.pair.device.descriptors) opening.pair.device.rows)
+safe_and_tied : (ps : List PackageText) (opening : PairRun) (o : Option PairRun)
+    → IfSome o (Stands ps (map told_descriptor opening.pair.device.descriptors) opening.pair.device.rows)
     → IfSome o (IsSafeAndTied ps opening)
 safe_and_tied ps opening None h = tt
 safe_and_tied ps opening (Some r) h = record { safe = h.history.safe; tied = h.history.tied }

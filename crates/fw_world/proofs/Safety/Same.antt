@@ -56,7 +56,8 @@ request_self a =
     ) refl
 
 entry_self : (a : EntryOf) → same_entry a a ≡ true
-entry_self a = rw (eq-eqb (flag_byte a.flag) (flag_byte a.flag) refl, key_self a.key, eq-eqb a.index a.index refl, version_self a.version) refl
+entry_self a =
+    rw (eq-eqb (flag_byte a.flag) (flag_byte a.flag) refl, key_self a.key, eq-eqb a.index a.index refl, version_self a.version) refl
 
 offer_self : (a : OfferOf) → same_offer a a ≡ true
 offer_self a = rw (key_self a.key, eq-eqb a.index a.index refl, version_self a.version, eq-eqb a.size a.size refl, bool_self a.force) refl

@@ -45,7 +45,8 @@ one_switched rows = record { of = no_image; are = none_of_switched rows }
 abbrev sealing : (Key → Option ImageOf) → Key → ImageOf → Key → Option ImageOf
 sealing f key image k = if same_key k key then Some image else f k
 
-sealed_are : (f : Key → Option ImageOf) (rows : List RowOf) (key : Key) (image : ImageOf) → AreApplied f rows → AreApplied (sealing f key image) (sealed rows key image)
+sealed_are : (f : Key → Option ImageOf) (rows : List RowOf) (key : Key) (image : ImageOf) → AreApplied f rows
+    → AreApplied (sealing f key image) (sealed rows key image)
 unfolding AreApplied
 sealed_are f [] key image h = tt
 sealed_are f (r ∷ rows) key image h = (at_row (same_key r.key key) refl, sealed_are f rows key image h.1)
@@ -74,7 +75,8 @@ right_among f p (q ∷ qs) h all =
 
 here_among : (p : Put) (qs : List Put) → HasPut p.key (put_among p qs)
 here_among p [] = inl refl
-here_among p (q ∷ qs) = cond_both (rises q.key p.key) (q ∷ put_among p qs) (p ∷ q ∷ qs) (HasPut p.key) (λ e. inr (here_among p qs)) (λ e. inl refl)
+here_among p (q ∷ qs) =
+    cond_both (rises q.key p.key) (q ∷ put_among p qs) (p ∷ q ∷ qs) (HasPut p.key) (λ e. inr (here_among p qs)) (λ e. inl refl)
 
 there_among : (key : Key) (p : Put) (qs : List Put) → HasPut key qs → HasPut key (put_among p qs)
 there_among key p [] h = absurd h
@@ -83,9 +85,11 @@ there_among key p (q ∷ qs) h =
     (λ e. elim h [ inl here ↦ inl here | inr there ↦ inr (there_among key p qs there) ])
     (λ e. inr h)
 
-right_applied : (f : Key → Option ImageOf) (key : Key) (o : Option ImageOf) (qs : List Put) → o ≡ f key → All (IsRight f) qs → All (IsRight f) (put_applied key o qs)
+right_applied : (f : Key → Option ImageOf) (key : Key) (o : Option ImageOf) (qs : List Put) → o ≡ f key → All (IsRight f) qs
+    → All (IsRight f) (put_applied key o qs)
 right_applied f key None qs e all = all
-right_applied f key (Some image) qs e all = right_among f (put_of key image) qs (subst (λ (o : Option ImageOf). IsSomeAnd o (λ i. i.bytes ≡ image.bytes)) e refl) all
+right_applied f key (Some image) qs e all =
+    right_among f (put_of key image) qs (subst (λ (o : Option ImageOf). IsSomeAnd o (λ i. i.bytes ≡ image.bytes)) e refl) all
 
 puts_right : (f : Key → Option ImageOf) (rows : List RowOf) → AreApplied f rows → All (IsRight f) (puts rows)
 unfolding AreApplied
@@ -108,7 +112,8 @@ right_bytes : (f : Key → Option ImageOf) (p : Put) (image : ImageOf) → f p.k
 right_bytes f p image e h = sym (subst (λ (o : Option ImageOf). IsSomeAnd o (λ i. i.bytes ≡ p.bytes)) e h)
 
 other_put : (key : Key) (p : Put) (ps : List Put) → same_key key p.key ≡ false → (p.key ≡ key) ⊎ HasPut key ps → HasPut key ps
-other_put key p ps s h = elim h [ inl here ↦ absurd (let same : same_key key p.key ≡ true = rw here (key_self key) in cc) | inr there ↦ there ]
+other_put key p ps s h =
+    elim h [ inl here ↦ absurd (let same : same_key key p.key ≡ true = rw here (key_self key) in cc) | inr there ↦ there ]
 
 still : (key : Key) (bytes : List ℕ) (image : ImageOf) (p : Put) (ps : List Put) → same_key key p.key ≡ false
     → (bytes ≡ image.bytes) ⊎ HasPut key (p ∷ ps) → (bytes ≡ image.bytes) ⊎ HasPut key ps

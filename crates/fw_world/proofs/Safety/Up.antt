@@ -65,7 +65,9 @@ module _ (ps : List PackageText) (ds : List DescriptorOf) (es : List EntryOf) wh
   Serves m s c l n g (ServeRow.Record t) = IsRecordable m n t
 
   -- a refusal
-  refused_up : (m : PairOf) (s : SessionOf) (c : CommandOf) (l : Bool) (n : ℕ) (code : ℕ) (g : Stage) → Together ps ds (since es) (with_up m (Some (cell c None l))) n g → Together ps ds (since es) (served m s c (AnswerOf.Refused code) l) n g
+  refused_up : (m : PairOf) (s : SessionOf) (c : CommandOf) (l : Bool) (n : ℕ) (code : ℕ) (g : Stage)
+      → Together ps ds (since es) (with_up m (Some (cell c None l))) n g
+      → Together ps ds (since es) (served m s c (AnswerOf.Refused code) l) n g
   refused_up m s c l n code (Stage.Update t) h =
       offered_refused ps ds n (since es) (at_hand (package_at ps n) t) m.device.rows m.device.stage m.device.phase (Some (AnswerOf.Refused code)) (is_offered (reply_of m.down)) tt h
   refused_up m s c l n code (Stage.Download t) h =
@@ -77,9 +79,11 @@ module _ (ps : List PackageText) (ds : List DescriptorOf) (es : List EntryOf) wh
   refused_up m s c l n code g h = h
 
   -- RequestFirmwareData
-  data_serves : (m : PairOf) (s : SessionOf) (l : Bool) (n offset size : ℕ) (g : Stage) → IsAsking m (CommandOf.RequestFirmwareData offset size) l n g
+  data_serves : (m : PairOf) (s : SessionOf) (l : Bool) (n offset size : ℕ) (g : Stage)
+      → IsAsking m (CommandOf.RequestFirmwareData offset size) l n g
       → Serves m s (CommandOf.RequestFirmwareData offset size) l n g (serve_row (package_at ps n) g (CommandOf.RequestFirmwareData offset size))
-  data_serves m s l n offset size (Stage.Update t) k = refused_up m s (CommandOf.RequestFirmwareData offset size) l n 0x89 (Stage.Update t) k.together
+  data_serves m s l n offset size (Stage.Update t) k =
+      refused_up m s (CommandOf.RequestFirmwareData offset size) l n 0x89 (Stage.Update t) k.together
   data_serves m s l n offset size (Stage.Download t) k =
       let c = CommandOf.RequestFirmwareData offset size in
       let image = (at_hand (package_at ps n) t).image in
@@ -104,7 +108,8 @@ module _ (ps : List PackageText) (ds : List DescriptorOf) (es : List EntryOf) wh
   transfer_serves m s l n r g k = refused_up m s (CommandOf.TransferComplete r) l n 0x88 g k.together
 
   -- VerifyComplete
-  not_yet : (m : PairOf) (s : SessionOf) (c : CommandOf) (a : AnswerOf) (l : Bool) (n : ℕ) (t : TaskOf) → Together ps ds (since es) (with_up m (Some (cell c None l))) n (Stage.Verify t) → Pending ps es (served m s c a l) n (Stage.Apply t)
+  not_yet : (m : PairOf) (s : SessionOf) (c : CommandOf) (a : AnswerOf) (l : Bool) (n : ℕ) (t : TaskOf)
+      → Together ps ds (since es) (with_up m (Some (cell c None l))) n (Stage.Verify t) → Pending ps es (served m s c a l) n (Stage.Apply t)
   not_yet m s c a l n t h = λ e. elim e [
     | inl sealed ↦ absurd (verify_unsealed ps ds n (since es) (at_hand (package_at ps n) t) m.device.rows m.device.stage m.device.phase h sealed)
     | inr told ↦ absurd (cc)
@@ -128,13 +133,17 @@ module _ (ps : List PackageText) (ds : List DescriptorOf) (es : List EntryOf) wh
   verify_serves m s l n r g k = refused_up m s (CommandOf.VerifyComplete r) l n 0x88 g k.together
 
   -- ApplyComplete
-  none_asked : (n : ℕ) (t : TaskOf) (down : Option HeldOf) → CommandStands (Stage.Apply t) (stage_wish (package_at ps n) (Stage.Apply t)) down → down ≡ None
+  none_asked : (n : ℕ) (t : TaskOf) (down : Option HeldOf)
+      → CommandStands (Stage.Apply t) (stage_wish (package_at ps n) (Stage.Apply t)) down → down ≡ None
   none_asked n t None h = refl
   none_asked n t (Some h) s = absurd (let e = s.1 in cc)
 
-  recordable : (law : PlansNamedImages) (m : PairOf) (l : Bool) (n r x : ℕ) (t : TaskOf) → (r == 0) ≡ true → IsAsking m (CommandOf.ApplyComplete r x) l n (Stage.Apply t) → IsRecordable m n t
+  recordable : (law : PlansNamedImages) (m : PairOf) (l : Bool) (n r x : ℕ) (t : TaskOf) → (r == 0) ≡ true
+      → IsAsking m (CommandOf.ApplyComplete r x) l n (Stage.Apply t) → IsRecordable m n t
   recordable law m l n r x t z k = record {
-    settled = sealed_settles ps ds n (since es) (at_hand (package_at ps n) t) m.device.rows m.device.stage m.device.phase (length m.device.stage) r x (record_at n t) z k.own refl refl
+    settled =
+        sealed_settles ps ds n (since es) (at_hand (package_at ps n) t) m.device.rows m.device.stage m.device.phase (length m.device.stage)
+        r x (record_at n t) z k.own refl refl
         (task_names law ps ds n t k.chosen k.plan) k.together;
     pending = k.pending (inr z);
     named = task_named ps ds n t k.chosen k.plan;
@@ -142,7 +151,8 @@ module _ (ps : List PackageText) (ds : List DescriptorOf) (es : List EntryOf) wh
     chosen = k.chosen;
   }
 
-  apply_serves : (law : PlansNamedImages) (m : PairOf) (s : SessionOf) (l : Bool) (n r x : ℕ) (g : Stage) → IsAsking m (CommandOf.ApplyComplete r x) l n g
+  apply_serves : (law : PlansNamedImages) (m : PairOf) (s : SessionOf) (l : Bool) (n r x : ℕ) (g : Stage)
+      → IsAsking m (CommandOf.ApplyComplete r x) l n g
       → Serves m s (CommandOf.ApplyComplete r x) l n g (serve_row (package_at ps n) g (CommandOf.ApplyComplete r x))
   apply_serves law m s l n r x (Stage.Update t) k =
       cond_both ((r == 0) && nat_lt 0 t.made) (ServeRow.Say AnswerOf.ApplyComplete) unexpected (Serves m s (CommandOf.ApplyComplete r x) l n (Stage.Update t))
@@ -158,18 +168,21 @@ module _ (ps : List PackageText) (ds : List DescriptorOf) (es : List EntryOf) wh
       cond_both (r == 0) (ServeRow.Say AnswerOf.ApplyComplete) unexpected (Serves m s (CommandOf.ApplyComplete r x) l n (Stage.Activate j)) (λ z. k.together) (λ z. k.together)
   apply_serves law m s l n r x g k = refused_up m s (CommandOf.ApplyComplete r x) l n 0x88 g k.together
 
-  serves : (law : PlansNamedImages) (m : PairOf) (s : SessionOf) (l : Bool) (n : ℕ) (g : Stage) (c : CommandOf) → IsAsking m c l n g → Serves m s c l n g (serve_row (package_at ps n) g c)
+  serves : (law : PlansNamedImages) (m : PairOf) (s : SessionOf) (l : Bool) (n : ℕ) (g : Stage) (c : CommandOf) → IsAsking m c l n g
+      → Serves m s c l n g (serve_row (package_at ps n) g c)
   serves law m s l n g (CommandOf.RequestFirmwareData offset size) k = data_serves m s l n offset size g k
   serves law m s l n g (CommandOf.TransferComplete r) k = transfer_serves m s l n r g k
   serves law m s l n g (CommandOf.VerifyComplete r) k = verify_serves m s l n r g k
   serves law m s l n g (CommandOf.ApplyComplete r x) k = apply_serves law m s l n r x g k
   serves law m s l n g c k = refused_up m s c l n 5 g k.together
 
-  pending_answered : (m : PairOf) (s : SessionOf) (c : CommandOf) (a : AnswerOf) (l : Bool) (n : ℕ) (g : Stage) → Pending ps es (with_up m (Some (cell c None l))) n g → Pending ps es (served m s c a l) n g
+  pending_answered : (m : PairOf) (s : SessionOf) (c : CommandOf) (a : AnswerOf) (l : Bool) (n : ℕ) (g : Stage)
+      → Pending ps es (with_up m (Some (cell c None l))) n g → Pending ps es (served m s c a l) n g
   pending_answered m s c a l n (Stage.Apply t) h = λ e. elim e [ inl sealed ↦ h (inl sealed) | inr told ↦ absurd (cc) ]
   pending_answered m s c a l n g h = tt
 
-  after_command : (n : ℕ) (t : TaskOf) (todo : List Planned) → CommandStands (task_after t todo) (stage_wish (package_at ps n) (task_after t todo)) None
+  after_command : (n : ℕ) (t : TaskOf) (todo : List Planned)
+      → CommandStands (task_after t todo) (stage_wish (package_at ps n) (task_after t todo)) None
   after_command n t [] = tt
   after_command n t (i ∷ is) = tt
 
@@ -177,7 +190,8 @@ module _ (ps : List PackageText) (ds : List DescriptorOf) (es : List EntryOf) wh
   after_pending m xs n t [] = tt
   after_pending m xs n t (i ∷ is) = tt
 
-  after_chosen : (n : ℕ) (t : TaskOf) (todo : List Planned) → HasChosen (package_at ps n) ds (Stage.Apply t) → HasChosen (package_at ps n) ds (task_after t todo)
+  after_chosen : (n : ℕ) (t : TaskOf) (todo : List Planned) → HasChosen (package_at ps n) ds (Stage.Apply t)
+      → HasChosen (package_at ps n) ds (task_after t todo)
   after_chosen n t [] h = h
   after_chosen n t (i ∷ is) h = h
 
@@ -185,7 +199,8 @@ module _ (ps : List PackageText) (ds : List DescriptorOf) (es : List EntryOf) wh
   settled_waits n rs rows (Phase.Learn u) h = absurd h
   settled_waits n rs rows p h = h
 
-  after_together : (rs : List Recorded) (m : PairOf) (n : ℕ) (t : TaskOf) (todo : List Planned) → m.down ≡ None → Settled ps ds n rs m.device.rows m.device.phase → Together ps ds rs m n (task_after t todo)
+  after_together : (rs : List Recorded) (m : PairOf) (n : ℕ) (t : TaskOf) (todo : List Planned) → m.down ≡ None
+      → Settled ps ds n rs m.device.rows m.device.phase → Together ps ds rs m n (task_after t todo)
   after_together rs m n t [] d h = h
   after_together rs m n t (i ∷ is) d h = rw d (settled_waits n rs m.device.rows m.device.phase h)
 
@@ -254,7 +269,8 @@ module _ (ps : List PackageText) (ds : List DescriptorOf) (es : List EntryOf) wh
           history = history_recorded ps ds first m.device.rows m.session.records es r h.named h.pending s.history;
         }
 
-    take_command : (serves_law : ServesInPlan) (names_law : PlansNamedImages) (m : PairOf) (c : CommandOf) (l : Bool) → IsStanding ps ds first es (with_up m (Some (cell c None l)))
+    take_command : (serves_law : ServesInPlan) (names_law : PlansNamedImages) (m : PairOf) (c : CommandOf) (l : Bool)
+        → IsStanding ps ds first es (with_up m (Some (cell c None l)))
         → Stood ps ds first es (up_taken ps (with_up m (Some (cell c None l))) (cell c None l))
     unfolding up_taken
     take_command serves_law names_law m c l s =
@@ -264,14 +280,17 @@ module _ (ps : List PackageText) (ds : List DescriptorOf) (es : List EntryOf) wh
         (serves names_law m (after_by m.session row) l m.session.number m.session.stage c
         (record { own = s.own; command = s.command; form = s.form; together = s.together; pending = s.pending; plan = s.plan; chosen = s.chosen }))
 
-    take_at : (serves_law : ServesInPlan) (names_law : PlansNamedImages) (m : PairOf) (c : CommandOf) (r : Option AnswerOf) (l : Bool) → IsStanding ps ds first es (with_up m (Some (cell c r l)))
+    take_at : (serves_law : ServesInPlan) (names_law : PlansNamedImages) (m : PairOf) (c : CommandOf) (r : Option AnswerOf) (l : Bool)
+        → IsStanding ps ds first es (with_up m (Some (cell c r l)))
         → Leaves ps ds first es (take_up_at ps (with_up m (Some (cell c r l))) (cell c r l) r)
     take_at serves_law names_law m c None l s = take_command serves_law names_law m c l s
     take_at serves_law names_law m c (Some a) l s = tt
 
-    take_cell : (serves_law : ServesInPlan) (names_law : PlansNamedImages) (m : PairOf) (up : Option HeldOf) → IsStanding ps ds first es (with_up m up) → Leaves ps ds first es (take_up ps (with_up m up) up)
+    take_cell : (serves_law : ServesInPlan) (names_law : PlansNamedImages) (m : PairOf) (up : Option HeldOf)
+        → IsStanding ps ds first es (with_up m up) → Leaves ps ds first es (take_up ps (with_up m up) up)
     take_cell serves_law names_law m None s = tt
     take_cell serves_law names_law m (Some h) s = take_at serves_law names_law m h.command h.reply h.live s
 
-    pub agent_takes : (serves_law : ServesInPlan) (names_law : PlansNamedImages) (m : PairOf) → IsStanding ps ds first es m → Leaves ps ds first es (step_of ps m StepOf.TakeUp)
+    pub agent_takes : (serves_law : ServesInPlan) (names_law : PlansNamedImages) (m : PairOf) → IsStanding ps ds first es m
+        → Leaves ps ds first es (step_of ps m StepOf.TakeUp)
     agent_takes serves_law names_law m s = take_cell serves_law names_law m m.up s

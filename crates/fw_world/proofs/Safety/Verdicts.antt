@@ -30,10 +30,12 @@ nothing_own : (c wish : Option CommandOf) → Holds None c → Holds wish c
 nothing_own None wish h = tt
 nothing_own (Some c) wish h = absurd (cc)
 
-still_told : (u : UpdateOf) (w : WorkOf) (p q : Progress) (x : Option HeldOf) → IsUnderWay (Phase.Verify u w p) x → IsUnderWay (Phase.Verify u w q) x
+still_told : (u : UpdateOf) (w : WorkOf) (p q : Progress) (x : Option HeldOf) → IsUnderWay (Phase.Verify u w p) x
+    → IsUnderWay (Phase.Verify u w q) x
 still_told u w p q x h = elim h [ inl bad ↦ absurd (cc) | inr told ↦ inr told ]
 
-failing_told : (u : UpdateOf) (w : WorkOf) (q : Progress) (x : Option HeldOf) → IsUnderWay (Phase.Apply u w (progress.Failed false)) x → IsUnderWay (Phase.Apply u w q) x
+failing_told : (u : UpdateOf) (w : WorkOf) (q : Progress) (x : Option HeldOf) → IsUnderWay (Phase.Apply u w (progress.Failed false)) x
+    → IsUnderWay (Phase.Apply u w q) x
 failing_told u w q x h = elim h [ inl bad ↦ absurd (cc) | inr told ↦ inr told ]
 
 module _ (ps : List PackageText) (ds : List DescriptorOf) where
@@ -65,7 +67,8 @@ module _ (ps : List PackageText) (ds : List DescriptorOf) where
     settled = λ n h. h;
   }
 
-  held_sealed : (n : ℕ) (rs : List Recorded) (c : ComponentOf) (v : DeviceState) (w : WorkOf) → IsHeld ps ds n rs c v.rows v.stage w → IsSealed ps ds n rs c (sealed v.rows w.key (written_image v w))
+  held_sealed : (n : ℕ) (rs : List Recorded) (c : ComponentOf) (v : DeviceState) (w : WorkOf) → IsHeld ps ds n rs c v.rows v.stage w
+      → IsSealed ps ds n rs c (sealed v.rows w.key (written_image v w))
   held_sealed n rs c v w h = record {
     applied = (let P : Key → List ℕ → Type 0 = λ k b. AppliedIs (sealed v.rows w.key (written_image v w)) k b in
         let here : P w.key v.stage = sealed_applied v.rows w.key (written_image v w) in
@@ -105,7 +108,8 @@ module _ (ps : List PackageText) (ds : List DescriptorOf) where
   sealed_pending es m v u w n g never h = tt
 
   module _ (first : List RowOf) (es : List EntryOf) where
-    seals : (m : PairOf) (v : DeviceState) (u : UpdateOf) (w : WorkOf) → IsStanding ps ds first es (record m { device = record v { phase = Phase.Apply u w progress.InProgress } })
+    seals : (m : PairOf) (v : DeviceState) (u : UpdateOf) (w : WorkOf)
+        → IsStanding ps ds first es (record m { device = record v { phase = Phase.Apply u w progress.InProgress } })
         → IsStanding ps ds first (es ++ EntryOf.Applied (put_of w.key (written_image v w)) ∷ []) (record m { device = sealing v u w })
     seals m v u w s =
         let now = record v { phase = Phase.Apply u w progress.InProgress } in
@@ -124,19 +128,22 @@ module _ (ps : List PackageText) (ds : List DescriptorOf) where
           history = history_applied ps ds first v.rows m.session.records es w.key (written_image v w) s.history;
         }
 
-    verify_verdict : (m : PairOf) (v : DeviceState) (u : UpdateOf) (w : WorkOf) (q : Progress) → IsStanding ps ds first es (record m { device = record v { phase = Phase.Verify u w progress.InProgress } })
+    verify_verdict : (m : PairOf) (v : DeviceState) (u : UpdateOf) (w : WorkOf) (q : Progress)
+        → IsStanding ps ds first es (record m { device = record v { phase = Phase.Verify u w progress.InProgress } })
         → IsStanding ps ds first es (record m { device = record v { phase = Phase.Verify u w q } })
     verify_verdict m v u w q s =
         moves_stand ps ds first es m (record v { phase = Phase.Verify u w progress.InProgress }) (Phase.Verify u w q) v.stage v.previous m.up m.up (verify_judged (since es) v u w q m.up)
         (nothing_own (command_of m.up) (wish_at (Phase.Verify u w q) (length v.stage)) s.own) tt (still_told u w q progress.InProgress m.up) s
 
-    failed_verdict : (m : PairOf) (v : DeviceState) (u : UpdateOf) (w : WorkOf) → IsStanding ps ds first es (record m { device = record v { phase = Phase.Apply u w progress.InProgress } })
+    failed_verdict : (m : PairOf) (v : DeviceState) (u : UpdateOf) (w : WorkOf)
+        → IsStanding ps ds first es (record m { device = record v { phase = Phase.Apply u w progress.InProgress } })
         → IsStanding ps ds first es (record m { device = record v { phase = Phase.Apply u w (progress.Failed false) } })
     failed_verdict m v u w s =
         moves_stand ps ds first es m (record v { phase = Phase.Apply u w progress.InProgress }) (Phase.Apply u w (progress.Failed false)) v.stage v.previous m.up m.up (apply_failed (since es) v u w m.up)
         (nothing_own (command_of m.up) (wish_at (Phase.Apply u w (progress.Failed false)) (length v.stage)) s.own) tt (failing_told u w progress.InProgress m.up) s
 
-    verdict_stands : (m : PairOf) (v : DeviceState) (p : Phase) (verdict : Verdict) (works : Bool) → IsStanding ps ds first es (record m { device = record v { phase = p } })
+    verdict_stands : (m : PairOf) (v : DeviceState) (p : Phase) (verdict : Verdict) (works : Bool)
+        → IsStanding ps ds first es (record m { device = record v { phase = p } })
         → Leaves ps ds first es (judged (record m { device = record v { phase = p } }) (verdict_at (record v { phase = p }) p verdict works))
     verdict_stands m v (Phase.Verify u w progress.InProgress) verdicts.VerifyOk works s = verify_verdict m v u w progress.Succeeded s
     verdict_stands m v (Phase.Verify u w progress.InProgress) verdicts.VerifyFail works s = verify_verdict m v u w (progress.Failed false) s
@@ -145,5 +152,6 @@ module _ (ps : List PackageText) (ds : List DescriptorOf) where
     verdict_stands m v (Phase.Apply u w progress.InProgress) verdicts.ApplyFail works s = failed_verdict m v u w s
     verdict_stands m v p verdict works s = tt
 
-  pub device_judges : (first : List RowOf) (es : List EntryOf) (m : PairOf) (verdict : Verdict) (works : Bool) → IsStanding ps ds first es m → Leaves ps ds first es (step_of ps m (StepOf.Judge verdict works))
+  pub device_judges : (first : List RowOf) (es : List EntryOf) (m : PairOf) (verdict : Verdict) (works : Bool) → IsStanding ps ds first es m
+      → Leaves ps ds first es (step_of ps m (StepOf.Judge verdict works))
   device_judges first es m verdict works s = verdict_stands first es m m.device m.device.phase verdict works s
