@@ -50,7 +50,7 @@ unfolding NoneApplied
 none_dropped [] = tt
 none_dropped (r ∷ rows) = (refl, none_dropped rows)
 
-none_turned : (r : RowOf) (o : Option ImageOf) → r.applied ≡ o → (turned_to r o).applied ≡ None
+pub none_turned : (r : RowOf) (o : Option ImageOf) → r.applied ≡ o → (turned_to r o).applied ≡ None
 none_turned r None e = e
 none_turned r (Some image) e = refl
 

@@ -15,6 +15,7 @@ use Rattle.fw_world.specs.Pairs.{HeldOf, PairOf, StepOf, asked, dropped_cell, fr
 use Rattle.fw_world.specs.declared.side.Way.TheVariants as ways
 use Rattle.fw_world.proofs.Safety.Agreement.{Application, CommandStands, IsBegunAt, IsStanding, OwnStands, Pending, Together, Transfer, UpdateOffered, Verification, at_hand, command_of, is_applied, is_offered, is_sealed, reply_of}
 use Rattle.fw_world.proofs.Safety.Down.{Leaves}
+use Rattle.fw_world.proofs.Safety.Loose.{none_command}
 use Rattle.fw_world.proofs.Safety.Readings.{since}
 
 own_none : (p : Phase) (wish : Option CommandOf) → OwnStands p wish None
@@ -125,14 +126,6 @@ module _ (ps : List PackageText) (ds : List DescriptorOf) where
   dropped_down rs m c r n (Stage.Activate j) s h = absurd (let e = s.0 in cc)
   dropped_down rs m c r n g s h = h
 
-  dropped_command : (g : Stage) (wish : Option CommandOf) → CommandStands g wish None
-  dropped_command Stage.Idle wish = tt
-  dropped_command Stage.Query wish = tt
-  dropped_command Stage.Done wish = tt
-  dropped_command Stage.Cancelling wish = tt
-  dropped_command (Stage.Failed x) wish = tt
-  dropped_command g wish = tt
-
   module _ (first : List RowOf) (es : List EntryOf) where
     -- Ask Up
     asks : (m : PairOf) (wish : Option CommandOf) → wish ≡ device_wish m.device → IsStanding ps ds first es (with_up m None)
@@ -227,7 +220,7 @@ module _ (ps : List PackageText) (ds : List DescriptorOf) where
     drop_dead m c r s =
         record {
           own = s.own;
-          command = dropped_command m.session.stage (stage_wish (package_at ps m.session.number) m.session.stage);
+          command = none_command m.session.stage (stage_wish (package_at ps m.session.number) m.session.stage);
           form = s.form;
           together = dropped_down (since es) m c r m.session.number m.session.stage s.command s.together;
           pending = s.pending;

@@ -1,5 +1,5 @@
 -- Closing cells keeps what stands.
-use Rattle.std.specs.Prelude.{◌≡◌, true, List, Option, Some, None}
+use Rattle.std.specs.Prelude.{◌&&◌, ◌≡◌, true, List, Option, Some, None}
 use Rattle.std.proofs.Common.{refl}
 use Rattle.fw_package.specs.Package.{DescriptorOf, PackageText}
 use Rattle.fwup_wire.specs.Values.{CommandOf}
@@ -7,8 +7,9 @@ use Rattle.fd_core.specs.Images.{RowOf}
 use Rattle.fd_core.specs.Wishes.{device_wish}
 use Rattle.ua_core.specs.Session.{Stage}
 use Rattle.fw_world.specs.History.{EntryOf}
-use Rattle.fw_world.specs.Pairs.{HeldOf, PairOf, closed_unless, down_wish, is_wished, unwished_closed}
+use Rattle.fw_world.specs.Pairs.{HeldOf, PairOf, closed_unless, down_wish, is_wished, unwished_closed, with_down, with_up}
 use Rattle.fw_world.proofs.Safety.Agreement.{CommandStands, IsStanding, StandsOpen}
+use Rattle.fw_world.proofs.Safety.Cells.{closed_up}
 use Rattle.fw_world.proofs.Safety.Same.{same_self}
 
 wished_self : (c : CommandOf) (wish : Option CommandOf) → wish ≡ Some c → is_wished c wish ≡ true
@@ -27,56 +28,13 @@ command_closes Stage.Cancelling wish cell s = tt
 command_closes (Stage.Failed c) wish cell s = tt
 command_closes g wish cell s = stands_closes wish cell s
 
-standing_closes : (ps : List PackageText) (ds : List DescriptorOf) (first : List RowOf) (es : List EntryOf) (m : PairOf) (d u : Option HeldOf) (x y : Option CommandOf)
-    → CommandStands m.session.stage (down_wish ps m.session) (closed_unless x d)
-    → IsStanding ps ds first es (record m { down = d; up = u })
-    → IsStanding ps ds first es (record m { down = closed_unless x d; up = closed_unless y u })
-standing_closes ps ds first es m None None x y c s =
+down_closes : (ps : List PackageText) (ds : List DescriptorOf) (first : List RowOf) (es : List EntryOf) (m : PairOf) (d : Option HeldOf)
+    → IsStanding ps ds first es (with_down m d) → IsStanding ps ds first es (with_down m (closed_unless (down_wish ps m.session) d))
+down_closes ps ds first es m None s = s
+down_closes ps ds first es m (Some h) s =
     record {
       own = s.own;
-      command = c;
-      form = s.form;
-      together = s.together;
-      pending = s.pending;
-      stray = s.stray;
-      plan = s.plan;
-      chosen = s.chosen;
-      identified = s.identified;
-      told = s.told;
-      history = s.history;
-    }
-standing_closes ps ds first es m None (Some k) x y c s =
-    record {
-      own = s.own;
-      command = c;
-      form = s.form;
-      together = s.together;
-      pending = s.pending;
-      stray = s.stray;
-      plan = s.plan;
-      chosen = s.chosen;
-      identified = s.identified;
-      told = s.told;
-      history = s.history;
-    }
-standing_closes ps ds first es m (Some h) None x y c s =
-    record {
-      own = s.own;
-      command = c;
-      form = s.form;
-      together = s.together;
-      pending = s.pending;
-      stray = s.stray;
-      plan = s.plan;
-      chosen = s.chosen;
-      identified = s.identified;
-      told = s.told;
-      history = s.history;
-    }
-standing_closes ps ds first es m (Some h) (Some k) x y c s =
-    record {
-      own = s.own;
-      command = c;
+      command = command_closes m.session.stage (down_wish ps m.session) (Some h) s.command;
       form = s.form;
       together = s.together;
       pending = s.pending;
@@ -88,10 +46,14 @@ standing_closes ps ds first es m (Some h) (Some k) x y c s =
       history = s.history;
     }
 
+up_closes : (ps : List PackageText) (ds : List DescriptorOf) (first : List RowOf) (es : List EntryOf) (m : PairOf) (u : Option HeldOf) (wish : Option CommandOf)
+    → IsStanding ps ds first es (with_up m u) → IsStanding ps ds first es (with_up m (closed_unless wish u))
+up_closes ps ds first es m None wish s = s
+up_closes ps ds first es m (Some h) wish s = closed_up ps ds first es m h (h.live && is_wished h.command wish) s
+
 -- what stands is there after the closing
 pub closes : (ps : List PackageText) (ds : List DescriptorOf) (first : List RowOf) (es : List EntryOf) (m : PairOf)
     → IsStanding ps ds first es m → IsStanding ps ds first es (unwished_closed ps m)
 unfolding unwished_closed
 closes ps ds first es m s =
-    standing_closes ps ds first es m m.down m.up (down_wish ps m.session) (device_wish m.device)
-    (command_closes m.session.stage (down_wish ps m.session) m.down s.command) s
+    up_closes ps ds first es (with_down m (closed_unless (down_wish ps m.session) m.down)) m.up (device_wish m.device) (down_closes ps ds first es m m.down s)

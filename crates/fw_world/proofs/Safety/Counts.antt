@@ -1,7 +1,8 @@
 -- What one more entry makes of the counts.
-use Rattle.std.specs.Prelude.{ℕ, ◌≡◌, ◌≤◌, ◌+◌, nat_eq, Bool, true, false, List, [], ◌∷◌, ◌++◌, take}
+use Rattle.std.specs.Prelude.{length, ℕ, ◌≡◌, ◌≤◌, ◌+◌, nat_eq, Bool, true, false, List, [], ◌∷◌, ◌++◌, take}
 use Prim.Native.Nat.{suc, zero}
-use Rattle.std.proofs.Common.{refl, arith}
+use Rattle.std.proofs.Common.{arith, refl, subst}
+use Rattle.std.proofs.Math.Seq.{take-length}
 use Rattle.std.proofs.lemmas.Bool.{and_parts}
 use Rattle.std.specs.Cmp.Lexicographic.{pointwise}
 use Rattle.fw_package.specs.Choice.{component_at}
@@ -138,3 +139,20 @@ prefix_more P [] x h e (suc zero) = e
 prefix_more P [] x h e (suc (suc n)) = e
 prefix_more P (y ∷ es) x h e zero = h 0
 prefix_more P (y ∷ es) x h e (suc n) = prefix_more (λ ys. P (y ∷ ys)) es x (λ k. h (suc k)) e n
+
+-- at no moment was more recorded than applied
+abbrev pub Balanced : List PackageText → List EntryOf → Type 0
+Balanced ps es = (n : ℕ) (key : Key) (bytes : List ℕ) → recorded_count ps key bytes (take n es) ≤ applied_count key bytes (take n es)
+
+pub balanced_never : (ps : List PackageText) (es : List EntryOf) → Balanced ps es → NeverMore ps es
+unfolding NeverMore
+balanced_never ps es h key bytes =
+    let P : List EntryOf → Type 0 = λ xs. recorded_count ps key bytes xs ≤ applied_count key bytes xs in
+    let at : P (take (length es) es) = h (length es) key bytes in
+    subst P (take-length es) at
+
+pub balanced_more : (ps : List PackageText) (es : List EntryOf) (x : EntryOf) → Balanced ps es → NeverMore ps (es ++ x ∷ [])
+    → Balanced ps (es ++ x ∷ [])
+unfolding NeverMore
+balanced_more ps es x h more n key bytes =
+    prefix_more (λ xs. recorded_count ps key bytes xs ≤ applied_count key bytes xs) es x (λ k. h k key bytes) (more key bytes) n

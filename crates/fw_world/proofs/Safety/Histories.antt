@@ -1,17 +1,16 @@
 -- A history that goes on: it stays safe, and tied with the device and the records.
-use Rattle.std.specs.Prelude.{ℕ, ◌≡◌, ◌≤◌, List, [], ◌∷◌, ◌++◌, map, take, length, All, Contains, Option, Some, None, IfSome, Bool, true, false}
+use Rattle.std.specs.Prelude.{ℕ, ◌≡◌, List, [], ◌∷◌, ◌++◌, map, All, Contains, Option, Some, None, IfSome, Bool, true, false}
 use Rattle.std.proofs.Common.{refl, sym, ap, ◌∙◌, subst}
-use Rattle.std.proofs.Math.Seq.{take-length}
 use Rattle.std.proofs.lemmas.List.Elements.{All-nil, All-cons, All-head, All-tail, All-push, Contains-push, Contains-append_left}
 use Rattle.fw_package.specs.Package.{DescriptorOf, PackageText}
 use Rattle.fwup_wire.specs.declared.values.Key.{Key}
 use Rattle.fd_core.specs.Images.{ImageOf, Put, RowOf, dropped, puts, same_key, sealed, sealed_if, switched, turned, turned_to, unapplied}
 use Rattle.ua_core.specs.Lent.{key_of}
 use Rattle.ua_core.specs.declared.planned.Recorded.{Recorded}
-use Rattle.fw_world.specs.History.{ActivationOf, EntryOf, IsFrom, IsNamed, IsOfOnePackage, IsSafe, IsTied, WasApplied, activations, activations_read, and_current, applied_count, applied_since, joined_by, nothing_read, read_along, recorded_count, recorded_in, running}
+use Rattle.fw_world.specs.History.{ActivationOf, EntryOf, IsFrom, IsNamed, IsOfOnePackage, IsSafe, IsTied, WasApplied, activations, activations_read, and_current, applied_since, joined_by, nothing_read, read_along, recorded_in, running}
 use Rattle.fw_world.specs.Pairs.{noted}
 use Rattle.fw_world.proofs.Safety.Applied.{Backed, NoneApplied, none_dropped, none_switched, put_of, puts_from, puts_none}
-use Rattle.fw_world.proofs.Safety.Counts.{IsPending, NeverMore, never_activated, never_applied, never_recorded, prefix_more, recorded_component}
+use Rattle.fw_world.proofs.Safety.Counts.{Balanced, IsPending, balanced_more, balanced_never, never_activated, never_applied, never_recorded, recorded_component}
 use Rattle.fw_world.proofs.Safety.Readings.{activating, activations_applied, activations_recorded, after_all, after_applied, after_recorded, in_all, in_applied, in_recorded, read_joined, read_push, since, since_push_applied, since_push_recorded, through}
 use Rattle.fw_world.proofs.Safety.Same.{key_means}
 use Rattle.fw_world.proofs.Safety.Turns.{HasOne, drop_runs, one_dropped, one_sealed, one_switched, seal_runs, switch_turns}
@@ -46,28 +45,13 @@ all_map P Q f (x ∷ xs) each all = All-cons Q (f x) (map f xs) (each x (All-hea
 all_each : {A : Type 0} (P Q : A → Type 0) (xs : List A) → ((x : A) → P x → Q x) → All P xs → All Q xs
 all_each P Q xs each all k d lt = each _ (all k d lt)
 
-pub never_more : (ps : List PackageText) (ds : List DescriptorOf) (es : List EntryOf) → IsSafe ps ds es → NeverMore ps es
-unfolding NeverMore
-never_more ps ds es h key bytes =
-    let P : List EntryOf → Type 0 = λ xs. recorded_count ps key bytes xs ≤ applied_count key bytes xs in
-    let at : P (take (length es) es) = h.applied (length es) key bytes in
-    subst P (take-length es) at
-
-balanced : (ps : List PackageText) (ds : List DescriptorOf) (es : List EntryOf) (x : EntryOf) → IsSafe ps ds es
-    → NeverMore ps (es ++ x ∷ [])
-    → (n : ℕ) (key : Key) (bytes : List ℕ)
-    → recorded_count ps key bytes (take n (es ++ x ∷ [])) ≤ applied_count key bytes (take n (es ++ x ∷ []))
-unfolding NeverMore
-balanced ps ds es x h more n key bytes =
-    prefix_more (λ xs. recorded_count ps key bytes xs ≤ applied_count key bytes xs) es x (λ k. h.applied k key bytes) (more key bytes) n
-
 -- an image is applied
 pub safe_applied : (ps : List PackageText) (ds : List DescriptorOf) (es : List EntryOf) (p : Put) → IsSafe ps ds es
     → IsSafe ps ds (es ++ EntryOf.Applied p ∷ [])
 safe_applied ps ds es p h = record {
   activated = rw (activations_applied es p) h.activated;
   named = rw (in_applied es p) h.named;
-  applied = balanced ps ds es (EntryOf.Applied p) h (never_applied ps es p (never_more ps ds es h));
+  applied = balanced_more ps es (EntryOf.Applied p) h.applied (never_applied ps es p (balanced_never ps es h.applied));
 }
 
 was_more : (es : List EntryOf) (p : Put) (row : RowOf) (o : Option ImageOf)
@@ -110,7 +94,7 @@ safe_recorded : (ps : List PackageText) (ds : List DescriptorOf) (es : List Entr
 safe_recorded ps ds es r named pending h = record {
   activated = rw (activations_recorded es r) h.activated;
   named = rw (in_recorded es r) (All-push (IsNamed ps ds) (recorded_in es) r h.named named);
-  applied = balanced ps ds es (EntryOf.Recording r) h (never_recorded ps es r pending (never_more ps ds es h));
+  applied = balanced_more ps es (EntryOf.Recording r) h.applied (never_recorded ps es r pending (balanced_never ps es h.applied));
 }
 
 was_recorded : (es : List EntryOf) (r : Recorded) (row : RowOf) → WasApplied es row → WasApplied (es ++ EntryOf.Recording r ∷ []) row
@@ -153,35 +137,11 @@ history_dropped ps ds first rows made es h = record {
 }
 
 -- what is applied is activated
-unfoldable Balanced : List PackageText → List EntryOf → Type 0
-Balanced ps es = (n : ℕ) (key : Key) (bytes : List ℕ) → recorded_count ps key bytes (take n es) ≤ applied_count key bytes (take n es)
-
-balanced_never : (ps : List PackageText) (es : List EntryOf) → Balanced ps es → NeverMore ps es
-unfolding NeverMore Balanced
-balanced_never ps es h key bytes =
-    let P : List EntryOf → Type 0 = λ xs. recorded_count ps key bytes xs ≤ applied_count key bytes xs in
-    let at : P (take (length es) es) = h (length es) key bytes in
-    subst P (take-length es) at
-
-balanced_one : (ps : List PackageText) (es : List EntryOf) (p : Put) → Balanced ps es → Balanced ps (es ++ EntryOf.Activated p ∷ [])
-unfolding NeverMore Balanced
-balanced_one ps es p h n key bytes =
-    prefix_more (λ xs. recorded_count ps key bytes xs ≤ applied_count key bytes xs) es (EntryOf.Activated p) (λ k. h k key bytes)
-    (never_activated ps es p (balanced_never ps es h) key bytes) n
-
 balanced_all : (ps : List PackageText) (qs : List Put) (es : List EntryOf) → Balanced ps es
     → Balanced ps (noted es (map EntryOf.Activated qs))
 balanced_all ps [] es h = h
-balanced_all ps (q ∷ qs) es h = balanced_all ps qs (es ++ EntryOf.Activated q ∷ []) (balanced_one ps es q h)
-
-balanced_safe : (ps : List PackageText) (ds : List DescriptorOf) (es : List EntryOf) → IsSafe ps ds es → Balanced ps es
-unfolding Balanced
-balanced_safe ps ds es h = h.applied
-
-safe_balanced : (ps : List PackageText) (es : List EntryOf) → Balanced ps es
-    → (n : ℕ) (key : Key) (bytes : List ℕ) → recorded_count ps key bytes (take n es) ≤ applied_count key bytes (take n es)
-unfolding Balanced
-safe_balanced ps es h = h
+balanced_all ps (q ∷ qs) es h =
+    balanced_all ps qs (es ++ EntryOf.Activated q ∷ []) (balanced_more ps es (EntryOf.Activated q) h (never_activated ps es q (balanced_never ps es h)))
 
 -- an activation begins
 read_begun : (es : List EntryOf) (q : Put) → current_of es ≡ None
@@ -209,7 +169,7 @@ safe_activated ps ds n rows es (Some a) (q ∷ qs) c e p all h = absurd (let non
 safe_activated ps ds n rows es None (q ∷ qs) c e p all h = record {
   activated = rw (activations_begun es q qs c) (All-push (IsOfOnePackage ps ds) (activations es) (record { before = since es; images = q ∷ qs }) h.activated (n, all));
   named = rw (in_all (q ∷ qs) es) h.named;
-  applied = safe_balanced ps (noted es (map EntryOf.Activated (q ∷ qs))) (balanced_all ps (q ∷ qs) es (balanced_safe ps ds es h));
+  applied = balanced_all ps (q ∷ qs) es h.applied;
 }
 
 ended_switched : (o : Option ActivationOf) (rows : List RowOf) → IsEnded o (switched rows)

@@ -20,10 +20,10 @@ use Rattle.ua_core.specs.declared.state.Cause.{Cause}
 use Rattle.ua_core.specs.declared.state.Cause.TheVariants as causes
 use Rattle.fw_world.specs.History.{EntryOf, package_at}
 use Rattle.fw_world.specs.Pairs.{HeldOf, PairOf, StepOf, brought, learn_down, step_of, with_down}
-use Rattle.fw_world.proofs.Safety.Agreement.{AreTold, Cleared, CommandStands, FreshIn, HasChosen, IsBegun, IsBegunAt, IsChosen, IsPieceOf, IsStanding, IsTransfer, NothingAccepted, Pending, TableTime, Together, Transfer, UpdateOffered, Waiting, at_hand, command_of, reply_of}
+use Rattle.fw_world.proofs.Safety.Agreement.{AreTold, Cleared, FreshIn, HasChosen, IsBegun, IsBegunAt, IsChosen, IsPieceOf, IsStanding, IsTransfer, NothingAccepted, Pending, TableTime, Together, Transfer, UpdateOffered, Waiting, at_hand, command_of, reply_of}
 use Rattle.fw_world.proofs.Safety.Applied.{none_backed}
 use Rattle.fw_world.proofs.Safety.Down.{Leaves}
-use Rattle.fw_world.proofs.Safety.Loose.{cell}
+use Rattle.fw_world.proofs.Safety.Loose.{cell, none_command}
 use Rattle.fw_world.proofs.Safety.Readings.{since}
 
 pub no_piece : (image : List ℕ) (c : Option CommandOf) (r : Option AnswerOf) → NothingAccepted r → IsPieceOf image c r
@@ -31,14 +31,6 @@ no_piece image c None h = tt
 no_piece image None (Some a) h = tt
 no_piece image (Some c) (Some (AnswerOf.Refused code)) h = tt
 no_piece image (Some c) (Some a) h = absurd h
-
-none_command : (g : Stage) (wish : Option CommandOf) → CommandStands g wish None
-none_command Stage.Idle wish = tt
-none_command Stage.Query wish = tt
-none_command Stage.Done wish = tt
-none_command Stage.Cancelling wish = tt
-none_command (Stage.Failed c) wish = tt
-none_command g wish = tt
 
 fresh_time : (rows : List RowOf) (p : Phase) → FreshIn rows p → TableTime rows p
 fresh_time rows Phase.Idle h = tt

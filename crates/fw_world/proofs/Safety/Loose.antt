@@ -1,5 +1,5 @@
 -- A device that goes to IDLE, and a session that begins nothing, keep what stands.
-use Rattle.std.specs.Prelude.{ℕ, Bool, true, false, List, Option, Some}
+use Rattle.std.specs.Prelude.{ℕ, Bool, true, false, List, Option, Some, None}
 use Rattle.std.proofs.Common.{inl, inr}
 use Rattle.fw_package.specs.Package.{DescriptorOf, PackageText, ComponentOf}
 use Rattle.fwup_wire.specs.Values.{AnswerOf, CommandOf}
@@ -28,6 +28,15 @@ idle_device v bytes previous reason =
 -- the session in another state, and perhaps with another package
 abbrev pub loosened : PairOf → Stage → ℕ → Option HeldOf → PairOf
 loosened m g n down = record m { session = record { stage = g; number = n; records = m.session.records }; down = down }
+
+-- an empty cell
+pub none_command : (g : Stage) (wish : Option CommandOf) → CommandStands g wish None
+none_command Stage.Idle wish = tt
+none_command Stage.Query wish = tt
+none_command Stage.Done wish = tt
+none_command Stage.Cancelling wish = tt
+none_command (Stage.Failed c) wish = tt
+none_command g wish = tt
 
 cleared_lost : (r : Option AnswerOf) → Cleared Phase.Idle r
 cleared_lost (Some AnswerOf.CancelUpdate) = tt

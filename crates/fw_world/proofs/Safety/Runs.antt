@@ -3,10 +3,10 @@ use Rattle.std.specs.Prelude.{◌≡◌, ◌≤◌, ℕ, List, [], ◌∷◌, ma
 use Prim.Native.Nat.{suc, zero}
 use Rattle.std.specs.Option.{IfSome, option_map}
 use Rattle.std.proofs.Common.{refl, sym, subst, arith}
-use Rattle.std.proofs.lemmas.List.Elements.{All-nil, All-head, All-tail}
+use Rattle.std.proofs.lemmas.List.Elements.{All-nil}
 use Rattle.fw_package.specs.Laws.{PlansNamedImages}
 use Rattle.fw_package.specs.Package.{DescriptorOf, PackageText}
-use Rattle.fd_core.specs.Images.{ImageOf, RowOf}
+use Rattle.fd_core.specs.Images.{RowOf}
 use Rattle.fd_core.specs.States.{DeviceState, Phase}
 use Rattle.fwup_wire.specs.declared.values.Key.{Key}
 use Rattle.ua_core.specs.Calls.{new_session}
@@ -26,7 +26,7 @@ use Rattle.fw_world.proofs.Safety.Down.{Leaves, agent_asks, device_takes}
 use Rattle.fw_world.proofs.Safety.Histories.{IsHistory, current_of}
 use Rattle.fw_world.proofs.Safety.Learns.{agent_learns}
 use Rattle.fw_world.proofs.Safety.Reports.{device_learns}
-use Rattle.fw_world.proofs.Safety.Turns.{AreApplied}
+use Rattle.fw_world.proofs.Safety.Turns.{one_nothing}
 use Rattle.fw_world.proofs.Safety.Up.{agent_takes}
 use Rattle.fw_world.proofs.Safety.Verdicts.{device_judges}
 
@@ -109,14 +109,6 @@ safe_nothing ps ds = record {
   applied = balanced_nothing ps;
 }
 
-abbrev no_image : Key → Option ImageOf
-no_image key = None
-
-none_are : (rows : List RowOf) → All IsUnapplied rows → AreApplied no_image rows
-unfolding AreApplied
-none_are [] h = tt
-none_are (r ∷ rows) h = (All-head IsUnapplied r rows h, none_are rows (All-tail IsUnapplied r rows h))
-
 was_unapplied : (row : RowOf) → IsUnapplied row → WasApplied [] row
 was_unapplied row e = rw e tt
 
@@ -125,7 +117,7 @@ history_nothing : (ps : List PackageText) (ds : List DescriptorOf) (rows : List 
 history_nothing ps ds rows h = record {
   safe = safe_nothing ps ds;
   tied = record { active = refl; applied = (λ k d lt. was_unapplied (slice_index_or rows k d) (h k d lt)); records = refl };
-  one = record { of = no_image; are = none_are rows h };
+  one = one_nothing rows h;
   ended = rw current_nothing tt;
 }
 

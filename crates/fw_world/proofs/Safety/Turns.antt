@@ -5,8 +5,9 @@ use Rattle.std.proofs.lemmas.Bool.{cond_both}
 use Rattle.std.proofs.lemmas.List.Elements.{All-nil, All-cons, All-head, All-tail}
 use Rattle.fwup_wire.specs.declared.values.Key.{Key}
 use Rattle.fd_core.specs.Images.{ImageOf, Put, RowOf, dropped, put_among, put_applied, puts, rises, same_key, sealed, sealed_if, switched, turned, turned_to}
+use Rattle.fw_world.specs.Laws.{IsUnapplied}
 use Rattle.fw_world.specs.History.{running}
-use Rattle.fw_world.proofs.Safety.Applied.{put_of}
+use Rattle.fw_world.proofs.Safety.Applied.{none_turned, put_of}
 use Rattle.fw_world.proofs.Safety.Readings.{through}
 use Rattle.fw_world.proofs.Safety.Same.{key_means, key_self}
 
@@ -22,6 +23,14 @@ pub record HasOne (rows : List RowOf) : Type 0 where
 abbrev no_image : Key → Option ImageOf
 no_image key = None
 
+none_are : (rows : List RowOf) → All IsUnapplied rows → AreApplied no_image rows
+unfolding AreApplied
+none_are [] h = tt
+none_are (r ∷ rows) h = (All-head IsUnapplied r rows h, none_are rows (All-tail IsUnapplied r rows h))
+
+pub one_nothing : (rows : List RowOf) → All IsUnapplied rows → HasOne rows
+one_nothing rows h = record { of = no_image; are = none_are rows h }
+
 none_of_dropped : (rows : List RowOf) → AreApplied no_image (dropped rows)
 unfolding AreApplied
 none_of_dropped [] = tt
@@ -30,14 +39,10 @@ none_of_dropped (r ∷ rows) = (refl, none_of_dropped rows)
 pub one_dropped : (rows : List RowOf) → HasOne (dropped rows)
 one_dropped rows = record { of = no_image; are = none_of_dropped rows }
 
-turned_none : (r : RowOf) (o : Option ImageOf) → r.applied ≡ o → (turned_to r o).applied ≡ None
-turned_none r None e = e
-turned_none r (Some image) e = refl
-
 none_of_switched : (rows : List RowOf) → AreApplied no_image (switched rows)
 unfolding AreApplied
 none_of_switched [] = tt
-none_of_switched (r ∷ rows) = (turned_none r r.applied refl, none_of_switched rows)
+none_of_switched (r ∷ rows) = (none_turned r r.applied refl, none_of_switched rows)
 
 pub one_switched : (rows : List RowOf) → HasOne (switched rows)
 one_switched rows = record { of = no_image; are = none_of_switched rows }

@@ -19,9 +19,9 @@ use Rattle.fw_world.specs.History.{EntryOf, package_at}
 use Rattle.fw_world.specs.Pairs.{HeldOf, PairOf, StepOf, judged, step_of}
 use Rattle.fw_world.proofs.Safety.Agreement.{Holds, IsHeld, IsSealed, IsStanding, IsUnderWay, Pending, Together, asked_of, at_hand, command_of}
 use Rattle.fw_world.proofs.Safety.Applied.{AppliedIs, BackedBut, put_of, sealed_applied, sealed_others}
-use Rattle.fw_world.proofs.Safety.Counts.{IsPending, NeverMore, pending_applied}
+use Rattle.fw_world.proofs.Safety.Counts.{IsPending, NeverMore, pending_applied, balanced_never}
 use Rattle.fw_world.proofs.Safety.Down.{Leaves}
-use Rattle.fw_world.proofs.Safety.Histories.{history_applied, never_more}
+use Rattle.fw_world.proofs.Safety.Histories.{history_applied}
 use Rattle.fw_world.proofs.Safety.Moves.{IsMove, moves_stand, stray_moves, together_moves}
 use Rattle.fw_world.proofs.Safety.Readings.{since, since_applied}
 
@@ -119,7 +119,7 @@ module _ (ps : List PackageText) (ds : List DescriptorOf) where
           command = s.command;
           form = tt;
           together = rw (since_applied es p) (together_moves ps ds (since es) m now (sealing v u w) m.up m.up m.session.number m.session.stage (apply_sealed (since es) v u w m.up) s.together);
-          pending = sealed_pending es m v u w m.session.number m.session.stage (never_more ps ds es s.history.safe) s.together;
+          pending = sealed_pending es m v u w m.session.number m.session.stage (balanced_never ps es s.history.safe.applied) s.together;
           stray = rw (since_applied es p) (stray_moves ps ds (since es) now (sealing v u w) m.up m.up (asked_of m.down) (apply_sealed (since es) v u w m.up) s.stray);
           plan = s.plan;
           chosen = s.chosen;
