@@ -6,6 +6,8 @@ mod Noting
 mod Places
 mod Records
 mod Rising
+mod Running
+mod Safety
 mod Sealing
 mod Stepping
 mod Working
