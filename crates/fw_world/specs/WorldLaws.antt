@@ -31,3 +31,8 @@ IsSafeWorld opening w = (eid : ℕ) → IfSome (node_at opening.nodes eid)
 abbrev pub WorldsAreSafe : Type 0
 WorldsAreSafe = (opening : WorldOf) (steps : List WorldStepOf) → IsOpeningWorld opening
     → IfSome (world_along (Some opening) steps) (IsSafeWorld opening)
+
+-- And so does each run that goes on where one ended.
+abbrev pub WorldsStaySafe : Type 0
+WorldsStaySafe = (opening old new : WorldOf) (before steps : List WorldStepOf) → IsOpeningWorld opening
+    → world_along (Some opening) before ≡ Some old → world_along (Some old) steps ≡ Some new → IsSafeWorld opening new
