@@ -1,8 +1,12 @@
+mod Activating
 mod Applied
+mod Closings
 mod Components
 mod Noting
+mod Places
 mod Records
 mod Rising
 mod Safety
 mod Sealing
+mod Stepping
 mod Working

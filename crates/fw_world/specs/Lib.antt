@@ -4,6 +4,7 @@ pub mod History
 pub mod Laws
 pub mod Nodes
 pub mod Pairs
+pub mod Replays
 pub mod Same
 pub mod WorldLaws
 pub mod Worlds

@@ -1,9 +1,11 @@
 -- A device with its session as the world keeps them.
-use Rattle.std.specs.Prelude.{◌≡◌, ◌<◌, ◌⊎◌, ◌^◌, ◌-◌, ℕ, true, List, map}
+use Rattle.std.specs.Prelude.{◌≡◌, ◌<◌, ◌⊎◌, ◌^◌, ◌-◌, ◌&&◌, ℕ, Bool, false, is_some, not, true, List, [], Option, Some, None, map}
 use Rattle.fd_core.specs.Banks.{AreApart, has_key}
-use Rattle.fd_core.specs.Images.{key_of}
+use Rattle.fd_core.specs.Images.{Put, key_of, puts}
 use Rattle.fd_core.specs.States.{DeviceState, Phase}
 use Rattle.fwup_wire.specs.declared.values.Key.{Key}
+use Rattle.fw_world.specs.Pairs.{HeldOf, PairOf, is_empty}
+use Rattle.fwup_wire.specs.Values.{AnswerOf, CommandOf}
 use Rattle.fw_world.specs.Worlds.{NodeOf}
 use Rattle.fw_world.specs.declared.side.Way.TheVariants as ways
 use Rattle.fw_world.specs.declared.step.MessageStep.{MessageStep}
@@ -45,3 +47,33 @@ IsQuiet (steps.Take device way quiet) = ⊥
 IsQuiet (steps.Learn device ways.Up) = ⊥
 IsQuiet (steps.Verdict device verdict) = ⊥
 IsQuiet s = Unit {0}
+
+-- a command waits to be taken
+abbrev pub waits : Option HeldOf → Bool
+waits None = false
+waits (Some h) = not (is_some h.reply)
+
+-- a device that is told so of its own requests may take what the agent asked
+abbrev pub may_take : PairOf → Bool → Bool
+may_take m quiet = waits m.down && not (quiet && not (is_empty m.up))
+
+-- what ActivateFirmware activates, if it is taken
+abbrev pub put_by : DeviceState → CommandOf → List Put
+put_by v (CommandOf.ActivateFirmware self_contained) = puts v.rows
+put_by v c = []
+
+abbrev pub put_by_cell : DeviceState → Option HeldOf → List Put
+put_by_cell v None = []
+put_by_cell v (Some h) = put_by v h.command
+
+abbrev pub to_activate : PairOf → List Put
+to_activate m = put_by_cell m.device m.down
+
+-- an answer that tells that images were activated
+abbrev pub activates : Option AnswerOf → Bool
+activates (Some (AnswerOf.ActivateFirmware time)) = true
+activates reply = false
+
+abbrev pub is_activation : Option HeldOf → Bool
+is_activation None = false
+is_activation (Some h) = activates h.reply

@@ -49,6 +49,14 @@ with_pair (n ∷ ns) eid m = if n.eid == eid then record n { pair = m } ∷ ns e
 abbrev pub noted_of : ℕ → EntryOf → NotedOf
 noted_of device entry = record { device = device; entry = entry }
 
+-- a pair, and the history of the world that it is in
+pub record PairNoted : Type 0 where
+  pub pair : PairOf
+  pub history : List NotedOf
+
+abbrev pub noted_on : ℕ → List NotedOf → Stepped → PairNoted
+noted_on device history t = record { pair = t.after; history = history ++ map (noted_of device) t.noted }
+
 abbrev pub went_on : WorldOf → ℕ → Stepped → WorldOf
 went_on w device t = record w {
   nodes = with_pair w.nodes device t.after;

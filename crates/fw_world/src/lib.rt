@@ -5,6 +5,7 @@ mod cell;
 mod entry;
 mod images;
 mod laws;
+mod messages;
 mod pair;
 mod same;
 mod side;
@@ -12,5 +13,6 @@ mod step;
 
 pub use entry::{Entry, Event, Image};
 pub use laws::{messages_are_safe, worlds_are_safe};
+pub use messages::MessageWorld;
 pub use side::{Side, Way};
 pub use step::{MessageStep, MessageStepFault};

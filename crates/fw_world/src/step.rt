@@ -1,5 +1,8 @@
 //! The steps of a world over whole messages, and why one isn't taken.
 
+ghost use Rattle.std.specs.Prelude.{◌≡◌};
+ghost use Rattle.fw_world.specs.Worlds.{device_of, restarts_agent};
+
 use crate::side::{Side, Way};
 use fd_core::Verdict;
 use thiserror::Error;
@@ -31,6 +34,37 @@ pub enum MessageStep {
     TimeOut(u8, Side),
     /// The agent or a device starts anew.
     Restart(u8),
+}
+
+impl MessageStep {
+    /// The device of the step. A restart names a node, which may be the agent.
+    pub fn device(&self) -> u8
+        ensures { result ≡ device_of self.now }
+    {
+        match *self {
+            MessageStep::Ask(device, _)
+            | MessageStep::Take(device, _, _)
+            | MessageStep::Learn(device, _)
+            | MessageStep::GiveUp(device, _)
+            | MessageStep::Drop(device, _)
+            | MessageStep::Start(device, _)
+            | MessageStep::Cancel(device)
+            | MessageStep::Activate(device)
+            | MessageStep::Verdict(device, _)
+            | MessageStep::TimeOut(device, _)
+            | MessageStep::Restart(device) => device,
+        }
+    }
+
+    /// Whether the step restarts the agent, which has this identifier.
+    pub fn restarts(&self, agent: u8) -> bool
+        ensures { result ≡ restarts_agent agent self.now }
+    {
+        match *self {
+            MessageStep::Restart(node) => node == agent,
+            _ => false,
+        }
+    }
 }
 
 /// Why a step isn't taken. The world is then the one before it.

@@ -2,6 +2,7 @@
 
 ghost use Rattle.std.specs.Prelude.{◌≡◌, ◌⊎◌, IfErr, None, OnErr, OnOk, Some, false, if◌then◌else◌};
 ghost use Rattle.fw_world.specs.Pairs.{StepOf, closed, quietly, step_of};
+ghost use Rattle.fw_world.specs.Replays.{counted_restarted};
 ghost use Rattle.fw_world.specs.declared.side.Side.TheVariants as sides;
 
 use crate::cell::Held;
@@ -60,6 +61,15 @@ impl<'a, B: Bank> Pair<'a, B> {
     {
         self.session.restart();
         close(&mut self.down);
+    }
+
+    /// The agent restarts, as a step of this pair.
+    #[tactic(auto, unfolding(crate::specs::Pairs::pair_after))]
+    pub fn restart(&mut self, packages: &'a [Package])
+        ensures { self.new ≡ counted_restarted packages.now self.old }
+    {
+        self.restart_session(packages);
+        self.close_unwished(packages);
     }
 
     /// The device restarts.

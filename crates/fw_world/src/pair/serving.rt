@@ -1,20 +1,23 @@
 //! What is taken, learnt and judged.
 
-ghost use Rattle.std.specs.Prelude.{[], ◌≡◌, ◌≤◌, ◌∷◌, Bool, length, vec_capacity, IfNone, IfSome, None, Some, false, if◌then◌else◌, is_some, map, option_map, option_to_list, true};
+ghost use Rattle.std.specs.Prelude.{[], ◌≡◌, ◌≤◌, ◌∷◌, Bool, length, vec_capacity, IfNone, IfOk, IfSome, None, Some, false, if◌then◌else◌, is_some, map, option_map, option_to_list, true};
 ghost use Rattle.fd_core.specs.Images.{applied_of, row_of};
 ghost use Rattle.fd_core.specs.States.{staged_of};
 ghost use Rattle.fd_core.specs.Steps.{applied_by, device_verdict, verdict_after};
 ghost use Rattle.fd_core.specs.Wishes.{has_failed};
 ghost use Rattle.fw_world.specs.Entries.{put_of};
 ghost use Rattle.fw_world.specs.History.{EntryOf};
-ghost use Rattle.fw_world.specs.Nodes.{Rose};
+ghost use Rattle.fw_world.specs.Nodes.{Rose, is_activation, may_take, to_activate, waits};
 ghost use Rattle.fw_world.specs.Pairs.{StepOf, activated_down, quietly, step_of};
 
 use crate::entry::Image;
+use crate::images::applied_images;
 use crate::pair::{Pair, lent};
 use fd_core::{Bank, Device, Key, Progress, State, Verdict};
 use fw_package::Package;
+use fwup_wire::{Answer, Command};
 use pldm_base::completion::ERROR;
+use std::alloc::{AllocError, Global};
 use ua_core::Recorded;
 
 impl<'a, B: Bank> Pair<'a, B> {
@@ -64,6 +67,59 @@ impl<'a, B: Bank> Pair<'a, B> {
         let works = !matches!(reply.as_slice(), [ERROR, ..]);
         held.take(reply);
         Some(works)
+    }
+
+    /// Whether what the agent asked waits to be taken by a device that is told so of its own requests.
+    pub fn may_take(&self, quiet: bool) -> bool
+        ensures { result ≡ may_take self.now.node.pair quiet }
+    {
+        match &self.down {
+            Some(held) => !held.is_taken() && !(quiet && self.up.is_some()),
+            None => false,
+        }
+    }
+
+    /// Whether what the device asked waits to be taken.
+    pub fn waits_up(&self) -> bool
+        ensures { result ≡ waits self.now.node.pair.up }
+    {
+        match &self.up {
+            Some(held) => !held.is_taken(),
+            None => false,
+        }
+    }
+
+    /// A copy of what the device activates if it takes what the agent asked: nothing, unless that is ActivateFirmware.
+    #[tactic(auto, using(crate::proofs::Applied::all_applied))]
+    pub fn images_to_activate(&self, alloc: Global) -> Result<Vec<Image>, AllocError>
+        ensures { IfOk result (λ images. map put_of images.items ≡ to_activate self.now.node.pair) }
+    {
+        match &self.down {
+            Some(held) if matches!(held.command(), Command::ActivateFirmware { .. }) => {
+                applied_images(alloc, self.device.bank(), self.device.keys())
+            }
+            _ => Ok(Vec::new(alloc)),
+        }
+    }
+
+    /// Whether the device answered that it activated.
+    pub fn has_activated(&self) -> bool
+        ensures { result ≡ is_activation self.now.node.pair.down }
+    {
+        match &self.down {
+            Some(held) => matches!(held.answer(), Some(Answer::ActivateFirmware { .. })),
+            None => false,
+        }
+    }
+
+    /// The bytes of the image that a verdict applies, at most.
+    pub fn room_for(&self, verdict: Verdict) -> usize
+        ensures { verdict ≡ Verdict.ApplyOk → IfSome (staged_of self.now.node.pair.device.phase) (λ s. s.1 ≤ result) }
+    {
+        match (verdict, self.device.staged()) {
+            (Verdict::ApplyOk, Some((_, size))) => size as usize,
+            _ => 0,
+        }
     }
 
     /// A verdict on the image that the device has written. None where it doesn't count; else whether its bank worked.
