@@ -1,9 +1,9 @@
 -- What is applied, component by component.
-use Rattle.std.proofs.Common.{◌≡◌, ◌∷◌, ◌==◌, ◌&&◌, ◌||◌, ◌∙◌, Bool, true, false, if◌then◌else◌, List, [], Option, Some, None, map, ℕ, inl, inr, refl, sym}
+use Rattle.std.proofs.Common.{◌≡◌, ◌∷◌, ◌==◌, true, false, List, [], Some, map, ℕ, inl, inr, refl, sym}
 use Rattle.std.proofs.lemmas.Bool.{ne_eqb, or_parts}
 use Rattle.std.proofs.lemmas.Bool.Decides.{eqb_tells}
 use Rattle.fd_core.specs.Banks.{AreApart, has_key}
-use Rattle.fd_core.specs.Images.{RowOf, applied_of, key_of, put_applied, puts, row_of, same_key}
+use Rattle.fd_core.specs.Images.{RowOf, key_of, puts, row_of, same_key}
 use Rattle.fd_core.specs.States.{DeviceState}
 use Rattle.fd_core.specs.declared.parts.Component.{Component}
 use Rattle.fwup_wire.specs.declared.values.Key.{Key}

@@ -1,14 +1,13 @@
 -- Nothing that happens to a device changes which components it and its bank have.
-use Rattle.std.proofs.Common.{◌≡◌, ◌∷◌, ◌==◌, ◌||◌, is_some, nat_lt, List, [], Bool, true, false, Option, Some, None, map, length, if◌then◌else◌, ap, refl, sym, ◌∙◌}
-use Rattle.fd_core.specs.Banks.{AreApart, has_key}
+use Rattle.std.proofs.Common.{◌≡◌, ◌∷◌, ◌==◌, ◌||◌, is_some, nat_lt, List, [], Bool, true, false, Option, Some, None, map, length, if◌then◌else◌, ap, refl, ◌∙◌}
+use Rattle.fd_core.specs.Banks.{has_key}
 use Rattle.pldm_base.specs.Codes.{invalid_data}
 use Rattle.fd_core.specs.Codes.{longest_image, not_supported}
 use Rattle.fd_core.specs.Commands.{CancelRow, OfferRow, RequestRow, ReturnRow, SwitchRow, TableRow, cancel_by, cancel_row, device_after, in_table, listed, offer_by, offer_row, offer_rule, offer_under, request_by, request_row, return_by, return_row, switch_by, switch_row, table_by, table_row, with_entry}
 use Rattle.fd_core.specs.Images.{ImageOf, RowOf, dropped, key_of, row_of, same_key, sealed, sealed_if, switched, turned_to}
-use Rattle.fd_core.specs.States.{DeviceState, Phase, UpdateOf, WorkOf, reset}
+use Rattle.fd_core.specs.States.{DeviceState, Phase, UpdateOf, WorkOf}
 use Rattle.fd_core.specs.Steps.{device_restart, device_timeout, judged_or, verdict_after, verdict_at}
 use Rattle.fd_core.specs.Wishes.{LearnRow, apply_by, asked_length, device_learn, download_by, download_row, learn_at, report_row, applied_row, verified_row, verify_by}
-use Rattle.fd_core.specs.declared.parts.Component.{Component}
 use Rattle.fd_core.specs.declared.states.Progress.TheVariants as progress
 use Rattle.fd_core.specs.declared.states.Verdict.{Verdict}
 use Rattle.fd_core.specs.declared.states.Verdict.TheVariants as verdicts

@@ -2,6 +2,7 @@ mod Activating
 mod Applied
 mod Closings
 mod Components
+mod Finding
 mod Noting
 mod Places
 mod Records

@@ -1,11 +1,10 @@
 -- A step of the device that stands at a place.
-use Rattle.std.proofs.Common.{◌≡◌, ◌∷◌, ◌++◌, ◌+◌, ◌-◌, ◌==◌, ◌≤◌, ℕ, zero, suc, Bool, true, false, if◌then◌else◌, List, [], Option, Some, None, ap, arith, get_or, map, refl, set, subst, sym, ◌∙◌, inl, inr}
+use Rattle.std.proofs.Common.{◌≡◌, ◌∷◌, ◌++◌, ◌+◌, ◌-◌, ◌==◌, ◌≤◌, ℕ, zero, suc, Bool, true, false, if◌then◌else◌, List, [], Option, Some, None, ap, arith, map, refl, set, sym, inl, inr}
 use Rattle.std.specs.Prelude.{option_map, slice_get}
 use Rattle.std.proofs.lemmas.Bool.Decides.{eqb_tells}
-use Rattle.fw_package.specs.Package.{PackageText}
 use Rattle.fw_world.specs.Pairs.{PairOf, StepOf, Stepped, pair_after}
 use Rattle.fw_world.specs.Replays.{place_at, place_from}
-use Rattle.fw_world.specs.Worlds.{NodeOf, NotedOf, PairNoted, WorldOf, WorldStepOf, node_at, noted_of, noted_on, step_at, went_on, with_pair, world_after}
+use Rattle.fw_world.specs.Worlds.{NodeOf, NotedOf, PairNoted, WorldOf, WorldStepOf, node_at, noted_of, noted_on, went_on, with_pair, world_after}
 
 -- the first device of this identifier stands at this place
 abbrev pub IsAt : List NodeOf → ℕ → ℕ → Type 0

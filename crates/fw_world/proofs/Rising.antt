@@ -1,7 +1,7 @@
 -- Images by rising key.
-use Rattle.std.proofs.Common.{◌≡◌, ◌∷◌, ◌+◌, ℕ, suc, Bool, true, false, if◌then◌else◌, List, [], map, ap, refl}
+use Rattle.std.proofs.Common.{◌≡◌, ◌∷◌, ℕ, suc, Bool, true, false, if◌then◌else◌, List, [], map, ap, refl}
 use Rattle.std.specs.List.{insert}
-use Rattle.fd_core.specs.Images.{Put, put_among, rises}
+use Rattle.fd_core.specs.Images.{put_among, rises}
 use Rattle.fw_world.specs.Entries.{place_in, put_of}
 use Rattle.fw_world.specs.declared.entry.Image.{Image}
 

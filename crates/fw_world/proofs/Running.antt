@@ -1,12 +1,11 @@
 -- Runs of a world by its named steps.
-use Rattle.std.proofs.Common.{◌≡◌, ◌∷◌, ◌++◌, ◌+◌, ◌<◌, ℕ, Bool, false, List, [], length, take, Option, Some, None, Result, Ok, refl, subst, sym}
-use Rattle.std.specs.Prelude.{IfSome, IfOk, get_or, slice_get}
+use Rattle.std.proofs.Common.{◌≡◌, ◌∷◌, ◌++◌, ◌+◌, ◌<◌, ℕ, List, [], length, take, Option, Some, refl, subst, sym}
+use Rattle.std.specs.Prelude.{IfSome, get_or}
 use Rattle.std.proofs.lemmas.List.{take_more}
-use Rattle.fw_world.specs.Replays.{BankFailed, CountedWorldOf, Leads, Run}
+use Rattle.fw_world.specs.Replays.{CountedWorldOf, Leads, Run}
 use Rattle.fw_world.specs.WorldLaws.{IsOpeningWorld, IsSafeWorld, WorldsAreSafe}
-use Rattle.fw_world.specs.Worlds.{WorldOf, WorldStepOf, device_of, named_step, world_after, world_along}
+use Rattle.fw_world.specs.Worlds.{WorldOf, WorldStepOf, named_step, world_along}
 use Rattle.fw_world.specs.declared.step.MessageStep.{MessageStep}
-use Rattle.fw_world.specs.declared.step.MessageStepFault.{MessageStepFault}
 
 -- a run goes on by one step
 run_more : (w v u : CountedWorldOf) (ss : List MessageStep) (s : MessageStep) → Run w ss v → Leads v s u → Run w (ss ++ s ∷ []) u

@@ -1,5 +1,5 @@
 -- What is sealed under a key is what is applied under it.
-use Rattle.std.proofs.Common.{◌≡◌, ◌∷◌, ◌||◌, ℕ, Bool, true, false, if◌then◌else◌, is_some, length, List, [], Option, Some, None, ap, map, refl, sym}
+use Rattle.std.proofs.Common.{◌≡◌, ◌∷◌, ◌||◌, ℕ, Bool, true, false, is_some, length, List, [], Some, ap, map, refl, sym}
 use Rattle.std.specs.Prelude.{option_map}
 use Rattle.fd_core.specs.Banks.{has_key}
 use Rattle.fd_core.specs.Images.{ImageOf, RowOf, applied_of, key_of, row_of, same_key, sealed, sealed_if}

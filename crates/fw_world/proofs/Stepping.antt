@@ -1,12 +1,12 @@
 -- A step of a world, by the device that takes it.
-use Rattle.std.proofs.Common.{◌≡◌, ◌∷◌, ◌++◌, ◌==◌, ◌||◌, ◌⊎◌, inl, inr, ℕ, zero, suc, Bool, true, false, if◌then◌else◌, is_some, List, [], Option, Some, None, ap, map, refl, set, sym, ◌∙◌, get_or}
+use Rattle.std.proofs.Common.{◌≡◌, ◌∷◌, ◌⊎◌, inl, inr, ℕ, zero, suc, Bool, true, false, List, [], Some, None, ap, map, refl, set, sym, get_or}
 use Rattle.std.specs.Prelude.{option_map, slice_get}
 use Rattle.std.proofs.lemmas.List.{map-set}
 use Rattle.fw_package.specs.Package.{PackageText}
 use Rattle.fw_world.specs.Nodes.{CountedOf, Rose}
-use Rattle.fw_world.specs.Pairs.{PairOf, StepOf, pair_after}
-use Rattle.fw_world.specs.Replays.{BankFailed, CountedWorldOf, HasNode, Refuses, counted_restarted, place_at}
-use Rattle.fw_world.specs.Worlds.{NodeOf, NotedOf, WorldOf, WorldStepOf, agent_restarted, device_of, named_step, node_at, noted_on, pair_step, refusal_of, restarts_agent, world_after}
+use Rattle.fw_world.specs.Pairs.{pair_after}
+use Rattle.fw_world.specs.Replays.{BankFailed, HasNode, Refuses, counted_restarted, place_at}
+use Rattle.fw_world.specs.Worlds.{NodeOf, NotedOf, WorldOf, agent_restarted, device_of, named_step, node_at, noted_on, pair_step, refusal_of, restarts_agent, world_after}
 use Rattle.fw_world.specs.declared.step.MessageStep.{MessageStep}
 use Rattle.fw_world.specs.declared.step.MessageStep.TheVariants as steps
 use Rattle.fw_world.specs.declared.step.MessageStepFault.{MessageStepFault}
@@ -26,7 +26,7 @@ pub agent_restarts : (w : WorldOf) (pairs : List CountedOf) (s : MessageStep) (w
 unfolding world_after
 agent_restarts w pairs s works nodes is = rw (is, nodes_restarted w.packages pairs, sym nodes) refl
 
-get_map : (pairs : List CountedOf) (place : ℕ) (p : CountedOf) → slice_get pairs place ≡ Some p → slice_get (map node_in pairs) place ≡ Some p.node
+pub get_map : (pairs : List CountedOf) (place : ℕ) (p : CountedOf) → slice_get pairs place ≡ Some p → slice_get (map node_in pairs) place ≡ Some p.node
 get_map [] place p e = absurd (cc)
 get_map (q ∷ pairs) zero p e = let same : q ≡ p = cc in rw same refl
 get_map (q ∷ pairs) (suc place) p e = get_map pairs place p e
@@ -70,7 +70,6 @@ device_refuses w pairs p place s e nodes is at found h =
       | inl memory ↦ rw memory tt
       | inr r ↦ rw r.0 (refused_as w s has (λ works. rw is (world_refuses w (device_of s) place (pair_step works s) p.node at' here (r.1 works))))
     ]
-
 
 faults_at : (pairs : List CountedOf) (p : CountedOf) (place : ℕ) → slice_get pairs place ≡ Some p → get_or (map (λ q. q.faults) pairs) place 0 ≡ p.faults
 faults_at [] p place e = absurd (cc)

@@ -1,5 +1,5 @@
 -- What is promised of every run of messages between an agent and a device.
-use Rattle.std.specs.Prelude.{◌≡◌, List, [], map, All, Option, Some, None, IfSome}
+use Rattle.std.specs.Prelude.{◌≡◌, List, [], map, All, Some, None, IfSome}
 use Rattle.fw_package.specs.Package.{PackageText}
 use Rattle.fd_core.specs.Images.{RowOf}
 use Rattle.fd_core.specs.States.{Phase}

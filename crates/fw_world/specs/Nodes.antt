@@ -7,6 +7,7 @@ use Rattle.fwup_wire.specs.declared.values.Key.{Key}
 use Rattle.fw_world.specs.Pairs.{HeldOf, PairOf, is_empty}
 use Rattle.fwup_wire.specs.Values.{AnswerOf, CommandOf}
 use Rattle.fw_world.specs.Worlds.{NodeOf}
+use Rattle.fw_world.specs.declared.side.Way.{Way}
 use Rattle.fw_world.specs.declared.side.Way.TheVariants as ways
 use Rattle.fw_world.specs.declared.step.MessageStep.{MessageStep}
 use Rattle.fw_world.specs.declared.step.MessageStep.TheVariants as steps
@@ -77,3 +78,12 @@ activates reply = false
 abbrev pub is_activation : Option HeldOf → Bool
 is_activation None = false
 is_activation (Some h) = activates h.reply
+
+-- the cell of a way
+abbrev pub cell_of : PairOf → Way → Option HeldOf
+cell_of m ways.Down = m.down
+cell_of m ways.Up = m.up
+
+abbrev pub cell_in : Option NodeOf → Way → Option HeldOf
+cell_in None way = None
+cell_in (Some n) way = cell_of n.pair way

@@ -1,12 +1,12 @@
 -- A device and its session over whole messages: in each of the two ways there is one cell, which holds nothing, a command,
 -- or a command with its answer. There are no packets, no tags and no time.
-use Rattle.std.specs.Prelude.{ℕ, ◌==◌, ◌&&◌, not, Bool, true, false, nat_le, nat_lt, if◌then◌else◌, List, [], ◌∷◌, ◌++◌, length, map, Option, Some, None, Ok}
+use Rattle.std.specs.Prelude.{ℕ, ◌&&◌, not, Bool, true, false, nat_le, nat_lt, if◌then◌else◌, List, [], ◌∷◌, ◌++◌, length, map, Option, Some, None, Ok}
 use Rattle.std.specs.Option.{option_map}
 use Rattle.fw_package.specs.Package.{PackageText}
 use Rattle.fwup_wire.specs.Values.{AnswerOf, CommandOf}
 use Rattle.fd_core.specs.Commands.{Taken, device_take}
 use Rattle.fd_core.specs.Images.{Put}
-use Rattle.fd_core.specs.States.{DeviceState, Phase}
+use Rattle.fd_core.specs.States.{DeviceState}
 use Rattle.fd_core.specs.Steps.{Judged, device_restart, device_timeout, device_verdict, times_out as device_times_out}
 use Rattle.fd_core.specs.Wishes.{device_learn, device_wish}
 use Rattle.fd_core.specs.declared.states.Verdict.{Verdict}

@@ -1,5 +1,5 @@
 -- Whether two commands are the same, with all their fields.
-use Rattle.std.specs.Prelude.{ℕ, nat_eq, ◌==◌, ◌&&◌, Bool, true, false, List}
+use Rattle.std.specs.Prelude.{nat_eq, ◌==◌, ◌&&◌, Bool, true, false}
 use Rattle.std.specs.Cmp.Lexicographic.{pointwise}
 use Rattle.fd_core.specs.Images.{same_key}
 use Rattle.fwup_wire.specs.Fields.{flag_byte}

@@ -1,5 +1,5 @@
 -- What is promised of every run of messages between an agent and its devices.
-use Rattle.std.specs.Prelude.{ℕ, ◌≡◌, ◌==◌, if◌then◌else◌, List, [], ◌∷◌, All, Option, Some, None, IfSome, IsSomeAnd}
+use Rattle.std.specs.Prelude.{ℕ, ◌≡◌, ◌==◌, if◌then◌else◌, List, [], ◌∷◌, All, Some, IfSome, IsSomeAnd}
 use Rattle.fw_world.specs.History.{EntryOf}
 use Rattle.fw_world.specs.Laws.{IsOpening, IsSafeAndTied}
 use Rattle.fw_world.specs.Pairs.{PairRun}
@@ -31,3 +31,8 @@ IsSafeWorld opening w = (eid : ℕ) → IfSome (node_at opening.nodes eid)
 abbrev pub WorldsAreSafe : Type 0
 WorldsAreSafe = (opening : WorldOf) (steps : List WorldStepOf) → IsOpeningWorld opening
     → IfSome (world_along (Some opening) steps) (IsSafeWorld opening)
+
+-- And so does each run that goes on where one ended.
+abbrev pub WorldsStaySafe : Type 0
+WorldsStaySafe = (opening old new : WorldOf) (before steps : List WorldStepOf) → IsOpeningWorld opening
+    → world_along (Some opening) before ≡ Some old → world_along (Some old) steps ≡ Some new → IsSafeWorld opening new

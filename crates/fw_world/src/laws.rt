@@ -1,7 +1,7 @@
 //! What holds of every run of messages.
 
 ghost use Rattle.fw_world.specs.Laws.{MessagesAreSafe};
-ghost use Rattle.fw_world.specs.WorldLaws.{WorldsAreSafe};
+ghost use Rattle.fw_world.specs.WorldLaws.{WorldsAreSafe, WorldsStaySafe};
 
 /// Every run of whole messages between an agent and a device keeps the history of the device safe and tied: what the device
 /// activates is one package's images for it, each recorded before; what is recorded was applied; and the images that run and
@@ -14,9 +14,11 @@ pub fn messages_are_safe()
     fw_package::plans_named_images();
 }
 
-/// The same of an agent and all its devices: every run keeps the history of each of them safe and tied.
+/// The same of an agent and all its devices: every run keeps the history of each of them safe and tied, and so does each run
+/// that goes on where one ended.
 pub fn worlds_are_safe()
     ensures law { WorldsAreSafe }
+    ensures on { WorldsStaySafe }
 {
     ua_core::stays_in_plan();
     ua_core::pieces_continue();

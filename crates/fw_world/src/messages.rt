@@ -3,7 +3,8 @@
 ghost use Rattle.std.specs.Prelude.{[], ◌≡◌, ◌≤◌, ◌<◌, ◌++◌, ◌∷◌, Err, IfErr, IfOk, IfSome, None, OnErr, OnOk, Ok, Some, false, get_or, length, map, option_map, slice_set};
 ghost use Rattle.fd_core.specs.Steps.{device_restart};
 ghost use Rattle.ua_core.specs.Calls.{new_session};
-ghost use Rattle.fw_world.specs.Nodes.{HasComponents};
+ghost use Rattle.fw_world.specs.Entries.{entry_of};
+ghost use Rattle.fw_world.specs.Nodes.{HasComponents, cell_in};
 ghost use Rattle.fw_world.specs.Replays.{BankFailed, Refuses, counted_restarted, place_at};
 ghost use Rattle.fw_world.specs.Worlds.{device_of, named_step, node_at, world_after};
 
@@ -69,10 +70,12 @@ impl<'a, B: Bank + Drop> MessageWorld<'a, B> {
     pub fn add(&mut self, eid: u8, device: Device<B>) -> Result<(), MessageStepFault>
         requires device { HasComponents device.device }
         requires fresh { node_at self.old.world.nodes eid ≡ None }
-        ensures nodes { OnOk result (self.new.world ≡ record self.old.world { nodes = self.old.world.nodes ++ record {
+        ensures nodes { OnOk result (self.new.world ≡ record self.old.world {
+          nodes = self.old.world.nodes ++ record {
             eid = eid;
             pair = record { device = device_restart device.device; session = new_session.session; down = None; up = None };
-        } ∷ [] }) }
+          } ∷ [];
+        }) }
         ensures same { OnErr result (self.new ≡ self.old) }
         ensures memory { IfErr result (λ e. e ≡ MessageStepFault.Memory) }
     {
@@ -81,6 +84,45 @@ impl<'a, B: Bank + Drop> MessageWorld<'a, B> {
             return Err(MessageStepFault::Memory);
         };
         Ok(())
+    }
+
+    /// The agent's endpoint identifier.
+    pub fn agent(&self) -> u8
+        ensures { result ≡ self.now.world.agent }
+    {
+        self.agent
+    }
+
+    /// A device.
+    pub fn device(&self, eid: u8) -> Option<&Device<B>>
+        ensures { option_map (λ d. d.now.device) result ≡ option_map (λ n. n.pair.device) (node_at self.now.world.nodes eid) }
+    {
+        let pair = pair_of(&self.pairs, eid)?;
+        Some(pair.device())
+    }
+
+    /// The agent's session for a device.
+    pub fn session(&self, eid: u8) -> Option<&Session>
+        ensures { option_map (λ s. s.now.session) result ≡ option_map (λ n. n.pair.session) (node_at self.now.world.nodes eid) }
+    {
+        let pair = pair_of(&self.pairs, eid)?;
+        Some(pair.session())
+    }
+
+    /// What the cell of a way of a device holds: the command that was asked, its answer once it was taken, and whether its
+    /// asker waits for it. None where the cell is empty, or there is no such device.
+    pub fn cell(&self, eid: u8, way: Way) -> Option<&Held<'a>>
+        ensures { option_map (λ h. h.now) result ≡ cell_in (node_at self.now.world.nodes eid) way }
+    {
+        let pair = pair_of(&self.pairs, eid)?;
+        pair.cell(way)
+    }
+
+    /// What happened, in order.
+    pub fn history(&self) -> &[Entry]
+        ensures { map entry_of result.now ≡ self.now.world.history }
+    {
+        self.history.as_slice()
     }
 
     /// A step. Answers whether the bank worked.
@@ -120,6 +162,17 @@ fn place_of<B: Bank>(pairs: &[Pair<'_, B>], eid: u8) -> Option<usize>
         }
     }
     None
+}
+
+/// The pair of this identifier.
+#[tactic(auto, using(crate::proofs::Finding::found_at, crate::proofs::Finding::not_found))]
+fn pair_of<'p, 'a, B: Bank>(pairs: &'p [Pair<'a, B>], eid: u8) -> Option<&'p Pair<'a, B>>
+    ensures { option_map (λ p. p.now.node) result ≡ node_at (map (λ p. p.node) pairs.now) eid }
+{
+    let Some(place) = place_of(pairs, eid) else {
+        return None;
+    };
+    Some(&pairs[place])
 }
 
 /// The agent restarts, and with it each of its sessions.

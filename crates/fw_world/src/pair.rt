@@ -6,12 +6,13 @@ ghost use Rattle.fd_core.specs.Steps.{device_restart};
 ghost use Rattle.fwup_wire.specs.Lent.{command_of};
 ghost use Rattle.ua_core.specs.Calls.{new_session};
 ghost use Rattle.fw_world.specs.History.{package_at};
-ghost use Rattle.fw_world.specs.Nodes.{HasComponents};
+ghost use Rattle.fw_world.specs.Nodes.{HasComponents, cell_of};
 ghost use Rattle.fw_world.specs.Pairs.{StepOf, down_wish, quietly, step_of, unwished_closed};
 ghost use Rattle.fw_world.specs.declared.side.Way.TheVariants as ways;
 ghost use Rattle.fw_world.specs.declared.side.Side.TheVariants as sides;
 
 use crate::cell::Held;
+use crate::side::Way;
 use fd_core::{Bank, Device};
 use fw_package::Package;
 use std::alloc::Global;
@@ -23,7 +24,6 @@ mod calling;
 mod serving;
 mod stepping;
 mod waiting;
-
 
 /// A device, the agent's session for it, and the two cells: of what the agent asks the device, and of what the device
 /// asks the agent.
@@ -58,8 +58,8 @@ impl<'a, B: Bank> Pair<'a, B> {
     pub fn new(alloc: Global, eid: u8, device: Device<B>) -> Pair<'a, B>
         requires { HasComponents device.device }
         ensures node { result.node ≡ record {
-            eid = eid;
-            pair = record { device = device_restart device.device; session = new_session.session; down = None; up = None };
+          eid = eid;
+          pair = record { device = device_restart device.device; session = new_session.session; down = None; up = None };
         } }
     {
         let mut device = device;
@@ -86,6 +86,16 @@ impl<'a, B: Bank> Pair<'a, B> {
         ensures faults { result.now.faults ≡ self.now.faults }
     {
         &self.device
+    }
+
+    /// What the cell of a way holds.
+    pub fn cell(&self, way: Way) -> Option<&Held<'a>>
+        ensures { option_map (λ h. h.now) result ≡ cell_of self.now.node.pair way }
+    {
+        match way {
+            Way::Down => self.down.as_ref(),
+            Way::Up => self.up.as_ref(),
+        }
     }
 
     /// The agent's session for the device.

@@ -4,7 +4,9 @@ ghost use Rattle.std.specs.Prelude.{◌≡◌};
 ghost use Rattle.fwup_wire.specs.Lent.{command_of, entry_of, offer_of, request_of, text_of, version_of};
 ghost use Rattle.fw_world.specs.Same.{same_command, same_entry, same_offer, same_request, same_text, same_version};
 
-use fwup_wire::{Command, ComponentOffer, Key, TableEntry, Text, TransferFlag, UpdateRequest, Version};
+use fwup_wire::{
+    Command, ComponentOffer, Key, TableEntry, Text, TransferFlag, UpdateRequest, Version,
+};
 
 /// Whether two commands are the same, with all their fields.
 #[tactic(auto, unfolding(crate::specs::Same::same_command))]
@@ -22,13 +24,19 @@ pub fn is_same(a: &Command<'_>, b: &Command<'_>) -> bool
         (Command::UpdateComponent(a), Command::UpdateComponent(b)) => is_same_offer(a, b),
         (
             Command::RequestFirmwareData { offset, length },
-            Command::RequestFirmwareData { offset: other_offset, length: other_length },
+            Command::RequestFirmwareData {
+                offset: other_offset,
+                length: other_length,
+            },
         ) => offset == other_offset && length == other_length,
         (Command::TransferComplete { result: a }, Command::TransferComplete { result: b })
         | (Command::VerifyComplete { result: a }, Command::VerifyComplete { result: b }) => a == b,
         (
             Command::ApplyComplete { result, methods },
-            Command::ApplyComplete { result: other_result, methods: other_methods },
+            Command::ApplyComplete {
+                result: other_result,
+                methods: other_methods,
+            },
         ) => result == other_result && methods == other_methods,
         (
             Command::ActivateFirmware { self_contained: a },

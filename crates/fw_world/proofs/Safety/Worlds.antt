@@ -10,7 +10,7 @@ use Rattle.ua_core.specs.Lent.{told_descriptor}
 use Rattle.fw_world.specs.History.{EntryOf}
 use Rattle.fw_world.specs.Laws.{IsSafeAndTied}
 use Rattle.fw_world.specs.Pairs.{PairOf, StepOf, Stepped, noted, pair_after}
-use Rattle.fw_world.specs.WorldLaws.{IsOpeningNode, IsOpeningWorld, IsSafeWorld, WorldsAreSafe, history_of, run_of}
+use Rattle.fw_world.specs.WorldLaws.{IsOpeningNode, IsOpeningWorld, IsSafeWorld, WorldsAreSafe, WorldsStaySafe, history_of, run_of}
 use Rattle.fw_world.specs.Worlds.{NodeOf, NotedOf, WorldOf, WorldStepOf, after_or, agent_restarted, node_at, noted_of, step_at, went_on, with_pair, world_after, world_along}
 use Rattle.fw_world.specs.declared.side.Side.TheVariants as sides
 use Rattle.fw_world.proofs.Safety.Agreement.{IsStanding}
@@ -239,3 +239,9 @@ pub along_append : (ss ts : List WorldStepOf) (o : Option WorldOf) → world_alo
 along_append ss ts None = refl
 along_append [] ts (Some w) = refl
 along_append (s ∷ ss) ts (Some w) = along_append ss ts (world_after w s)
+
+pub worlds_stay_safe : (laws : Laws) → WorldsStaySafe
+worlds_stay_safe laws opening old new before steps h to_old to_new =
+    let whole : world_along (Some opening) (before ++ steps) ≡ Some new =
+    along_append before steps (Some opening) ∙ ap (λ o. world_along o steps) to_old ∙ to_new in
+    subst (λ (o : Option WorldOf). IfSome o (IsSafeWorld opening)) whole (worlds_are_safe laws opening (before ++ steps) h)

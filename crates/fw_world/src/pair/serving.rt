@@ -48,8 +48,8 @@ impl<'a, B: Bank> Pair<'a, B> {
     #[tactic(auto, unfolding(crate::specs::Pairs::down_taken), using(crate::proofs::Components::take_components))]
     pub fn take_down(&mut self, packages: &'a [Package], quiet: bool) -> Option<bool>
         ensures step { IfSome result (λ works. step_of packages.now self.old.node.pair (StepOf.TakeDown quiet works) ≡ Some (record {
-            after = self.new.node.pair;
-            noted = map EntryOf.Activated (activated_down self.old.node.pair quiet works);
+          after = self.new.node.pair;
+          noted = map EntryOf.Activated (activated_down self.old.node.pair quiet works);
         })) }
         ensures none { IfNone result ((works : Bool) → step_of packages.now self.old.node.pair (StepOf.TakeDown quiet works) ≡ None) }
         ensures same { result ≡ None → self.new ≡ self.old }
@@ -126,8 +126,8 @@ impl<'a, B: Bank> Pair<'a, B> {
     #[tactic(auto, using(crate::proofs::Components::judge_components, crate::proofs::Working::judges_alike))]
     pub fn judge(&mut self, packages: &'a [Package], verdict: Verdict) -> Option<bool>
         ensures step { IfSome result (λ works. step_of packages.now self.old.node.pair (StepOf.Judge verdict works) ≡ Some (record {
-            after = self.new.node.pair;
-            noted = map EntryOf.Applied (applied_by self.old.node.pair.device verdict works);
+          after = self.new.node.pair;
+          noted = map EntryOf.Applied (applied_by self.old.node.pair.device verdict works);
         })) }
         ensures none { IfNone result ((works : Bool) → step_of packages.now self.old.node.pair (StepOf.Judge verdict works) ≡ None) }
         ensures same { result ≡ None → self.new ≡ self.old }
@@ -152,8 +152,8 @@ impl<'a, B: Bank> Pair<'a, B> {
         requires empty { room.items ≡ [] }
         requires room { verdict ≡ Verdict.ApplyOk → IfSome (staged_of self.old.node.pair.device.phase) (λ s. s.1 ≤ vec_capacity room) }
         ensures step { IfSome result (λ r. step_of packages.now self.old.node.pair (StepOf.Judge verdict r.0) ≡ Some (record {
-            after = self.new.node.pair;
-            noted = map EntryOf.Applied (map put_of (option_to_list r.1));
+          after = self.new.node.pair;
+          noted = map EntryOf.Applied (map put_of (option_to_list r.1));
         })) }
         ensures none { IfNone result ((works : Bool) → step_of packages.now self.old.node.pair (StepOf.Judge verdict works) ≡ None) }
         ensures same { result ≡ None → self.new ≡ self.old }
@@ -180,11 +180,17 @@ impl<'a, B: Bank> Pair<'a, B> {
         match self.device.state() {
             State::Verify => matches!(
                 (progress, verdict),
-                (Some(Progress::InProgress), Verdict::VerifyOk | Verdict::VerifyFail)
+                (
+                    Some(Progress::InProgress),
+                    Verdict::VerifyOk | Verdict::VerifyFail
+                )
             ),
             State::Apply => matches!(
                 (progress, verdict),
-                (Some(Progress::InProgress), Verdict::ApplyOk | Verdict::ApplyFail)
+                (
+                    Some(Progress::InProgress),
+                    Verdict::ApplyOk | Verdict::ApplyFail
+                )
             ),
             _ => false,
         }

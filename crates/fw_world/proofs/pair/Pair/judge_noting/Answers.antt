@@ -1,4 +1,4 @@
-use Rattle.std.proofs.Common.{rules, ◌≡◌, ◌≤◌, ◌∙◌, Some, length, map, refl, sym, true}
+use Rattle.std.proofs.Common.{rules, ◌≡◌, ◌≤◌, Some, length, map, sym, true}
 use Rattle.std.specs.Prelude.{IfSome, option_to_list, vec_capacity}
 use Rattle.fd_core.specs.States.{IsWhole, staged_of}
 use Rattle.fd_core.specs.declared.states.Verdict.TheVariants as verdicts
