@@ -1,2 +1,3 @@
+mod Answering
 mod Parameters
 mod Rows

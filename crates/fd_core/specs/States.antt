@@ -1,9 +1,10 @@
 -- What a device stands for (DSP0267 1.0, "Firmware device state machine").
-use Rattle.std.specs.Prelude.{[], Bool, List, Option, None, Some, if◌then◌else◌, ℕ}
+use Rattle.std.specs.Prelude.{[], ◌≡◌, Bool, List, Option, None, Some, if◌then◌else◌, ℕ}
 use Rattle.fd_core.specs.Images.{LabelOf, RowOf, dropped}
 use Rattle.fd_core.specs.declared.parts.Component.{Component}
 use Rattle.fd_core.specs.declared.parts.Listed.{Listed}
 use Rattle.fd_core.specs.declared.states.Progress.{Progress}
+use Rattle.fd_core.specs.declared.states.Progress.TheVariants as progress
 use Rattle.fd_core.specs.declared.states.Reason.{Reason}
 use Rattle.fd_core.specs.declared.states.Reason.TheVariants as reasons
 use Rattle.fd_core.specs.declared.states.State.{State}
@@ -73,6 +74,12 @@ staged_of (Phase.Download u w p) = Some (w.key, w.size)
 staged_of (Phase.Verify u w p) = Some (w.key, w.size)
 staged_of (Phase.Apply u w p) = Some (w.key, w.size)
 staged_of p = None
+
+-- an image that waits for a verdict has all its bytes
+abbrev pub IsWhole : Phase → ℕ → Type 0
+IsWhole (Phase.Verify u w progress.InProgress) have = have ≡ w.size
+IsWhole (Phase.Apply u w progress.InProgress) have = have ≡ w.size
+IsWhole p have = Unit {0}
 
 -- a device in another state
 abbrev pub moved : DeviceState → Phase → DeviceState

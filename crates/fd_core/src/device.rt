@@ -1,12 +1,13 @@
 //! A device over a bank.
 
-ghost use Rattle.std.specs.Prelude.{◌≡◌, ◌≤◌, ◌<◌, OnOk, is_ok, is_some, map, not, length, true, false};
+ghost use Rattle.std.specs.Prelude.{◌≡◌, ◌≤◌, ◌<◌, OnErr, OnOk, Some, is_ok, is_some, map, not, length, true, false};
 ghost use Rattle.fd_core.specs.Commands.{Rose, bytes_work, device_after, device_answer, idle_after};
-ghost use Rattle.fd_core.specs.States.{DeviceOf, new_device, progress_of, reset, rested, staged_of, state_of};
+ghost use Rattle.fd_core.specs.States.{DeviceOf, IsWhole, new_device, progress_of, reset, rested, staged_of, state_of};
 ghost use Rattle.fd_core.specs.Steps.{device_restart, device_tick, device_verdict, verdict_after};
 ghost use Rattle.fd_core.specs.Wishes.{has_failed};
 ghost use Rattle.fd_core.specs.declared.states.Verdict.TheVariants.{ApplyOk};
-ghost use Rattle.fwup_wire.specs.Answers.{answer_bytes};
+ghost use Rattle.fwup_wire.specs.Answers.{answer_bytes, answer_in};
+ghost use Rattle.fwup_wire.specs.Commands.{command_code};
 ghost use Rattle.fwup_wire.specs.Lent.{command_of};
 ghost use Rattle.fd_core.specs.Images.{key_of};
 
@@ -119,7 +120,8 @@ impl<B: Bank> Device<B> {
 
     /// The component that is being updated and its image's bytes, from DOWNLOAD to APPLY.
     pub fn staged(&self) -> Option<(Key, u32)>
-        ensures { result ≡ staged_of self.now.device.phase }
+        ensures staged { result ≡ staged_of self.now.device.phase }
+        ensures whole { IsWhole self.now.device.phase (length self.now.device.stage) }
     {
         match self.course.state {
             State::Download | State::Verify | State::Apply => Some((self.work.key, self.work.size)),
@@ -138,8 +140,10 @@ impl<B: Bank> Device<B> {
     /// that the device has no request of its own under way. A refused command changes nothing.
     ///
     /// Code 1 answers UpdateComponent and ActivateFirmware where the bank failed, and only there.
+    #[tactic(auto, using(crate::proofs::Answering::answers_its_command))]
     pub fn take(&mut self, command: &Command<'_>, quiet: bool) -> Reply
         ensures answer { result.items ≡ answer_bytes (device_answer self.old.device (command_of command.now) quiet (bytes_work result.items)) }
+        ensures reads { answer_in (command_code (command_of command.now)) result.items ≡ Some (device_answer self.old.device (command_of command.now) quiet (bytes_work result.items)) }
         ensures after { self.new.device ≡ device_after self.old.device (command_of command.now) quiet (bytes_work result.items) }
         ensures idle { self.new.idle ≡ idle_after self.old.idle self.old.device (command_of command.now) quiet (bytes_work result.items) }
         ensures failed { bytes_work result.items ≡ false → Rose self.old self.new }
@@ -177,6 +181,7 @@ impl<B: Bank> Device<B> {
         ensures after { self.new.device ≡ verdict_after self.old.device verdict (not (has_failed self.new.device.phase)) }
         ensures idle { self.new.idle ≡ rested self.old.idle (is_ok result) }
         ensures failed { OnOk result (verdict ≡ ApplyOk → has_failed self.new.device.phase ≡ true → Rose self.old self.new) }
+        ensures kept { OnErr result (self.new ≡ self.old) }
         ensures faults { self.old.faults ≤ self.new.faults }
     {
         match (self.course.state, self.course.progress, verdict) {
@@ -204,6 +209,7 @@ impl<B: Bank> Device<B> {
     pub fn idle_tick(&mut self)
         ensures device { self.new.device ≡ (device_tick self.old.device self.old.idle).0 }
         ensures idle { self.new.idle ≡ (device_tick self.old.device self.old.idle).1 }
+        ensures within { self.new.idle < 240 }
         ensures faults { self.new.faults ≡ self.old.faults }
     {
         let reason = match self.course.state {

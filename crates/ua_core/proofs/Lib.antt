@@ -1,3 +1,4 @@
+mod Answering
 pub mod Padding
 pub mod Known
 pub mod Lawful

@@ -1,6 +1,6 @@
 //! A session, and what its user does with it.
 
-ghost use Rattle.std.specs.Prelude.{◌≡◌, ◌↔◌, if◌then◌else◌, false, true, length, IfErr, OnErr, OnOk, Some, None};
+ghost use Rattle.std.specs.Prelude.{◌≡◌, ◌<◌, ◌↔◌, if◌then◌else◌, false, true, length, IfErr, OnErr, OnOk, Some, None};
 ghost use Rattle.ua_core.specs.Calls.{agent_activated, agent_cancelled, agent_restart, agent_silent, agent_started, idle_ticked, is_free, may_cancel, new_session};
 ghost use Rattle.ua_core.specs.Session.{state_of};
 
@@ -165,7 +165,8 @@ impl Session {
 
     /// A tick passed. The 240th tick in a row in which nothing moved ends an update.
     pub fn idle_tick(&mut self)
-        ensures { self.new ≡ idle_ticked self.old }
+        ensures ticked { self.new ≡ idle_ticked self.old }
+        ensures within { self.new.idle < 240 }
     {
         if self.position.state.is_free() {
             return;

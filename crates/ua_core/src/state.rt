@@ -86,7 +86,7 @@ pub enum SessionState {
 
 impl SessionState {
     /// Whether a session here may start an update.
-    pub(crate) fn is_free(self) -> bool
+    pub fn is_free(self) -> bool
         ensures { result ≡ is_free_state self }
     {
         matches!(

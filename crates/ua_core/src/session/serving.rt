@@ -1,7 +1,8 @@
 //! How a session answers the device's commands.
 
-ghost use Rattle.std.specs.Prelude.{◌≡◌, ◌==◌, ◌∷◌, [], if◌then◌else◌};
-ghost use Rattle.fwup_wire.specs.Answers.{answer_bytes, answer_code};
+ghost use Rattle.std.specs.Prelude.{◌≡◌, ◌==◌, ◌∷◌, [], if◌then◌else◌, Some};
+ghost use Rattle.fwup_wire.specs.Answers.{answer_bytes, answer_code, answer_in};
+ghost use Rattle.fwup_wire.specs.Commands.{command_code};
 ghost use Rattle.fwup_wire.specs.Lent.{command_of};
 ghost use Rattle.fwup_wire.specs.Values.{CommandOf};
 ghost use Rattle.ua_core.specs.Lent.{no_package};
@@ -29,8 +30,10 @@ const PAST_END: usize = MIN_PIECE;
 impl Session {
     /// Takes a command of the device and answers it: with a code alone, save where data are served. What the session doesn't
     /// expect in its state leaves it as it is.
+    #[tactic(auto, using(crate::proofs::Answering::answers_read))]
     pub fn take(&mut self, command: &Command<'_>, lent: &Lent<'_>) -> Reply
         ensures answer { result.items ≡ answer_bytes (agent_answer lent.now self.old.session (command_of command.now)) }
+        ensures reads { answer_in (command_code (command_of command.now)) result.items ≡ Some (agent_answer lent.now self.old.session (command_of command.now)) }
         ensures after { self.new.session ≡ agent_after lent.now self.old.session (command_of command.now) }
         ensures idle { self.new.idle ≡ agent_idle lent.now self.old.session self.old.idle (command_of command.now) }
     {

@@ -1,0 +1,14 @@
+mod Activating
+mod Applied
+mod Closings
+mod Components
+mod Finding
+mod Noting
+mod Places
+mod Records
+mod Rising
+mod Running
+mod Safety
+mod Sealing
+mod Stepping
+mod Working

@@ -1,0 +1,25 @@
+-- Why every run of messages keeps the history of a device safe and tied.
+pub mod Agreement
+pub mod Applied
+pub mod Begins
+pub mod Calls
+pub mod Cells
+pub mod Closing
+pub mod Counts
+pub mod Down
+pub mod Histories
+pub mod Learns
+pub mod Loose
+pub mod Moves
+pub mod Pieces
+pub mod Planned
+pub mod Readings
+pub mod Reports
+pub mod Runs
+pub mod Same
+pub mod Serves
+pub mod Takes
+pub mod Turns
+pub mod Up
+pub mod Verdicts
+pub mod Worlds

@@ -1,0 +1,10 @@
+pub mod Cells
+pub mod Entries
+pub mod History
+pub mod Laws
+pub mod Nodes
+pub mod Pairs
+pub mod Replays
+pub mod Same
+pub mod WorldLaws
+pub mod Worlds
