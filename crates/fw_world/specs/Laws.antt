@@ -16,7 +16,6 @@ IsUnapplied row = row.applied ≡ None
 pub record IsOpening (r : PairRun) : Type 0 where
   pub idle : r.pair.device.phase ≡ Phase.Idle
   pub unapplied : All IsUnapplied r.pair.device.rows
-  pub stage : r.pair.device.stage ≡ []
   pub session : r.pair.session ≡ new_session.session
   pub down : r.pair.down ≡ None
   pub up : r.pair.up ≡ None

@@ -6,6 +6,7 @@ ghost use Rattle.ua_core.specs.Calls.{new_session};
 ghost use Rattle.fw_world.specs.Entries.{entry_of};
 ghost use Rattle.fw_world.specs.Nodes.{HasComponents, cell_in};
 ghost use Rattle.fw_world.specs.Replays.{BankFailed, Refuses, counted_restarted, place_at};
+ghost use Rattle.fw_world.specs.WorldLaws.{IsOpeningWorld};
 ghost use Rattle.fw_world.specs.Worlds.{device_of, named_step, node_at, world_after};
 
 use crate::cell::Held;
@@ -50,9 +51,11 @@ impl<'a, B: Bank + Drop> Model for MessageWorld<'a, B> {
 impl<'a, B: Bank + Drop> MessageWorld<'a, B> {
     /// An agent with this endpoint identifier and these packages, numbered from 1 on, without devices. Later calls take
     /// their memory from `alloc`.
+    #[tactic(auto, using(crate::proofs::Openings::opening_alone))]
     pub fn new(alloc: Global, agent: u8, packages: &'a [Package]) -> MessageWorld<'a, B>
         ensures world { result.world ≡ record { agent = agent; packages = packages.now; nodes = []; history = [] } }
         ensures faults { result.faults ≡ [] }
+        ensures opening { IsOpeningWorld result.world }
     {
         MessageWorld {
             alloc,
@@ -67,6 +70,7 @@ impl<'a, B: Bank + Drop> MessageWorld<'a, B> {
     ///
     /// # Errors
     /// `Memory` where memory for it is refused. Nothing has changed then, and the device is gone.
+    #[tactic(auto, using(crate::proofs::Openings::opening_more))]
     pub fn add(&mut self, eid: u8, device: Device<B>) -> Result<(), MessageStepFault>
         requires device { HasComponents device.device }
         requires fresh { node_at self.old.world.nodes eid ≡ None }
