@@ -1,6 +1,6 @@
 -- A step of the device that stands at a place.
 use Rattle.std.proofs.Common.{◌≡◌, ◌∷◌, ◌++◌, ◌+◌, ◌-◌, ◌==◌, ◌≤◌, ℕ, zero, suc, Bool, true, false, if◌then◌else◌, List, [], Option, Some, None, ap, arith, map, refl, set, sym, inl, inr}
-use Rattle.std.specs.Prelude.{option_map, slice_get}
+use Rattle.std.specs.Prelude.{IsSome, option_map, slice_get}
 use Rattle.std.proofs.lemmas.Bool.Decides.{eqb_tells}
 use Rattle.fw_world.specs.Pairs.{PairOf, StepOf, Stepped, pair_after}
 use Rattle.fw_world.specs.Replays.{place_at, place_from}
@@ -97,3 +97,12 @@ pub world_refuses : (w : WorldOf) (eid place : ℕ) (s : StepOf) (n : NodeOf) �
     → world_after w (WorldStepOf.OfPair eid s) ≡ None
 unfolding world_after
 world_refuses w eid place s n at found e = rw (at_node w.nodes eid place n at found, e) refl
+
+pub world_allows : (w : WorldOf) (eid place : ℕ) (s : StepOf) (n : NodeOf) → IsAt w.nodes eid place → slice_get w.nodes place ≡ Some n → IsSome (pair_after w.packages n.pair s)
+    → IsSome (world_after w (WorldStepOf.OfPair eid s))
+unfolding world_after
+world_allows w eid place s n at found h = rw (at_node w.nodes eid place n at found) (by_step (pair_after w.packages n.pair s) h)
+  where
+    by_step : (o : Option Stepped) → IsSome o → IsSome (option_map (went_on w eid) o)
+    by_step None h = absurd (cc)
+    by_step (Some t) h = refl

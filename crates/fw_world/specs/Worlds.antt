@@ -1,5 +1,5 @@
 -- The world over whole messages: an agent, its packages, its devices with their sessions, and what happened.
-use Rattle.std.specs.Prelude.{ℕ, ◌==◌, Bool, true, false, if◌then◌else◌, List, [], ◌∷◌, ◌++◌, map, Option, Some, None}
+use Rattle.std.specs.Prelude.{◌≡◌, ◌⊎◌, ℕ, ◌==◌, Bool, true, false, if◌then◌else◌, List, [], ◌∷◌, ◌++◌, map, Option, Some, None, IsSome}
 use Rattle.std.specs.Option.{option_map}
 use Rattle.fw_package.specs.Package.{PackageText}
 use Rattle.fw_world.specs.History.{EntryOf}
@@ -133,3 +133,8 @@ refusal_of (steps.Start device number) = faults.Refused
 refusal_of (steps.Activate device) = faults.Refused
 refusal_of (steps.Verdict device verdict) = faults.Refused
 refusal_of s = faults.NotNow
+
+-- Why a step isn't taken, by what it leaves with a bank that works and with one that doesn't: memory was refused, and it
+-- may be taken; or this refusal, and it may not.
+abbrev pub IsCauseOf : (e refusal : MessageStepFault) → (Bool → Option Stepped) → Type 0
+IsCauseOf e refusal taken = ((e ≡ faults.Memory) × IsSome (taken true)) ⊎ ((e ≡ refusal) × ((works : Bool) → taken works ≡ None))
