@@ -38,7 +38,7 @@ impl<'a> Model for Held<'a> {
 
 impl<'a> Held<'a> {
     /// A command that was asked just now.
-    pub fn new(command: Command<'a>) -> Held<'a>
+    pub(crate) fn new(command: Command<'a>) -> Held<'a>
         ensures { result ≡ fresh_cell (command_of command.entry) }
     {
         Held {
@@ -80,7 +80,7 @@ impl<'a> Held<'a> {
     }
 
     /// The command is taken: this is its answer.
-    pub fn take(&mut self, reply: Reply)
+    pub(crate) fn take(&mut self, reply: Reply)
         requires { IsSome (answer_in (command_code self.old.command) reply.items) }
         ensures { self.new ≡ record self.old { reply = answer_in (command_code self.old.command) reply.items } }
     {
@@ -88,14 +88,14 @@ impl<'a> Held<'a> {
     }
 
     /// Its asker waits for it no longer.
-    pub fn close(&mut self)
+    pub(crate) fn close(&mut self)
         ensures { self.new ≡ record self.old { live = false } }
     {
         self.live = false;
     }
 
     /// Its asker waits for it no longer, unless this is what it wishes.
-    pub fn close_unless(&mut self, wish: &Option<Command<'_>>)
+    pub(crate) fn close_unless(&mut self, wish: &Option<Command<'_>>)
         ensures { Some self.new ≡ closed_unless (option_map command_of wish.now) (Some self.old) }
     {
         self.live = match wish {

@@ -38,7 +38,7 @@ pub enum MessageStep {
 
 impl MessageStep {
     /// The device of the step. A restart names a node, which may be the agent.
-    pub fn device(&self) -> u8
+    pub(crate) fn device(&self) -> u8
         ensures { result ≡ device_of self.now }
     {
         match *self {
@@ -57,7 +57,7 @@ impl MessageStep {
     }
 
     /// Whether the step restarts the agent, which has this identifier.
-    pub fn restarts(&self, agent: u8) -> bool
+    pub(crate) fn restarts(&self, agent: u8) -> bool
         ensures { result ≡ restarts_agent agent self.now }
     {
         match *self {
