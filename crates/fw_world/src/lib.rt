@@ -12,6 +12,8 @@ mod replay;
 mod same;
 mod side;
 mod step;
+#[cfg(test)]
+mod tests;
 
 pub use cell::Held;
 pub use entry::{Entry, Event, Image};

@@ -1,0 +1,11 @@
+//! Tests of the world over whole messages.
+
+mod endings;
+mod losses;
+mod packages;
+mod refusals;
+mod restarts;
+mod seeing;
+mod setup;
+mod steps;
+mod updates;

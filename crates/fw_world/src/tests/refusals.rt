@@ -1,0 +1,282 @@
+//! Steps that aren't taken.
+
+use crate::tests::packages::package;
+use crate::tests::seeing::seen;
+use crate::tests::setup::{AGENT, NOBODY, ONE, world};
+use crate::tests::steps::{
+    ACTIVATE, ACTIVATING, ALL_APPLIED, ANSWERED, APPLIED, APPLY, ASK_DOWN, ASK_UP, ASKED, CANCEL,
+    DATA_ANSWERED, DATA_ASKED, DEVICE, DOWNLOAD, DROP_DOWN, DROP_UP, GIVE_UP_DOWN, GIVE_UP_UP,
+    LEARN_DOWN, LEARN_UP, RESTART_AGENT, START, TAKE_BUSY, TAKE_DOWN, TAKE_UP, TIME_OUT_DEVICE,
+    TIME_OUT_SESSION, VERIFIED, VERIFY, WHOLE, worked_then,
+};
+use crate::{MessageStep, MessageStepFault, Side, Way, message_replay};
+use fd_core::Verdict;
+use fw_package::Package;
+use std::alloc::Global;
+use std::test::Fail;
+
+/// A situation, by how many of the worked steps and which others lead to it, and a step that isn't taken there.
+type Row<'a> = (&'a str, usize, &'a [MessageStep], MessageStep);
+
+const VERDICTS: [Verdict; 4] = [
+    Verdict::VerifyOk,
+    Verdict::VerifyFail,
+    Verdict::ApplyOk,
+    Verdict::ApplyFail,
+];
+
+/// Cells that aren't empty, or nothing that is wished.
+const ASKS: [Row<'static>; 12] = [
+    ("the session wishes nothing", 0, &[], ASK_DOWN),
+    ("the device wishes nothing", 0, &[], ASK_UP),
+    ("a session in Download", DOWNLOAD, &[], ASK_DOWN),
+    ("a session that is Done", WHOLE, &[], ASK_DOWN),
+    ("a device in ACTIVATE", WHOLE, &[], ASK_UP),
+    ("the agent has asked", ASKED, &[], ASK_DOWN),
+    ("the agent has its answer", ANSWERED, &[], ASK_DOWN),
+    ("another command is wished", ASKED, &[CANCEL], ASK_DOWN),
+    ("the agent gave up", ASKED, &[GIVE_UP_DOWN], ASK_DOWN),
+    ("the device has asked", DATA_ASKED, &[], ASK_UP),
+    ("the device has its answer", DATA_ANSWERED, &[], ASK_UP),
+    ("the device gave up", DATA_ASKED, &[GIVE_UP_UP], ASK_UP),
+];
+
+/// Cells that hold nothing to be taken, and devices that aren't quiet.
+const TAKES: [Row<'static>; 13] = [
+    ("no update", 0, &[], TAKE_DOWN),
+    ("no update, not quiet", 0, &[], TAKE_BUSY),
+    ("no update, up", 0, &[], TAKE_UP),
+    ("nothing is asked yet", 1, &[], TAKE_DOWN),
+    ("nothing is asked yet, up", DOWNLOAD, &[], TAKE_UP),
+    ("it is answered", ANSWERED, &[], TAKE_DOWN),
+    ("it is answered, not quiet", ANSWERED, &[], TAKE_BUSY),
+    ("it is answered, closed", ANSWERED, &[CANCEL], TAKE_DOWN),
+    ("it is answered, up", DATA_ANSWERED, &[], TAKE_UP),
+    ("it is learnt", ANSWERED, &[LEARN_DOWN], TAKE_DOWN),
+    (
+        "the device has asked",
+        DATA_ASKED,
+        &[CANCEL, ASK_DOWN],
+        TAKE_DOWN,
+    ),
+    (
+        "the device has its answer",
+        DATA_ANSWERED,
+        &[CANCEL, ASK_DOWN],
+        TAKE_DOWN,
+    ),
+    (
+        "the device gave up",
+        DATA_ASKED,
+        &[GIVE_UP_UP, CANCEL, ASK_DOWN],
+        TAKE_DOWN,
+    ),
+];
+
+/// Cells without an answer that anybody waits for.
+const LEARNS: [Row<'static>; 10] = [
+    ("no update", 0, &[], LEARN_DOWN),
+    ("no update, up", 0, &[], LEARN_UP),
+    ("nothing is asked yet", 1, &[], LEARN_DOWN),
+    ("no answer yet", ASKED, &[], LEARN_DOWN),
+    ("no answer yet, up", DATA_ASKED, &[], LEARN_UP),
+    ("it is learnt", ANSWERED, &[LEARN_DOWN], LEARN_DOWN),
+    ("it is learnt, up", DATA_ANSWERED, &[LEARN_UP], LEARN_UP),
+    ("the cell is closed", ANSWERED, &[CANCEL], LEARN_DOWN),
+    (
+        "it was taken when closed",
+        ASKED,
+        &[CANCEL, TAKE_DOWN],
+        LEARN_DOWN,
+    ),
+    (
+        "the cell is closed, up",
+        DATA_ANSWERED,
+        &[GIVE_UP_UP],
+        LEARN_UP,
+    ),
+];
+
+/// Nothing to give up, nothing to drop, nobody to wait.
+const ENDS: [Row<'static>; 17] = [
+    ("an empty cell", 0, &[], GIVE_UP_DOWN),
+    ("an empty cell, up", 0, &[], GIVE_UP_UP),
+    ("a closed cell", ASKED, &[CANCEL], GIVE_UP_DOWN),
+    ("given up", ASKED, &[GIVE_UP_DOWN], GIVE_UP_DOWN),
+    ("given up, up", DATA_ASKED, &[GIVE_UP_UP], GIVE_UP_UP),
+    ("nothing to drop", 0, &[], DROP_DOWN),
+    ("nothing to drop, up", 0, &[], DROP_UP),
+    ("an open cell", ASKED, &[], DROP_DOWN),
+    ("an open cell with its answer", ANSWERED, &[], DROP_DOWN),
+    ("an open cell, up", DATA_ASKED, &[], DROP_UP),
+    (
+        "an open cell with its answer, up",
+        DATA_ANSWERED,
+        &[],
+        DROP_UP,
+    ),
+    ("dropped", ASKED, &[CANCEL, DROP_DOWN], DROP_DOWN),
+    ("a device that is idle", 0, &[], TIME_OUT_DEVICE),
+    ("a device that is asked", ASKED, &[], TIME_OUT_DEVICE),
+    ("a session that is Idle", 0, &[], TIME_OUT_SESSION),
+    ("a session that is Done", WHOLE, &[], TIME_OUT_SESSION),
+    (
+        "a session that failed",
+        ASKED,
+        &[GIVE_UP_DOWN],
+        TIME_OUT_SESSION,
+    ),
+];
+
+/// The operator's calls.
+const CALLS: [Row<'static>; 15] = [
+    ("in Query", 1, &[], START),
+    ("in Download", DOWNLOAD, &[], START),
+    ("in AllApplied", ALL_APPLIED, &[], START),
+    ("in Activate", ACTIVATING, &[], START),
+    ("in Cancelling", ASKED, &[CANCEL], START),
+    ("package 0", 0, &[], MessageStep::Start(DEVICE, 0)),
+    ("package 2 of 1", 0, &[], MessageStep::Start(DEVICE, 2)),
+    (
+        "package 0 behind an update",
+        WHOLE,
+        &[],
+        MessageStep::Start(DEVICE, 0),
+    ),
+    ("in Idle", 0, &[], ACTIVATE),
+    ("in Query", 1, &[], ACTIVATE),
+    ("in Download", DOWNLOAD, &[], ACTIVATE),
+    ("in Apply", APPLIED, &[], ACTIVATE),
+    ("in Activate", ACTIVATING, &[], ACTIVATE),
+    ("in Done", WHOLE, &[], ACTIVATE),
+    ("in Cancelling", ALL_APPLIED, &[CANCEL], ACTIVATE),
+];
+
+/// What a replay answers that goes on behind a step, and whether the world is then the one before that step.
+fn refused(
+    alloc: Global,
+    packages: &[Package],
+    row: Row<'_>,
+) -> Result<(usize, Result<(), (usize, MessageStepFault)>, bool), Fail> {
+    let (_, count, then, step) = row;
+    let mut steps = worked_then(alloc, count, then)?;
+    let number = steps.len();
+    let mut before = world(alloc, packages, &[DEVICE])?;
+    let taken = message_replay(&mut before, &steps).is_ok();
+    let mut after = world(alloc, packages, &[DEVICE])?;
+    steps.extend_from_slice(&[step, CANCEL, START])?;
+    let answer = message_replay(&mut after, &steps);
+    let unchanged = seen(alloc, &after, DEVICE)? == seen(alloc, &before, DEVICE)?;
+    Ok((number, answer, taken && unchanged))
+}
+
+#[test]
+fn steps_out_of_time_leave_the_world(rt: HostRuntime) -> Result<(), Fail> {
+    let packages = [package(rt.alloc(), ONE)?];
+    for rows in [ASKS.as_slice(), &TAKES, &LEARNS, &ENDS] {
+        for row in rows {
+            let (number, answer, unchanged) = refused(rt.alloc(), &packages, *row)?;
+            let fault = (number, MessageStepFault::NotNow);
+            assert_eq!(rt; answer, Err(fault), "{row:?}");
+            assert!(rt; unchanged, "{row:?}");
+        }
+    }
+    Ok(())
+}
+
+#[test]
+fn refused_calls_leave_the_world(rt: HostRuntime) -> Result<(), Fail> {
+    let packages = [package(rt.alloc(), ONE)?];
+    for row in &CALLS {
+        let (number, answer, unchanged) = refused(rt.alloc(), &packages, *row)?;
+        let fault = (number, MessageStepFault::Refused);
+        assert_eq!(rt; answer, Err(fault), "{row:?}");
+        assert!(rt; unchanged, "{row:?}");
+    }
+    Ok(())
+}
+
+#[test]
+fn verdicts_that_nobody_awaits_leave_the_world(rt: HostRuntime) -> Result<(), Fail> {
+    let packages = [package(rt.alloc(), ONE)?];
+    // of the four verdicts, those that are awaited behind so many of the worked steps
+    let rows: [(usize, &[Verdict]); 8] = [
+        (0, &[]),
+        (DOWNLOAD, &[]),
+        (VERIFY, &[Verdict::VerifyOk, Verdict::VerifyFail]),
+        (VERIFIED, &[]),
+        (APPLY, &[Verdict::ApplyOk, Verdict::ApplyFail]),
+        (APPLIED, &[]),
+        (ALL_APPLIED, &[]),
+        (WHOLE, &[]),
+    ];
+    for (count, awaited) in rows {
+        for verdict in VERDICTS {
+            let step = MessageStep::Verdict(DEVICE, verdict);
+            let (number, answer, unchanged) = refused(
+                rt.alloc(),
+                &packages,
+                ("", count, &[], step),
+            )?;
+            if awaited.contains(&verdict) {
+                assert!(rt; answer != Err((number, MessageStepFault::Refused)) && !unchanged);
+            } else {
+                let fault = (number, MessageStepFault::Refused);
+                assert_eq!(rt; answer, Err(fault), "{verdict:?} behind {count}");
+                assert!(rt; unchanged, "{verdict:?} behind {count}");
+            }
+        }
+    }
+    Ok(())
+}
+
+/// Steps of each kind of a device.
+fn of_device(eid: u8) -> [MessageStep; 18] {
+    [
+        MessageStep::Ask(eid, Way::Down),
+        MessageStep::Ask(eid, Way::Up),
+        MessageStep::Take(eid, Way::Down, true),
+        MessageStep::Take(eid, Way::Down, false),
+        MessageStep::Take(eid, Way::Up, true),
+        MessageStep::Learn(eid, Way::Down),
+        MessageStep::Learn(eid, Way::Up),
+        MessageStep::GiveUp(eid, Way::Down),
+        MessageStep::GiveUp(eid, Way::Up),
+        MessageStep::Drop(eid, Way::Down),
+        MessageStep::Drop(eid, Way::Up),
+        MessageStep::Start(eid, 0),
+        MessageStep::Start(eid, 1),
+        MessageStep::Cancel(eid),
+        MessageStep::Activate(eid),
+        MessageStep::Verdict(eid, Verdict::ApplyOk),
+        MessageStep::TimeOut(eid, Side::Agent),
+        MessageStep::TimeOut(eid, Side::Device),
+    ]
+}
+
+#[test]
+fn a_step_of_no_device_is_known_before_all_else(rt: HostRuntime) -> Result<(), Fail> {
+    let packages = [package(rt.alloc(), ONE)?];
+    for count in [0, ASKED, DATA_ASKED] {
+        for eid in [NOBODY, AGENT] {
+            for step in of_device(eid) {
+                let row = ("", count, [].as_slice(), step);
+                let (number, answer, unchanged) = refused(rt.alloc(), &packages, row)?;
+                let fault = (number, MessageStepFault::NoSuchNode);
+                assert_eq!(rt; answer, Err(fault), "{step:?} behind {count}");
+                assert!(rt; unchanged, "{step:?} behind {count}");
+            }
+        }
+        let row = ("", count, [].as_slice(), MessageStep::Restart(NOBODY));
+        let (number, answer, unchanged) = refused(rt.alloc(), &packages, row)?;
+        assert_eq!(rt; answer, Err((number, MessageStepFault::NoSuchNode)));
+        assert!(rt; unchanged);
+    }
+    let mut world = world(rt.alloc(), &packages, &[])?;
+    assert_eq!(rt; message_replay(&mut world, &[RESTART_AGENT]), Ok(()));
+    assert_eq!(rt;
+        message_replay(&mut world, &[START]),
+        Err((0, MessageStepFault::NoSuchNode))
+    );
+    Ok(())
+}
