@@ -4,6 +4,7 @@ mod Closings
 mod Components
 mod Finding
 mod Noting
+mod Openings
 mod Places
 mod Records
 mod Rising
