@@ -1,5 +1,5 @@
 -- What a step makes of a lane, and when it may be taken.
-use Rattle.std.specs.Prelude.{◌≡◌, ◌⊎◌, ◌≤◌, ℕ, ◌+◌, ◌-◌, ◌^◌, ◌==◌, ◌&&◌, nat_lt, if◌then◌else◌, Bool, false, List, [], ◌∷◌, ◌++◌, length, map, Option, Some, None, is_some}
+use Rattle.std.specs.Prelude.{◌≡◌, ◌⊎◌, ◌≤◌, ℕ, ◌+◌, ◌-◌, ◌^◌, ◌==◌, ◌&&◌, nat_lt, if◌then◌else◌, Bool, false, true, List, [], ◌∷◌, ◌++◌, length, map, Option, Some, None, is_some}
 use Rattle.mctp_reasm.specs.Held.{Held}
 use Rattle.mctp_reasm.specs.Pieces.{MessageOf, pieces, spelled}
 use Rattle.pldm_base.specs.Header.{pldm_bytes}
@@ -154,9 +154,17 @@ may_step w (StepOf.Deliver number end reply) = may_deliver w.now (numbered w.pac
 may_step w (StepOf.Tick asker taker) = if nat_lt w.now (2 ^ 32 - 1) then None else Some faults.NotNow
 may_step w (StepOf.Restart end) = None
 
+-- a step that may add packets or an entry needs memory for them; to give a request up and to start anew needs none
+abbrev pub needs_memory : StepOf → Bool
+needs_memory (StepOf.Begin command body) = true
+needs_memory StepOf.Abandon = false
+needs_memory (StepOf.Deliver number end reply) = true
+needs_memory (StepOf.Tick asker taker) = true
+needs_memory (StepOf.Restart end) = false
+
 -- Why a step isn't taken: it may not be, for this reason; or it may, and there is no memory for what it adds.
 abbrev pub IsCause : LaneOf → StepOf → LaneFault → Type 0
-IsCause w s e = (may_step w s ≡ Some e) ⊎ ((e ≡ faults.Memory) × (may_step w s ≡ None))
+IsCause w s e = (may_step w s ≡ Some e) ⊎ ((e ≡ faults.Memory) × (needs_memory s ≡ true) × (may_step w s ≡ None))
 
 -- request data and a reply with its code have at most 252 bytes, so that their messages have at most 256 (DSP0240's
 -- header of four bytes stands before them)

@@ -40,7 +40,7 @@ pub enum LaneFault {
     /// The packet was sent more than 8 units of time ago.
     #[error("Dead")]
     Dead,
-    /// There is no memory for what the step adds.
+    /// There is no memory for what the step adds. Abandon and Restart add nothing, and never fail so.
     #[error("Memory")]
     Memory,
 }

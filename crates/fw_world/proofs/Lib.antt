@@ -1,4 +1,5 @@
 mod Activating
+mod Allowing
 mod Applied
 mod Closings
 mod Components

@@ -1,10 +1,11 @@
 -- A step of the device that stands at a place.
 use Rattle.std.proofs.Common.{◌≡◌, ◌∷◌, ◌++◌, ◌+◌, ◌-◌, ◌==◌, ◌≤◌, ℕ, zero, suc, Bool, true, false, if◌then◌else◌, List, [], Option, Some, None, ap, arith, map, refl, set, sym, inl, inr}
-use Rattle.std.specs.Prelude.{IsSome, option_map, slice_get}
+use Rattle.std.specs.Prelude.{is_some, option_map, slice_get}
 use Rattle.std.proofs.lemmas.Bool.Decides.{eqb_tells}
 use Rattle.fw_world.specs.Pairs.{PairOf, StepOf, Stepped, pair_after}
 use Rattle.fw_world.specs.Replays.{place_at, place_from}
 use Rattle.fw_world.specs.Worlds.{NodeOf, NotedOf, PairNoted, WorldOf, WorldStepOf, node_at, noted_of, noted_on, went_on, with_pair, world_after}
+use Rattle.fw_world.proofs.Allowing.{some_map}
 
 -- the first device of this identifier stands at this place
 abbrev pub IsAt : List NodeOf → ℕ → ℕ → Type 0
@@ -98,11 +99,7 @@ pub world_refuses : (w : WorldOf) (eid place : ℕ) (s : StepOf) (n : NodeOf) �
 unfolding world_after
 world_refuses w eid place s n at found e = rw (at_node w.nodes eid place n at found, e) refl
 
-pub world_allows : (w : WorldOf) (eid place : ℕ) (s : StepOf) (n : NodeOf) → IsAt w.nodes eid place → slice_get w.nodes place ≡ Some n → IsSome (pair_after w.packages n.pair s)
-    → IsSome (world_after w (WorldStepOf.OfPair eid s))
+pub world_allows : (w : WorldOf) (eid place : ℕ) (s : StepOf) (n : NodeOf) → IsAt w.nodes eid place → slice_get w.nodes place ≡ Some n → is_some (pair_after w.packages n.pair s) ≡ true
+    → is_some (world_after w (WorldStepOf.OfPair eid s)) ≡ true
 unfolding world_after
-world_allows w eid place s n at found h = rw (at_node w.nodes eid place n at found) (by_step (pair_after w.packages n.pair s) h)
-  where
-    by_step : (o : Option Stepped) → IsSome o → IsSome (option_map (went_on w eid) o)
-    by_step None h = absurd (cc)
-    by_step (Some t) h = refl
+world_allows w eid place s n at found e = rw (at_node w.nodes eid place n at found) (some_map (went_on w eid) (pair_after w.packages n.pair s) e)

@@ -6,7 +6,7 @@ use Rattle.fw_package.specs.Package.{PackageText}
 use Rattle.fw_world.specs.Nodes.{CountedOf, Rose}
 use Rattle.fw_world.specs.Pairs.{pair_after}
 use Rattle.fw_world.specs.Replays.{BankFailed, HasNode, Refuses, counted_restarted, place_at}
-use Rattle.fw_world.specs.Worlds.{IsCauseOf, NodeOf, NotedOf, WorldOf, agent_restarted, device_of, named_step, node_at, noted_on, pair_step, refusal_of, restarts_agent, world_after}
+use Rattle.fw_world.specs.Worlds.{IsRefusal, NodeOf, NotedOf, WorldOf, agent_restarted, device_of, named_step, node_at, noted_on, pair_step, refusal_of, restarts_agent, world_after}
 use Rattle.fw_world.specs.declared.step.MessageStep.{MessageStep}
 use Rattle.fw_world.specs.declared.step.MessageStep.TheVariants as steps
 use Rattle.fw_world.specs.declared.step.MessageStepFault.{MessageStepFault}
@@ -59,15 +59,14 @@ refused_as w s has none =
 -- a step that the device at a place doesn't take
 pub device_refuses : (w : WorldOf) (pairs : List CountedOf) (p : CountedOf) (place : ℕ) (s : MessageStep) (e : MessageStepFault)
     → w.nodes ≡ map node_in pairs → restarts_agent w.agent s ≡ false → place_at w.nodes (device_of s) ≡ Some place → slice_get pairs place ≡ Some p
-    → IsCauseOf e (refusal_of s) (λ works. pair_after w.packages p.node.pair (pair_step works s))
-    → Refuses w s e
+    → IsRefusal s e (λ works. pair_after w.packages p.node.pair (pair_step works s)) → Refuses w s e
 device_refuses w pairs p place s e nodes is at found h =
     let at' : IsAt w.nodes (device_of s) place = is_at w.nodes (device_of s) place at in
     let here : slice_get w.nodes place ≡ Some p.node = rw nodes (get_map pairs place p found) in
     let node : node_at w.nodes (device_of s) ≡ Some p.node = at_node w.nodes (device_of s) place p.node at' here in
     let has : HasNode w s = rw (is, node) refl in
     elim h [
-      | inl memory ↦ rw memory.0 (has, rw is (world_allows w (device_of s) place (pair_step true s) p.node at' here memory.1))
+      | inl r ↦ rw r.0 (r.1, has, λ works. rw is (world_allows w (device_of s) place (pair_step works s) p.node at' here (r.2 works)))
       | inr r ↦ rw r.0 (refused_as w s has (λ works. rw is (world_refuses w (device_of s) place (pair_step works s) p.node at' here (r.1 works))))
     ]
 

@@ -1,8 +1,8 @@
 -- Replays: steps of a world, one after another.
-use Rattle.std.specs.Prelude.{ℕ, ◌≡◌, ◌==◌, ◌+◌, ◌||◌, is_some, Bool, true, false, if◌then◌else◌, List, [], ◌∷◌, get_or, Option, Some, None, IfSome, IsSome}
+use Rattle.std.specs.Prelude.{ℕ, ◌≡◌, ◌==◌, ◌+◌, ◌||◌, is_some, Bool, true, false, if◌then◌else◌, List, [], ◌∷◌, get_or, Option, Some, None, IfSome}
 use Rattle.fw_package.specs.Package.{PackageText}
 use Rattle.fw_world.specs.Nodes.{CountedOf, Rose}
-use Rattle.fw_world.specs.Worlds.{NodeOf, WorldOf, agent_restarted, device_of, named_step, node_at, refusal_of, restarts_agent, world_after}
+use Rattle.fw_world.specs.Worlds.{NodeOf, WorldOf, agent_restarted, device_of, named_step, needs_memory, node_at, refusal_of, restarts_agent, world_after}
 use Rattle.fw_world.specs.declared.step.MessageStep.{MessageStep}
 use Rattle.fw_world.specs.declared.step.MessageStepFault.{MessageStepFault}
 use Rattle.fw_world.specs.declared.step.MessageStepFault.TheVariants as faults
@@ -44,8 +44,9 @@ abbrev pub HasNode : WorldOf → MessageStep → Type 0
 HasNode w s = (restarts_agent w.agent s || is_some (node_at w.nodes (device_of s))) ≡ true
 
 -- Why a step isn't taken: there is no such node; or there is and the step isn't allowed, whether the bank works or not; or
--- it is allowed and memory was refused.
+-- it is allowed, and memory that it needs is refused.
 abbrev pub Refuses : WorldOf → MessageStep → MessageStepFault → Type 0
 Refuses w s faults.NoSuchNode = (restarts_agent w.agent s ≡ false) × (node_at w.nodes (device_of s) ≡ None)
-Refuses w s faults.Memory = HasNode w s × IsSome (world_after w (named_step w.agent true s))
+Refuses w s faults.Memory =
+    (needs_memory s ≡ true) × HasNode w s × ((works : Bool) → is_some (world_after w (named_step w.agent works s)) ≡ true)
 Refuses w s fault = (fault ≡ refusal_of s) × HasNode w s × ((works : Bool) → world_after w (named_step w.agent works s) ≡ None)

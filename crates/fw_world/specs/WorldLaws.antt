@@ -1,5 +1,8 @@
 -- What is promised of every run of messages between an agent and its devices.
-use Rattle.std.specs.Prelude.{ℕ, ◌≡◌, ◌==◌, if◌then◌else◌, List, [], ◌∷◌, All, Some, IfSome, IsSomeAnd}
+use Rattle.std.specs.Prelude.{ℕ, ◌≡◌, ◌==◌, if◌then◌else◌, List, [], ◌∷◌, All, None, Some, IfSome, IsSomeAnd}
+use Rattle.fd_core.specs.States.{DeviceState}
+use Rattle.fd_core.specs.Steps.{device_restart}
+use Rattle.ua_core.specs.Calls.{new_session}
 use Rattle.fw_world.specs.History.{EntryOf}
 use Rattle.fw_world.specs.Laws.{IsOpening, IsSafeAndTied}
 use Rattle.fw_world.specs.Pairs.{PairRun}
@@ -21,6 +24,14 @@ IsOpeningNode n = IsOpening (run_of n [])
 pub record IsOpeningWorld (w : WorldOf) : Type 0 where
   pub nodes : All IsOpeningNode w.nodes
   pub history : w.history ≡ []
+
+-- a device that starts now, with a new session and nothing asked
+abbrev pub new_node : ℕ → DeviceState → NodeOf
+new_node eid device =
+    record {
+      eid = eid;
+      pair = record { device = device_restart device; session = new_session.session; down = None; up = None };
+    }
 
 -- each device that was there is there, and its history is safe, and tied with the images that ran on it first
 abbrev pub IsSafeWorld : WorldOf → WorldOf → Type 0

@@ -1,5 +1,5 @@
 -- The world over whole messages: an agent, its packages, its devices with their sessions, and what happened.
-use Rattle.std.specs.Prelude.{◌≡◌, ◌⊎◌, ℕ, ◌==◌, Bool, true, false, if◌then◌else◌, List, [], ◌∷◌, ◌++◌, map, Option, Some, None, IsSome}
+use Rattle.std.specs.Prelude.{ℕ, ◌≡◌, ◌⊎◌, ◌==◌, Bool, true, false, if◌then◌else◌, is_some, List, [], ◌∷◌, ◌++◌, map, Option, Some, None}
 use Rattle.std.specs.Option.{option_map}
 use Rattle.fw_package.specs.Package.{PackageText}
 use Rattle.fw_world.specs.History.{EntryOf}
@@ -134,7 +134,16 @@ refusal_of (steps.Activate device) = faults.Refused
 refusal_of (steps.Verdict device verdict) = faults.Refused
 refusal_of s = faults.NotNow
 
--- Why a step isn't taken, by what it leaves with a bank that works and with one that doesn't: memory was refused, and it
--- may be taken; or this refusal, and it may not.
-abbrev pub IsCauseOf : (e refusal : MessageStepFault) → (Bool → Option Stepped) → Type 0
-IsCauseOf e refusal taken = ((e ≡ faults.Memory) × IsSome (taken true)) ⊎ ((e ≡ refusal) × ((works : Bool) → taken works ≡ None))
+-- a step that may add to the history or to the records of a session needs memory for that
+abbrev pub needs_memory : MessageStep → Bool
+needs_memory (steps.Take device way quiet) = true
+needs_memory (steps.Start device number) = true
+needs_memory (steps.Verdict device verdict) = true
+needs_memory s = false
+
+-- Why a device's step isn't taken, by what it makes of the pair: it isn't allowed, whether the bank works or not; or it is,
+-- and memory that it needs is refused.
+abbrev pub IsRefusal : MessageStep → MessageStepFault → (Bool → Option Stepped) → Type 0
+IsRefusal s e after =
+    ((e ≡ faults.Memory) × (needs_memory s ≡ true) × ((works : Bool) → is_some (after works) ≡ true))
+    ⊎ ((e ≡ refusal_of s) × ((works : Bool) → after works ≡ None))

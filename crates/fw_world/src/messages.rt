@@ -1,12 +1,10 @@
 //! The world over whole messages: one cell a way, no tags and no time.
 
 ghost use Rattle.std.specs.Prelude.{[], ◌≡◌, ◌≤◌, ◌<◌, ◌++◌, ◌∷◌, Err, IfErr, IfOk, IfSome, None, OnErr, OnOk, Ok, Some, false, get_or, length, map, option_map, slice_set};
-ghost use Rattle.fd_core.specs.Steps.{device_restart};
-ghost use Rattle.ua_core.specs.Calls.{new_session};
 ghost use Rattle.fw_world.specs.Entries.{entry_of};
 ghost use Rattle.fw_world.specs.Nodes.{HasComponents, cell_in};
 ghost use Rattle.fw_world.specs.Replays.{BankFailed, Refuses, counted_restarted, place_at};
-ghost use Rattle.fw_world.specs.WorldLaws.{IsOpeningWorld};
+ghost use Rattle.fw_world.specs.WorldLaws.{IsOpeningWorld, new_node};
 ghost use Rattle.fw_world.specs.Worlds.{device_of, named_step, node_at, world_after};
 
 use crate::cell::Held;
@@ -51,11 +49,10 @@ impl<'a, B: Bank + Drop> Model for MessageWorld<'a, B> {
 impl<'a, B: Bank + Drop> MessageWorld<'a, B> {
     /// An agent with this endpoint identifier and these packages, numbered from 1 on, without devices. Later calls take
     /// their memory from `alloc`.
-    #[tactic(auto, using(crate::proofs::Openings::opening_alone))]
     pub fn new(alloc: Global, agent: u8, packages: &'a [Package]) -> MessageWorld<'a, B>
         ensures world { result.world ≡ record { agent = agent; packages = packages.now; nodes = []; history = [] } }
         ensures faults { result.faults ≡ [] }
-        ensures opening { IsOpeningWorld result.world }
+        ensures opens { IsOpeningWorld result.world }
     {
         MessageWorld {
             alloc,
@@ -70,16 +67,12 @@ impl<'a, B: Bank + Drop> MessageWorld<'a, B> {
     ///
     /// # Errors
     /// `Memory` where memory for it is refused. Nothing has changed then, and the device is gone.
-    #[tactic(auto, using(crate::proofs::Openings::opening_more))]
     pub fn add(&mut self, eid: u8, device: Device<B>) -> Result<(), MessageStepFault>
         requires device { HasComponents device.device }
         requires fresh { node_at self.old.world.nodes eid ≡ None }
-        ensures nodes { OnOk result (self.new.world ≡ record self.old.world {
-          nodes = self.old.world.nodes ++ record {
-            eid = eid;
-            pair = record { device = device_restart device.device; session = new_session.session; down = None; up = None };
-          } ∷ [];
-        }) }
+        ensures nodes { OnOk result (self.new.world ≡ record self.old.world { nodes = self.old.world.nodes ++ new_node eid device.device ∷ [] }) }
+        ensures faults { OnOk result (self.new.faults ≡ self.old.faults ++ device.faults ∷ []) }
+        ensures opens { OnOk result (IsOpeningWorld self.old.world → IsOpeningWorld self.new.world) }
         ensures same { OnErr result (self.new ≡ self.old) }
         ensures memory { IfErr result (λ e. e ≡ MessageStepFault.Memory) }
     {

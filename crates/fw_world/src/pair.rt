@@ -2,12 +2,11 @@
 
 ghost use Rattle.std.specs.Prelude.{◌≡◌, ◌≤◌, None, Some, false, if◌then◌else◌, not, option_map, true};
 ghost use Rattle.fd_core.specs.States.{DeviceOf};
-ghost use Rattle.fd_core.specs.Steps.{device_restart};
 ghost use Rattle.fwup_wire.specs.Lent.{command_of};
-ghost use Rattle.ua_core.specs.Calls.{new_session};
 ghost use Rattle.fw_world.specs.History.{package_at};
 ghost use Rattle.fw_world.specs.Nodes.{HasComponents, cell_of};
 ghost use Rattle.fw_world.specs.Pairs.{StepOf, down_wish, quietly, step_of, unwished_closed};
+ghost use Rattle.fw_world.specs.WorldLaws.{new_node};
 ghost use Rattle.fw_world.specs.declared.side.Way.TheVariants as ways;
 ghost use Rattle.fw_world.specs.declared.side.Side.TheVariants as sides;
 
@@ -57,10 +56,8 @@ impl<'a, B: Bank> Pair<'a, B> {
     #[tactic(auto, using(crate::proofs::Components::restart_components))]
     pub fn new(alloc: Global, eid: u8, device: Device<B>) -> Pair<'a, B>
         requires { HasComponents device.device }
-        ensures node { result.node ≡ record {
-          eid = eid;
-          pair = record { device = device_restart device.device; session = new_session.session; down = None; up = None };
-        } }
+        ensures node { result.node ≡ new_node eid device.device }
+        ensures faults { result.faults ≡ device.faults }
     {
         let mut device = device;
         device.restart();

@@ -1,9 +1,8 @@
 //! The operator's calls, verdicts, time-outs and restarts.
 
-ghost use Rattle.std.specs.Prelude.{◌≡◌, IfErr, None, OnErr, OnOk, Some, false, if◌then◌else◌};
+ghost use Rattle.std.specs.Prelude.{◌≡◌, ◌⊎◌, IfErr, None, OnErr, OnOk, Some, false, if◌then◌else◌, is_some, true};
 ghost use Rattle.fw_world.specs.Pairs.{StepOf, closed, quietly, step_of};
 ghost use Rattle.fw_world.specs.Replays.{counted_restarted};
-ghost use Rattle.fw_world.specs.Worlds.{IsCauseOf};
 ghost use Rattle.fw_world.specs.declared.side.Side.TheVariants as sides;
 
 use crate::cell::Held;
@@ -17,10 +16,11 @@ impl<'a, B: Bank> Pair<'a, B> {
     /// The operator starts an update with the package of this number.
     ///
     /// # Errors
-    /// `Refused` while an update is under way, or without such a package; `Memory` where memory for the records is refused.
+    /// `Refused` while an update is under way, or without such a package; else `Memory` where memory for the records is refused.
     pub fn start(&mut self, packages: &'a [Package], number: usize) -> Result<(), MessageStepFault>
         ensures step { OnOk result (step_of packages.now self.old.node.pair (StepOf.Start number) ≡ Some (quietly self.new.node.pair)) }
-        ensures refused { IfErr result (λ e. IsCauseOf e MessageStepFault.Refused (λ _. step_of packages.now self.old.node.pair (StepOf.Start number))) }
+        ensures refused { IfErr result (λ e. ((e ≡ MessageStepFault.Memory) × (is_some (step_of packages.now self.old.node.pair (StepOf.Start number)) ≡ true))
+            ⊎ ((e ≡ MessageStepFault.Refused) × (step_of packages.now self.old.node.pair (StepOf.Start number) ≡ None))) }
         ensures same { OnErr result (self.new ≡ self.old) }
         ensures eid { self.new.node.eid ≡ self.old.node.eid }
         ensures faults { self.new.faults ≡ self.old.faults }
