@@ -1,3 +1,4 @@
 mod Answering
 mod Parameters
+mod Refusals
 mod Rows

@@ -2,6 +2,7 @@ pub mod Banks
 pub mod Codes
 pub mod Commands
 pub mod Images
+pub mod Laws
 pub mod States
 pub mod Steps
 pub mod Views

@@ -27,10 +27,15 @@ abbrev pub get_endpoint_uuid : List ℕ → List ℕ → List ℕ
 get_endpoint_uuid uuid [] = success ∷ uuid
 get_endpoint_uuid uuid (_ ∷ _) = refused_with error_invalid_length
 
--- Get MCTP Version Support tells, for the base protocol (type 0xFF), one version: 1.3.1, spelt F1 F3 F1 00.
+-- version 1.3.1 in the version number encoding: major, minor and update, each one decimal digit after the digit F, and no
+-- letter
+abbrev pub base_version : List ℕ
+base_version = 0xF1 ∷ 0xF3 ∷ 0xF1 ∷ 0x00 ∷ []
+
+-- Get MCTP Version Support tells, for the base protocol (type 0xFF), one version: 1.3.1.
 abbrev pub get_mctp_version_support : List ℕ → List ℕ
 get_mctp_version_support (kind ∷ []) =
-    if kind == 0xFF then success ∷ 1 ∷ 0xF1 ∷ 0xF3 ∷ 0xF1 ∷ 0x00 ∷ [] else refused_with message_type_not_supported
+    if kind == 0xFF then success ∷ 1 ∷ base_version else refused_with message_type_not_supported
 get_mctp_version_support _ = refused_with error_invalid_length
 
 -- Get Message Type Support tells one type: PLDM, 0x01.

@@ -62,6 +62,10 @@ const NO_MEDIUM: u8 = 0x00;
 /// The message type that asks for the version of MCTP itself.
 const MCTP_BASE: u8 = 0xFF;
 
+/// Version 1.3.1 of the base protocol in DSP0236's version number encoding: major, minor and update, each one decimal digit
+/// after the digit F, and no letter.
+const BASE_VERSION: [u8; 4] = [0xF1, 0xF3, 0xF1, 0x00];
+
 /// The message type of PLDM, the one that an endpoint supports beside control messages.
 const PLDM: u8 = 0x01;
 
@@ -166,7 +170,7 @@ fn push_mctp_version(fields: &[u8], out: &mut ControlAnswer)
     }
     out.push(SUCCESS);
     out.push(1);
-    let _ = out.try_extend_from_slice(&[0xF1, 0xF3, 0xF1, 0x00]);
+    let _ = out.try_extend_from_slice(&BASE_VERSION);
 }
 
 /// Get Message Type Support: PLDM, beside control messages, which are never listed.

@@ -3,4 +3,5 @@ pub mod Padding
 pub mod Known
 pub mod Lawful
 pub mod InPlan
+mod Refusals
 pub mod Windows

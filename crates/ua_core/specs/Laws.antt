@@ -6,7 +6,7 @@ use Rattle.fwup_wire.specs.Values.{AnswerOf, CommandOf, DescriptorOf}
 use Rattle.fwup_wire.specs.declared.answer.Malformed.{Malformed}
 use Rattle.ua_core.specs.Learn.{agent_learn}
 use Rattle.ua_core.specs.Lent.{key_of, told_descriptor}
-use Rattle.ua_core.specs.Serve.{agent_after, recorded_by, window}
+use Rattle.ua_core.specs.Serve.{agent_after, agent_answer, agent_idle, recorded_by, window}
 use Rattle.ua_core.specs.Session.{JobOf, SessionOf, Stage, TaskOf}
 use Rattle.ua_core.specs.Wish.{agent_wish}
 use Rattle.ua_core.specs.declared.planned.Planned.{Planned}
@@ -94,6 +94,23 @@ LearnsNoRecord = (p : PackageText) (s : SessionOf) (a : Result AnswerOf Malforme
 -- while the session wishes a command, the device's commands leave it as it is
 abbrev pub WishStands : Type 0
 WishStands = (p : PackageText) (s : SessionOf) (c : CommandOf) → IsSome (agent_wish p s) → agent_after p s c ≡ s
+
+-- a command that is answered by a code alone, with which the session refuses it
+abbrev pub IsRefused : PackageText → SessionOf → CommandOf → ℕ → Type 0
+IsRefused p s c code = agent_answer p s c ≡ AnswerOf.Refused code
+
+-- a command that is refused leaves the session as it is
+abbrev pub RefusalsKeepTheSession : Type 0
+RefusalsKeepTheSession = (p : PackageText) (s : SessionOf) (c : CommandOf) (code : ℕ) → IsRefused p s c code → agent_after p s c ≡ s
+
+-- it records nothing
+abbrev pub RefusalsRecordNothing : Type 0
+RefusalsRecordNothing = (p : PackageText) (s : SessionOf) (c : CommandOf) (code : ℕ) → IsRefused p s c code → recorded_by p s c ≡ []
+
+-- and the ticks for which nothing moved go on
+abbrev pub RefusalsStirNothing : Type 0
+RefusalsStirNothing = (p : PackageText) (s : SessionOf) (idle : ℕ) (c : CommandOf) (code : ℕ) → IsRefused p s c code
+    → agent_idle p s idle c ≡ idle
 
 -- pieces put behind each other continue the image: what stands past its end is cut off
 abbrev pub WindowContinues : Type 0

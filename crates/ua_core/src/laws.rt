@@ -1,6 +1,6 @@
 //! What holds of every session, whatever the device says.
 
-ghost use Rattle.ua_core.specs.Laws.{ChoosesRecord, LearnsInPlan, LearnsNoRecord, LooseRecordsNothing, PlansKeysOnce, RecordsGrow, RecordsInApply, ServesInPlan, WindowContinues, WishStands};
+ghost use Rattle.ua_core.specs.Laws.{ChoosesRecord, LearnsInPlan, LearnsNoRecord, LooseRecordsNothing, PlansKeysOnce, RecordsGrow, RecordsInApply, RefusalsKeepTheSession, RefusalsRecordNothing, RefusalsStirNothing, ServesInPlan, WindowContinues, WishStands};
 
 /// The records grow only where the device applied the component at hand, by that component; no answer adds one, and no command
 /// that leads to Idle, Query, Done, Cancelling or Failed.
@@ -14,6 +14,13 @@ pub fn records_what_is_applied()
 /// While a session wishes a command, the device's commands leave it as it is, and so its wish.
 pub fn wish_stands()
     ensures { WishStands }
+{}
+
+/// A command that a session refuses leaves it as it is: nothing is recorded, and the ticks for which nothing moved go on.
+pub fn refusals_change_nothing()
+    ensures kept { RefusalsKeepTheSession }
+    ensures recorded { RefusalsRecordNothing }
+    ensures idle { RefusalsStirNothing }
 {}
 
 /// The components at hand and to do are those that the package plans for the device, whose keys are different.

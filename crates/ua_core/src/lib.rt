@@ -18,7 +18,9 @@ mod tests;
 
 pub use fault::{NotReady, StartFault};
 pub use happening::{Happening, happened};
-pub use laws::{pieces_continue, records_what_is_applied, stays_in_plan, wish_stands};
+pub use laws::{
+    pieces_continue, records_what_is_applied, refusals_change_nothing, stays_in_plan, wish_stands,
+};
 pub use lent::Lent;
 pub use mark::Mark;
 pub use planned::Recorded;

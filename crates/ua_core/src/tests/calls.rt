@@ -1,7 +1,7 @@
 //! The user's calls, time and restarts.
 
 use crate::tests::packages::package;
-use crate::tests::situations::{ONE, session_after};
+use crate::tests::situations::{ONE, go_on, session_after};
 use crate::{Cause, Happening, Lent, Mark, NotReady, Session, SessionState, StartFault, happened};
 use std::alloc::Global;
 use std::test::Fail;
@@ -251,4 +251,36 @@ fn causes_are_numbered_from_1(rt: HostRuntime) {
     assert_eq!(rt; Cause::Silent.number(), 1);
     assert_eq!(rt; Cause::NothingToUpdate.number(), 5);
     assert_eq!(rt; Cause::Apply.number(), 10);
+}
+
+/// Holds whichever single allocation is refused: the first start takes memory for its records, and the second beside those
+/// that stand.
+#[test]
+fn refused_memory_starts_nothing(rt: HostRuntime) -> Result<(), Fail> {
+    let worked = match package(rt.alloc(), ONE) {
+        Ok(worked) => worked,
+        Err(_) => package(rt.alloc(), ONE)?,
+    };
+    let lent = Lent::some(&worked);
+    let mut session = Session::new(rt.alloc());
+    for number in 1..4usize {
+        let before = (session.mark(), session.package());
+        if let Err(fault) = session.start(number) {
+            assert_eq!(rt; fault, StartFault::Memory);
+            assert_eq!(rt; (session.mark(), session.package()), before);
+            assert_eq!(rt; session.start(number), Ok(()));
+        }
+        assert_eq!(rt; session.state(), SessionState::Query);
+        assert_eq!(rt; session.package(), number);
+        for _ in 0..11 {
+            go_on(&mut session, &lent);
+        }
+        assert_eq!(rt; session.state(), SessionState::Done);
+        assert_eq!(rt; session.records().len(), number);
+        assert_eq!(rt;
+            session.records().last().map(|made| made.package),
+            Some(number)
+        );
+    }
+    Ok(())
 }

@@ -1,0 +1,373 @@
+//! Packages read, and refused.
+
+use super::drafts::{
+    COMPONENT_1, Draft, File, WORKED_HEADER, file, sign, worked, worked_rest, write,
+};
+use crate::{Package, PackageFault};
+use std::alloc::Global;
+use std::test::Fail;
+
+/// The name of what reading these bytes gives.
+fn answer(alloc: Global, bytes: &[u8]) -> Option<PackageFault> {
+    match Package::read(alloc, bytes) {
+        Ok(_) => None,
+        Err(fault) => Some(fault),
+    }
+}
+
+#[test]
+fn reads_the_worked_package(rt: HostRuntime) -> Result<(), Fail> {
+    let file = worked();
+    assert_eq!(rt; file.len(), 439);
+    let package = Package::read(rt.alloc(), file.as_slice())?;
+    assert_eq!(rt; package.header_size(), WORKED_HEADER);
+    assert_eq!(rt; package.record_count(), 2);
+    assert_eq!(rt; package.component_count(), 2);
+    assert_eq!(rt; package.flags(1), 0);
+    assert_eq!(rt; package.set_text(0).kind, 1);
+    assert_eq!(rt; package.set_text(0).bytes, b"A".as_slice());
+    assert_eq!(rt; package.set_text(1).bytes, b"B".as_slice());
+    assert_eq!(rt; package.descriptor_count(1), 1);
+    assert_eq!(rt; package.use_count(0), 2);
+    assert_eq!(rt; package.use_count(1), 1);
+    assert_eq!(rt; package.classification(1), 10);
+    assert_eq!(rt; package.identifier(1), 2);
+    assert_eq!(rt; package.stamp(0), u32::MAX);
+    assert_eq!(rt; package.stamp(1), 7);
+    assert_eq!(rt; package.options(1), 2);
+    assert_eq!(rt; package.offset(1), 134);
+    assert_eq!(rt; package.size(0), 0);
+    assert_eq!(rt; package.size(1), 300);
+    assert_eq!(rt; package.text(1).kind, 1);
+    assert_eq!(rt; package.text(1).bytes, b"v2".as_slice());
+    assert!(rt; package.image(0).is_empty());
+    assert_eq!(rt; Some(package.image(1)), worked_rest().get(..300));
+    Ok(())
+}
+
+#[test]
+fn lends_descriptors_and_uses(rt: HostRuntime) -> Result<(), Fail> {
+    let package = Package::read(rt.alloc(), worked().as_slice())?;
+    assert!(rt; package.record_count() == 2);
+    assert!(rt; package.descriptor_count(1) == 1);
+    let descriptor = package.descriptor(1, 0);
+    assert_eq!(rt; descriptor.kind, 1);
+    assert_eq!(rt; descriptor.bytes, [0x78, 0x56, 0x34, 0x12].as_slice());
+    assert!(rt; package.use_count(0) == 2);
+    assert_eq!(rt; package.use_at(0, 0), 0);
+    assert_eq!(rt; package.use_at(0, 1), 1);
+    Ok(())
+}
+
+/// The worked package with these bytes changed, signed anew or not, and cut.
+fn changed(edits: &[(usize, u8)], signed: bool, length: usize) -> File {
+    let mut file = worked();
+    for (place, byte) in edits {
+        write(&mut file, *place, &[*byte]);
+    }
+    if signed {
+        sign(&mut file, WORKED_HEADER);
+    }
+    file.truncate(length);
+    file
+}
+
+#[test]
+fn names_each_fault(rt: HostRuntime) {
+    let table: [(&str, &[(usize, u8)], usize, PackageFault); 24] = [
+        ("no bytes", &[], 0, PackageFault::Short),
+        ("35 bytes", &[], 35, PackageFault::Short),
+        (
+            "another identifier",
+            &[(0, 0xF1)],
+            439,
+            PackageFault::Identifier,
+        ),
+        (
+            "its last byte",
+            &[(15, 0x03)],
+            439,
+            PackageFault::Identifier,
+        ),
+        ("revision 2", &[(16, 2)], 439, PackageFault::Revision),
+        ("cut to 36 bytes", &[], 36, PackageFault::HeaderSize),
+        ("cut to 100 bytes", &[], 100, PackageFault::HeaderSize),
+        ("cut to 133 bytes", &[], 133, PackageFault::HeaderSize),
+        (
+            "a header one byte shorter",
+            &[(17, 133)],
+            439,
+            PackageFault::HeaderSize,
+        ),
+        (
+            "a header one byte longer",
+            &[(17, 135)],
+            439,
+            PackageFault::HeaderSize,
+        ),
+        (
+            "a header of 35 bytes",
+            &[(17, 35)],
+            439,
+            PackageFault::HeaderSize,
+        ),
+        (
+            "a longer package text",
+            &[(35, 4)],
+            439,
+            PackageFault::HeaderSize,
+        ),
+        ("a third record", &[(39, 3)], 439, PackageFault::HeaderSize),
+        ("one component", &[(80, 1)], 439, PackageFault::HeaderSize),
+        (
+            "a longer component text",
+            &[(127, 3)],
+            439,
+            PackageFault::HeaderSize,
+        ),
+        (
+            "a bitmap of no bits",
+            &[(32, 0)],
+            439,
+            PackageFault::BitmapLength,
+        ),
+        (
+            "a bitmap of 12 bits",
+            &[(32, 12)],
+            439,
+            PackageFault::BitmapLength,
+        ),
+        (
+            "a bitmap of 16 bits in records that have 8",
+            &[(32, 16)],
+            439,
+            PackageFault::RecordLength,
+        ),
+        (
+            "package data that isn't there",
+            &[(49, 1)],
+            439,
+            PackageFault::RecordLength,
+        ),
+        (
+            "a shorter descriptor",
+            &[(55, 1)],
+            439,
+            PackageFault::RecordLength,
+        ),
+        (
+            "a second descriptor that isn't there",
+            &[(42, 2)],
+            439,
+            PackageFault::RecordLength,
+        ),
+        ("cut to 433 bytes", &[], 433, PackageFault::ImageRange),
+        (
+            "an image of 306 bytes",
+            &[(122, 0x32)],
+            439,
+            PackageFault::ImageRange,
+        ),
+        (
+            "an offset past all files",
+            &[(97, 0xFF), (96, 0xFF), (95, 0xFF), (94, 0xFF)],
+            439,
+            PackageFault::ImageRange,
+        ),
+    ];
+    for (situation, edits, length, fault) in table {
+        let file = changed(edits, true, length);
+        assert_eq!(rt;
+            answer(rt.alloc(), file.as_slice()),
+            Some(fault),
+            "{situation}"
+        );
+    }
+}
+
+#[test]
+fn names_the_earlier_of_two_faults(rt: HostRuntime) {
+    let table: [(&str, &[(usize, u8)], usize, PackageFault); 7] = [
+        (
+            "short, another identifier",
+            &[(0, 0)],
+            20,
+            PackageFault::Short,
+        ),
+        (
+            "another identifier, revision 9",
+            &[(0, 0), (16, 9)],
+            439,
+            PackageFault::Identifier,
+        ),
+        (
+            "revision 9, a header of no bytes",
+            &[(16, 9), (17, 0)],
+            439,
+            PackageFault::Revision,
+        ),
+        (
+            "a header of no bytes, a bitmap of no bits",
+            &[(17, 0), (32, 0)],
+            439,
+            PackageFault::HeaderSize,
+        ),
+        (
+            "a bitmap of no bits, package data that isn't there",
+            &[(32, 0), (49, 1)],
+            439,
+            PackageFault::BitmapLength,
+        ),
+        (
+            "package data that isn't there, another checksum",
+            &[(49, 1)],
+            439,
+            PackageFault::RecordLength,
+        ),
+        (
+            "another checksum, an image of 306 bytes",
+            &[(122, 0x32)],
+            439,
+            PackageFault::Checksum,
+        ),
+    ];
+    for (situation, edits, length, fault) in table {
+        let file = changed(edits, false, length);
+        assert_eq!(rt;
+            answer(rt.alloc(), file.as_slice()),
+            Some(fault),
+            "{situation}"
+        );
+    }
+}
+
+#[test]
+fn follows_a_record_length_to_the_letter(rt: HostRuntime) {
+    let table: [(&str, &[&[u8]], Option<PackageFault>); 4] = [
+        (
+            "five bytes",
+            &[&[5, 0, 0, 0, 0]],
+            Some(PackageFault::RecordLength),
+        ),
+        (
+            "one byte more than its parts",
+            &[&[12, 0, 0, 0, 0, 0, 0, 0, 0, 0, 0, 0, 0]],
+            Some(PackageFault::HeaderSize),
+        ),
+        (
+            "its parts, the bitmap among them",
+            &[&[12, 0, 0, 0, 0, 0, 0, 0, 0, 0, 0, 0]],
+            None,
+        ),
+        (
+            "package data of two bytes",
+            &[&[14, 0, 0, 0, 0, 0, 0, 0, 0, 2, 0, 0, 8, 9]],
+            None,
+        ),
+    ];
+    for (situation, records, fault) in table {
+        let draft = Draft {
+            bitmap_bits: 8,
+            records,
+            components: &[],
+            rest: &[],
+        };
+        assert_eq!(rt;
+            answer(rt.alloc(), file(draft).as_slice()),
+            fault,
+            "{situation}"
+        );
+    }
+}
+
+#[test]
+fn wants_a_bit_for_each_component(rt: HostRuntime) -> Result<(), Fail> {
+    let eight = [COMPONENT_1.as_slice(); 8];
+    let nine = [COMPONENT_1.as_slice(); 9];
+    let record: [&[u8]; 1] = [&[12, 0, 0, 0, 0, 0, 0, 0, 0, 0, 0, 0xFF]];
+    let draft = Draft {
+        bitmap_bits: 8,
+        records: &record,
+        components: &eight,
+        rest: &[0; 200],
+    };
+    let package = Package::read(rt.alloc(), file(draft).as_slice())?;
+    assert!(rt; package.record_count() == 1);
+    assert_eq!(rt; package.use_count(0), 8);
+    let more = Draft {
+        components: &nine,
+        ..draft
+    };
+    assert_eq!(rt;
+        answer(rt.alloc(), file(more).as_slice()),
+        Some(PackageFault::BitmapLength)
+    );
+    Ok(())
+}
+
+#[test]
+fn refuses_each_turned_bit_of_the_header(rt: HostRuntime) {
+    let table: [(&str, usize, u8); 3] = [
+        ("the release time", 25, 0x10),
+        ("the flags of a record", 43, 0x01),
+        ("the activation method", 93, 0x80),
+    ];
+    for (situation, place, bit) in table {
+        let mut file = worked();
+        write(
+            &mut file,
+            place,
+            &[worked().as_slice().get(place).copied().unwrap_or(0) ^ bit],
+        );
+        assert_eq!(rt;
+            answer(rt.alloc(), file.as_slice()),
+            Some(PackageFault::Checksum),
+            "{situation}"
+        );
+    }
+    for place in 0..WORKED_HEADER {
+        for shift in 0u32..8 {
+            let mut file = worked();
+            let byte = file.as_slice().get(place).copied().unwrap_or(0) ^ 1 << shift;
+            write(&mut file, place, &[byte]);
+            assert!(rt;
+                answer(rt.alloc(), file.as_slice()).is_some(),
+                "bit {shift} of byte {place}"
+            );
+        }
+    }
+}
+
+#[test]
+fn names_the_fault_of_each_cut(rt: HostRuntime) {
+    for length in 0..440 {
+        let mut file = worked();
+        file.truncate(length);
+        let fault = match length {
+            0..36 => Some(PackageFault::Short),
+            36..134 => Some(PackageFault::HeaderSize),
+            134..434 => Some(PackageFault::ImageRange),
+            _ => None,
+        };
+        assert_eq!(rt;
+            answer(rt.alloc(), file.as_slice()),
+            fault,
+            "cut to {length}"
+        );
+    }
+}
+
+#[test]
+fn reads_or_names_memory(rt: HostRuntime) {
+    let file = worked();
+    match Package::read(rt.alloc(), file.as_slice()) {
+        Ok(package) => assert_eq!(rt; package.component_count(), 2),
+        Err(fault) => assert_eq!(rt; fault, PackageFault::Memory),
+    }
+    let mut turned = worked();
+    write(&mut turned, 25, &[0]);
+    match Package::read(rt.alloc(), turned.as_slice()) {
+        Ok(_) => assert!(rt; false, "another checksum"),
+        Err(fault) => assert!(rt; fault == PackageFault::Checksum || fault == PackageFault::Memory),
+    }
+}
