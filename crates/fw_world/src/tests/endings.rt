@@ -6,9 +6,9 @@ use crate::tests::setup::{KEY, ONE, world};
 use crate::tests::steps::{
     ACTIVATING, ALL_APPLIED, APPLIED, APPLY, ASK_DOWN, ASK_UP, ASKED, CANCEL, COMPLETE_ASKED,
     DATA_LEARNT, DEVICE, DROP_UP, LEARN_DOWN, LEARN_UP, PASS, START, TAKE_BUSY, TAKE_UP,
-    TIME_OUT_DEVICE, TIME_OUT_SESSION, UPDATE, VERIFY, go_on, worked_then, worked_update,
+    TIME_OUT_DEVICE, TIME_OUT_SESSION, UPDATE, VERIFY, go_on, replay, worked_then, worked_update,
 };
-use crate::{MessageStep, Way, message_replay};
+use crate::{MessageStep, Way};
 use fd_core::{State, Verdict};
 use fwup_wire::code::command::APPLY_COMPLETE;
 use fwup_wire::code::completion::COMMAND_NOT_EXPECTED;
@@ -35,7 +35,7 @@ fn a_stale_completion_records_nothing(rt: HostRuntime) -> Result<(), Fail> {
     for then in rows {
         let mut world = world(rt.alloc(), &packages, &[DEVICE])?;
         let steps = worked_then(rt.alloc(), COMPLETE_ASKED, &[CANCEL, TAKE_UP])?;
-        assert_eq!(rt; message_replay(&mut world, &steps), Ok(()));
+        assert_eq!(rt; replay(&mut world, &steps), Ok(()));
         let refused = Some((APPLY_COMPLETE, Some(COMMAND_NOT_EXPECTED), true));
         assert_eq!(rt; cell_of(&world, DEVICE, Way::Up), refused);
         let cancelling = (State::Apply, SessionState::Cancelling);
@@ -44,7 +44,7 @@ fn a_stale_completion_records_nothing(rt: HostRuntime) -> Result<(), Fail> {
             notes(rt.alloc(), world.history())?.as_slice(),
             [WORKED[0]].as_slice()
         );
-        assert_eq!(rt; message_replay(&mut world, then), Ok(()));
+        assert_eq!(rt; replay(&mut world, then), Ok(()));
         let ended = (State::Idle, SessionState::Idle);
         assert_eq!(rt; states(&world, DEVICE), Some(ended));
         assert_eq!(rt;
@@ -57,7 +57,7 @@ fn a_stale_completion_records_nothing(rt: HostRuntime) -> Result<(), Fail> {
         );
         assert_eq!(rt; world.history().len(), 1);
         let steps = worked_update(rt.alloc(), DEVICE)?;
-        assert_eq!(rt; message_replay(&mut world, &steps), Ok(()));
+        assert_eq!(rt; replay(&mut world, &steps), Ok(()));
         let notes = notes(rt.alloc(), world.history())?;
         assert_eq!(rt; notes.get(1..), Some(WORKED.as_slice()));
         assert!(rt; has_worked_images(world.history()));
@@ -179,7 +179,7 @@ fn behind_a_time_out_the_next_update_ends_well(rt: HostRuntime) -> Result<(), Fa
         for (situation, count, then, device, session) in rows {
             let mut world = world(rt.alloc(), &packages, &[DEVICE])?;
             let steps = worked_then(rt.alloc(), *count, then)?;
-            assert_eq!(rt; message_replay(&mut world, &steps), Ok(()), "{situation}");
+            assert_eq!(rt; replay(&mut world, &steps), Ok(()), "{situation}");
             assert_eq!(rt;
                 states(&world, DEVICE),
                 Some((*device, *session)),
@@ -188,9 +188,9 @@ fn behind_a_time_out_the_next_update_ends_well(rt: HostRuntime) -> Result<(), Fa
             let (active, applied) = images_of(&world, DEVICE, KEY);
             assert_eq!(rt; active, Some([0xAA].as_slice()));
             assert!(rt; *device != State::Idle || applied.is_none(), "{situation}");
-            assert_eq!(rt; message_replay(&mut world, &[CANCEL]), Ok(()));
+            assert_eq!(rt; replay(&mut world, &[CANCEL]), Ok(()));
             go_on(&mut world);
-            assert_eq!(rt; message_replay(&mut world, &[START]), Ok(()), "{situation}");
+            assert_eq!(rt; replay(&mut world, &[START]), Ok(()), "{situation}");
             go_on(&mut world);
             let done = (State::Activate, SessionState::Done);
             assert_eq!(rt; states(&world, DEVICE), Some(done), "{situation}");
@@ -218,7 +218,7 @@ fn bad_verdicts_fail_the_update(rt: HostRuntime) -> Result<(), Fail> {
             LEARN_UP,
         ];
         let steps = worked_then(rt.alloc(), count, &then)?;
-        assert_eq!(rt; message_replay(&mut world, &steps), Ok(()));
+        assert_eq!(rt; replay(&mut world, &steps), Ok(()));
         let failed = (device, SessionState::Failed(cause));
         assert_eq!(rt; states(&world, DEVICE), Some(failed));
         assert_eq!(rt; world.history().len(), 0);
@@ -227,7 +227,7 @@ fn bad_verdicts_fail_the_update(rt: HostRuntime) -> Result<(), Fail> {
             (Some([0xAA].as_slice()), None)
         );
         assert!(rt;
-            message_replay(&mut world, &[ASK_UP]).is_err(),
+            replay(&mut world, &[ASK_UP]).is_err(),
             "it is reported once"
         );
     }

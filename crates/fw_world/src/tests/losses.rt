@@ -7,9 +7,9 @@ use crate::tests::seeing::{
 use crate::tests::setup::{AGENT, KEY, NEWER, ONE, Small, join, world};
 use crate::tests::steps::{
     ASKED, DEVICE, DROP_DOWN, DROP_UP, GIVE_UP_DOWN, GIVE_UP_UP, START, TAKE_DOWN, TIME_OUT_DEVICE,
-    WHOLE, go_on, worked_then, worked_update,
+    WHOLE, go_on, replay, worked_then, worked_update,
 };
-use crate::{MessageStep, MessageStepFault, MessageWorld, Way, message_replay};
+use crate::{MessageStep, MessageStepFault, MessageWorld, Way};
 use fd_core::{Bank, State};
 use std::test::Fail;
 use ua_core::{Cause, SessionState};
@@ -28,9 +28,9 @@ fn a_device_asks_again_for_what_is_lost(rt: HostRuntime) -> Result<(), Fail> {
         for lost in [1, 2] {
             let mut world = world(rt.alloc(), &packages, &[DEVICE])?;
             let steps = worked_then(rt.alloc(), count + lost, &[GIVE_UP_UP, DROP_UP])?;
-            assert_eq!(rt; message_replay(&mut world, &steps), Ok(()));
+            assert_eq!(rt; replay(&mut world, &steps), Ok(()));
             let rest = worked.get(count..).unwrap_or(&[]);
-            assert_eq!(rt; message_replay(&mut world, rest), Ok(()), "{count}, {lost}");
+            assert_eq!(rt; replay(&mut world, rest), Ok(()), "{count}, {lost}");
             assert_eq!(rt; states(&world, DEVICE), Some(DONE));
             let expected = [
                 Note::Applied(DEVICE, KEY, 241),
@@ -55,12 +55,12 @@ fn a_session_fails_when_its_asker_gives_up(rt: HostRuntime) -> Result<(), Fail> 
     for then in rows {
         let mut world = world(rt.alloc(), &packages, &[DEVICE])?;
         let steps = worked_then(rt.alloc(), ASKED, &[GIVE_UP_DOWN])?;
-        assert_eq!(rt; message_replay(&mut world, &steps), Ok(()));
+        assert_eq!(rt; replay(&mut world, &steps), Ok(()));
         let silent = (State::Idle, SessionState::Failed(Cause::Silent));
         assert_eq!(rt; states(&world, DEVICE), Some(silent));
-        assert_eq!(rt; message_replay(&mut world, then), Ok(()));
+        assert_eq!(rt; replay(&mut world, then), Ok(()));
         assert_eq!(rt; cell_of(&world, DEVICE, Way::Down), None);
-        assert_eq!(rt; message_replay(&mut world, &[START]), Ok(()));
+        assert_eq!(rt; replay(&mut world, &[START]), Ok(()));
         go_on(&mut world);
         assert_eq!(rt; states(&world, DEVICE), Some(DONE));
     }
@@ -78,11 +78,11 @@ fn a_newer_package_follows_and_the_same_one_does_not(rt: HostRuntime) -> Result<
     for (number, device, session, entries) in rows {
         let mut world = world(rt.alloc(), &packages, &[DEVICE])?;
         let steps = worked_then(rt.alloc(), WHOLE, &[TIME_OUT_DEVICE])?;
-        assert_eq!(rt; message_replay(&mut world, &steps), Ok(()));
+        assert_eq!(rt; replay(&mut world, &steps), Ok(()));
         let idle = (State::Idle, SessionState::Done);
         assert_eq!(rt; states(&world, DEVICE), Some(idle));
         let start = MessageStep::Start(DEVICE, number);
-        assert_eq!(rt; message_replay(&mut world, &[start]), Ok(()));
+        assert_eq!(rt; replay(&mut world, &[start]), Ok(()));
         go_on(&mut world);
         assert_eq!(rt;
             states(&world, DEVICE),
@@ -145,10 +145,10 @@ fn refused_memory_leaves_the_world(rt: HostRuntime) -> Result<(), Fail> {
     }
     for step in &steps {
         let before = glance(&world);
-        let mut answer = message_replay(&mut world, &[*step]);
+        let mut answer = replay(&mut world, &[*step]);
         if answer == Err((0, MessageStepFault::Memory)) {
             assert!(rt; glance(&world) == before, "{step:?}");
-            answer = message_replay(&mut world, &[*step]);
+            answer = replay(&mut world, &[*step]);
         }
         assert_eq!(rt; answer, Ok(()), "{step:?}");
         if failures(&world) > 0 && world.cell(DEVICE, Way::Down).is_none() {
@@ -159,7 +159,7 @@ fn refused_memory_leaves_the_world(rt: HostRuntime) -> Result<(), Fail> {
         let failed = (State::Ready, SessionState::Failed(Cause::Answer));
         assert_eq!(rt; states(&world, DEVICE), Some(failed));
         assert_eq!(rt; (failures(&world), world.history().len()), (1, 0));
-        assert_eq!(rt; message_replay(&mut world, &steps), Ok(()));
+        assert_eq!(rt; replay(&mut world, &steps), Ok(()));
     }
     assert_eq!(rt; states(&world, DEVICE), Some(DONE));
     assert_eq!(rt; world.history().len(), 3);

@@ -7,9 +7,9 @@ use crate::tests::steps::{
     ACTIVATE, ACTIVATING, ALL_APPLIED, ANSWERED, APPLIED, APPLY, ASK_DOWN, ASK_UP, ASKED, CANCEL,
     DATA_ANSWERED, DATA_ASKED, DEVICE, DOWNLOAD, DROP_DOWN, DROP_UP, GIVE_UP_DOWN, GIVE_UP_UP,
     LEARN_DOWN, LEARN_UP, RESTART_AGENT, START, TAKE_BUSY, TAKE_DOWN, TAKE_UP, TIME_OUT_DEVICE,
-    TIME_OUT_SESSION, VERIFIED, VERIFY, WHOLE, worked_then,
+    TIME_OUT_SESSION, VERIFIED, VERIFY, WHOLE, replay, worked_then,
 };
-use crate::{MessageStep, MessageStepFault, Side, Way, message_replay};
+use crate::{MessageStep, MessageStepFault, Side, Way};
 use fd_core::Verdict;
 use fw_package::Package;
 use std::alloc::Global;
@@ -162,10 +162,10 @@ fn refused(
     let mut steps = worked_then(alloc, count, then)?;
     let number = steps.len();
     let mut before = world(alloc, packages, &[DEVICE])?;
-    let taken = message_replay(&mut before, &steps).is_ok();
+    let taken = replay(&mut before, &steps).is_ok();
     let mut after = world(alloc, packages, &[DEVICE])?;
     steps.extend_from_slice(&[step, CANCEL, START])?;
-    let answer = message_replay(&mut after, &steps);
+    let answer = replay(&mut after, &steps);
     let unchanged = seen(alloc, &after, DEVICE)? == seen(alloc, &before, DEVICE)?;
     Ok((number, answer, taken && unchanged))
 }
@@ -273,9 +273,9 @@ fn a_step_of_no_device_is_known_before_all_else(rt: HostRuntime) -> Result<(), F
         assert!(rt; unchanged);
     }
     let mut world = world(rt.alloc(), &packages, &[])?;
-    assert_eq!(rt; message_replay(&mut world, &[RESTART_AGENT]), Ok(()));
+    assert_eq!(rt; replay(&mut world, &[RESTART_AGENT]), Ok(()));
     assert_eq!(rt;
-        message_replay(&mut world, &[START]),
+        replay(&mut world, &[START]),
         Err((0, MessageStepFault::NoSuchNode))
     );
     Ok(())

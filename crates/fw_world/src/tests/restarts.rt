@@ -7,9 +7,9 @@ use crate::tests::seeing::{
 use crate::tests::setup::{AGENT, KEY, ONE, OTHER, SECOND, Small, TWO, world, world_of_two};
 use crate::tests::steps::{
     APPLIED, ASK_DOWN, ASKED, CANCEL, DEVICE, RESTART_AGENT, RESTART_DEVICE, START, TAKE_BUSY,
-    go_on, halfway_of_two, worked_update,
+    go_on, halfway_of_two, replay, worked_update,
 };
-use crate::{MessageStep, Way, message_replay};
+use crate::{MessageStep, Way};
 use fd_core::State;
 use fwup_wire::code::command::{CANCEL_UPDATE, QUERY_DEVICE_IDENTIFIERS, REQUEST_FIRMWARE_DATA};
 use std::test::Fail;
@@ -120,9 +120,9 @@ fn a_restart_leaves_records_and_what_the_other_asked(rt: HostRuntime) -> Result<
     for (restarted, then, after, down, up, is_applied) in ROWS {
         let mut world = world_of_two(rt.alloc(), &packages, DEVICE)?;
         let steps = halfway_of_two(rt.alloc())?;
-        assert_eq!(rt; message_replay(&mut world, &steps), Ok(()));
+        assert_eq!(rt; replay(&mut world, &steps), Ok(()));
         assert_eq!(rt; cell_of(&world, DEVICE, Way::Up), REQUESTED);
-        assert_eq!(rt; message_replay(&mut world, then), Ok(()));
+        assert_eq!(rt; replay(&mut world, then), Ok(()));
         assert_eq!(rt; states(&world, DEVICE), Some(after), "{restarted}");
         assert_eq!(rt; cell_of(&world, DEVICE, Way::Down), down, "{restarted}");
         assert_eq!(rt; cell_of(&world, DEVICE, Way::Up), up, "{restarted}");
@@ -145,13 +145,13 @@ fn a_new_update_behind_a_restart_ends_well(rt: HostRuntime) -> Result<(), Fail> 
     for (restarted, then, ..) in ROWS {
         let mut world = world_of_two(rt.alloc(), &packages, DEVICE)?;
         let steps = halfway_of_two(rt.alloc())?;
-        assert_eq!(rt; message_replay(&mut world, &steps), Ok(()));
-        assert_eq!(rt; message_replay(&mut world, then), Ok(()));
-        assert_eq!(rt; message_replay(&mut world, &[CANCEL]), Ok(()));
+        assert_eq!(rt; replay(&mut world, &steps), Ok(()));
+        assert_eq!(rt; replay(&mut world, then), Ok(()));
+        assert_eq!(rt; replay(&mut world, &[CANCEL]), Ok(()));
         go_on(&mut world);
         let state = world.session(DEVICE).map(Session::state);
         assert_eq!(rt; state, Some(SessionState::Idle), "{restarted}");
-        assert_eq!(rt; message_replay(&mut world, &[START]), Ok(()));
+        assert_eq!(rt; replay(&mut world, &[START]), Ok(()));
         go_on(&mut world);
         let done = (State::Activate, SessionState::Done);
         assert_eq!(rt; states(&world, DEVICE), Some(done), "{restarted}");
@@ -183,12 +183,9 @@ fn the_agent_restarts_each_session_and_a_device_itself_alone(rt: HostRuntime) ->
         for eid in [DEVICE, OTHER] {
             let steps = worked_update(rt.alloc(), eid)?;
             let steps = steps.get(..ASKED).unwrap_or(&[]);
-            assert_eq!(rt; message_replay(&mut world, steps), Ok(()));
+            assert_eq!(rt; replay(&mut world, steps), Ok(()));
         }
-        assert_eq!(rt;
-            message_replay(&mut world, &[MessageStep::Restart(node)]),
-            Ok(())
-        );
+        assert_eq!(rt; replay(&mut world, &[MessageStep::Restart(node)]), Ok(()));
         for (eid, restarted) in [(DEVICE, first), (OTHER, second)] {
             let (state, cell) = if restarted {
                 (SessionState::Idle, closed)
@@ -210,12 +207,9 @@ fn a_restarted_device_forgets_its_update_and_no_other_does(rt: HostRuntime) -> R
         for eid in [DEVICE, OTHER] {
             let steps = worked_update(rt.alloc(), eid)?;
             let steps = steps.get(..APPLIED).unwrap_or(&[]);
-            assert_eq!(rt; message_replay(&mut world, steps), Ok(()));
+            assert_eq!(rt; replay(&mut world, steps), Ok(()));
         }
-        assert_eq!(rt;
-            message_replay(&mut world, &[MessageStep::Restart(node)]),
-            Ok(())
-        );
+        assert_eq!(rt; replay(&mut world, &[MessageStep::Restart(node)]), Ok(()));
         assert_eq!(rt;
             states(&world, node),
             Some((State::Idle, SessionState::Apply))

@@ -1,12 +1,12 @@
 //! Whole updates.
 
+use crate::Way;
 use crate::tests::packages::package;
 use crate::tests::seeing::{
     Note, has_worked_images, images_of, is_worked_image, notes, seen, states,
 };
 use crate::tests::setup::{KEY, ONE, OTHER, world};
-use crate::tests::steps::{DATA_ANSWERED, DEVICE, worked_then, worked_update};
-use crate::{Way, message_replay};
+use crate::tests::steps::{DATA_ANSWERED, DEVICE, replay, worked_then, worked_update};
 use fd_core::State;
 use fwup_wire::{Answer, Command};
 use std::test::Fail;
@@ -22,7 +22,7 @@ fn the_worked_update_takes_its_forty_steps(rt: HostRuntime) -> Result<(), Fail> 
         images_of(&world, DEVICE, KEY),
         (Some([0xAA].as_slice()), None)
     );
-    assert_eq!(rt; message_replay(&mut world, &steps), Ok(()));
+    assert_eq!(rt; replay(&mut world, &steps), Ok(()));
     let expected = [
         Note::Applied(9, KEY, 241),
         Note::Recorded(9, 1, 0),
@@ -65,7 +65,7 @@ fn the_image_goes_up_in_two_pieces(rt: HostRuntime) -> Result<(), Fail> {
     for (count, offset, length, bytes) in rows {
         let mut world = world(rt.alloc(), &packages, &[DEVICE])?;
         let steps = worked_then(rt.alloc(), count, &[])?;
-        assert_eq!(rt; message_replay(&mut world, &steps), Ok(()));
+        assert_eq!(rt; replay(&mut world, &steps), Ok(()));
         let request = Command::RequestFirmwareData { offset, length };
         let held = world.cell(DEVICE, Way::Up);
         assert_eq!(rt; held.map(|held| held.command()), Some(request));
@@ -85,7 +85,7 @@ fn devices_side_by_side_do_as_each_alone(rt: HostRuntime) -> Result<(), Fail> {
     let steps = worked_update(rt.alloc(), DEVICE)?;
     let others = worked_update(rt.alloc(), OTHER)?;
     for (step, other) in steps.iter().zip(others.iter()) {
-        assert_eq!(rt; message_replay(&mut both, &[*step, *other]), Ok(()));
+        assert_eq!(rt; replay(&mut both, &[*step, *other]), Ok(()));
     }
     let expected = [
         Note::Applied(9, KEY, 241),
@@ -101,7 +101,7 @@ fn devices_side_by_side_do_as_each_alone(rt: HostRuntime) -> Result<(), Fail> {
     );
     for (eid, steps) in [(DEVICE, &steps), (OTHER, &others)] {
         let mut alone = world(rt.alloc(), &packages, &[eid])?;
-        assert_eq!(rt; message_replay(&mut alone, steps), Ok(()));
+        assert_eq!(rt; replay(&mut alone, steps), Ok(()));
         let seen_alone = seen(rt.alloc(), &alone, eid)?;
         assert_eq!(rt; seen(rt.alloc(), &both, eid)?, seen_alone);
         assert_eq!(rt;
