@@ -1,0 +1,56 @@
+-- What is applied, component by component.
+use Rattle.std.proofs.Common.{◌≡◌, ◌∷◌, ◌==◌, true, false, List, [], Some, map, ℕ, inl, inr, refl, sym}
+use Rattle.std.proofs.lemmas.Bool.{ne_eqb, or_parts}
+use Rattle.std.proofs.lemmas.Bool.Decides.{eqb_tells}
+use Rattle.fd_core.specs.Banks.{AreApart, has_key}
+use Rattle.fd_core.specs.Images.{RowOf, key_of, puts, row_of, same_key}
+use Rattle.fd_core.specs.States.{DeviceState}
+use Rattle.fd_core.specs.declared.parts.Component.{Component}
+use Rattle.fwup_wire.specs.declared.values.Key.{Key}
+use Rattle.fw_message.specs.Entries.{applied_puts}
+use Rattle.fw_message.specs.Nodes.{HasComponents}
+
+-- each of these components is found under its key
+abbrev pub AreFound : List RowOf → List RowOf → Type 0
+AreFound all [] = Unit {0}
+AreFound all (row ∷ rows) = (row_of all row.key ≡ Some row) × AreFound all rows
+
+by_found : (all rows : List RowOf) (cs : List Component) → map key_of rows ≡ map (λ c. c.key) cs → AreFound all rows → applied_puts all cs ≡ puts rows
+by_found all [] [] keys found = refl
+by_found all [] (c ∷ cs) keys found = absurd (cc)
+by_found all (row ∷ rows) [] keys found = absurd (cc)
+by_found all (row ∷ rows) (c ∷ cs) keys found =
+    let here : row.key ≡ c.key = cc in
+    let rest : map key_of rows ≡ map (λ c. c.key) cs = cc in
+    rw (sym here, found.0, by_found all rows cs rest found.1) refl
+
+equal_both : (a b : ℕ) → (a == b) ≡ (b == a)
+equal_both a b =
+    elim (eqb_tells a b) [
+      | inl same ↦ rw same.1 refl
+      | inr other ↦ rw (other.0, ne_eqb b a (λ e. other.1 (sym e))) refl
+    ]
+
+same_both : (a b : Key) → same_key a b ≡ same_key b a
+same_both a b = rw (equal_both a.classification b.classification, equal_both a.identifier b.identifier) refl
+
+equal_self : (a : ℕ) → (a == a) ≡ true
+equal_self a = elim (eqb_tells a a) [ inl same ↦ same.0 | inr other ↦ absurd (other.1 refl) ]
+
+same_self : (a : Key) → same_key a a ≡ true
+same_self a = rw (equal_self a.classification, equal_self a.identifier) refl
+
+found_later : (row : RowOf) (all rest : List RowOf) → has_key (map key_of rest) row.key ≡ false → AreFound all rest → AreFound (row ∷ all) rest
+found_later row all [] apart found = tt
+found_later row all (r ∷ rs) apart found =
+    let parts = or_parts (same_key r.key row.key) (has_key (map key_of rs) row.key) apart in
+    (rw (same_both row.key r.key, parts.0) found.0, found_later row all rs parts.1 found.1)
+
+found_apart : (rows : List RowOf) → AreApart (map key_of rows) → AreFound rows rows
+found_apart [] apart = tt
+found_apart (row ∷ rows) apart =
+    (rw (same_self row.key) refl, found_later row rows rows apart.0 (found_apart rows apart.1))
+
+-- what is applied, as the table has it
+pub all_applied : (v : DeviceState) → HasComponents v → applied_puts v.rows v.components ≡ puts v.rows
+all_applied v h = by_found v.rows v.rows v.components h.keys (found_apart v.rows h.apart)

@@ -1,0 +1,51 @@
+use Rattle.std.proofs.Common.{rules, ◌≡◌, ◌<◌, set, None, Some, false, length, map, refl, sym, true}
+use Rattle.std.specs.Prelude.{slice_get}
+use Rattle.std.proofs.lemmas.Option.{slice_get_read}
+use Rattle.fw_message.specs.Entries.{entry_of}
+use Rattle.fw_message.specs.Replays.{place_at}
+use Rattle.fw_message.specs.Worlds.{WorldOf, device_of, restarts_agent}
+use Rattle.fw_message.proofs.Places.{not_at}
+use Rattle.fw_message.proofs.Stepping.{agent_restarts, bank_failed, device_refuses, device_steps}
+use Rattle.fw_message.proofs.messages.MessageWorld.step.Goals as goal
+
+pub returns-then-restarts-clause-step : goal.returns-then-restarts-clause-step
+returns-then-restarts-clause-step g c =
+    let is : restarts_agent c.self.inside.agent c.args.step ≡ true = search rules in
+    let w : WorldOf = record { agent = c.self.inside.agent; packages = c.self.inside.packages.now; nodes = map (λ p. p.node) c.self.inside.pairs.items; history = map entry_of c.self.inside.history.items } in
+    rw (sym c.self.view_is, c.restart_each.ensures) (agent_restarts w c.self.inside.pairs.items c.args.step true refl is)
+
+pub returns-in_default-clause-refused : goal.returns-in_default-clause-refused
+returns-in_default-clause-refused g c =
+    let is : restarts_agent c.args.self.now.world.agent c.args.step ≡ false = search rules in
+    let none : place_at (map (λ p. p.node) c.self.inside.pairs.items) (device_of c.args.step) ≡ None = search rules in
+    (is, not_at 0 c.args.self.now.world.nodes (device_of c.args.step) (rw (sym c.self.view_is) none))
+
+pub returns-in-Err-clause-refused : goal.returns-in-Err-clause-refused
+returns-in-Err-clause-refused g c =
+    let is : restarts_agent c.self.inside.agent c.args.step ≡ false = search rules in
+    let w : WorldOf = record { agent = c.self.inside.agent; packages = c.self.inside.packages.now; nodes = map (λ p. p.node) c.self.inside.pairs.items; history = map entry_of c.self.inside.history.items } in
+    let at : place_at w.nodes (device_of c.args.step) ≡ Some c.in-Some.place = search rules in
+    let lt : c.in-Some.place < length c.self.inside.pairs.items = search rules in
+    let found : slice_get c.self.inside.pairs.items c.in-Some.place ≡ Some c.index_mut-pair.result.now =
+    slice_get_read c.self.inside.pairs.items (length c.self.inside.pairs.items) c.in-Some.place c.index_mut-pair.result.now refl lt c.index_mut-pair.ensures.value in
+    rw (sym c.self.view_is) (device_refuses w c.self.inside.pairs.items c.index_mut-pair.result.now c.in-Some.place c.args.step c.in-Err.fault refl is at found c.in-Err.ensures.refused)
+
+pub returns-clause-step : goal.returns-clause-step
+returns-clause-step g c =
+    let is : restarts_agent c.self.inside.agent c.args.step ≡ false = search rules in
+    let w : WorldOf = record { agent = c.self.inside.agent; packages = c.self.inside.packages.now; nodes = map (λ p. p.node) c.self.inside.pairs.items; history = map entry_of c.self.inside.history.items } in
+    let at : place_at w.nodes (device_of c.args.step) ≡ Some c.in-Some.place = search rules in
+    let lt : c.in-Some.place < length c.self.inside.pairs.items = search rules in
+    let found : slice_get c.self.inside.pairs.items c.in-Some.place ≡ Some c.index_mut-pair.result.now =
+    slice_get_read c.self.inside.pairs.items (length c.self.inside.pairs.items) c.in-Some.place c.index_mut-pair.result.now refl lt c.index_mut-pair.ensures.value in
+    rw (sym c.self.view_is) (device_steps w c.self.inside.pairs.items c.index_mut-pair.result.now c.step.new.self c.in-Some.place c.args.step c.in-Ok.works (map entry_of c.step.new.history.items) refl is at found c.in-Ok.ensures.eid c.in-Ok.ensures.step)
+
+pub returns-clause-failed : goal.returns-clause-failed
+returns-clause-failed g c =
+    let w : WorldOf = record { agent = c.self.inside.agent; packages = c.self.inside.packages.now; nodes = map (λ p. p.node) c.self.inside.pairs.items; history = map entry_of c.self.inside.history.items } in
+    let later : WorldOf = record { agent = c.self.inside.agent; packages = c.self.inside.packages.now; nodes = map (λ p. p.node) (set c.self.inside.pairs.items c.in-Some.place c.step.new.self); history = map entry_of c.step.new.history.items } in
+    let at : place_at w.nodes (device_of c.args.step) ≡ Some c.in-Some.place = search rules in
+    let lt : c.in-Some.place < length c.self.inside.pairs.items = search rules in
+    let found : slice_get c.self.inside.pairs.items c.in-Some.place ≡ Some c.index_mut-pair.result.now =
+    slice_get_read c.self.inside.pairs.items (length c.self.inside.pairs.items) c.in-Some.place c.index_mut-pair.result.now refl lt c.index_mut-pair.ensures.value in
+    λ e. rw (sym c.self.view_is) (bank_failed w later c.self.inside.pairs.items c.index_mut-pair.result.now c.step.new.self c.in-Some.place (device_of c.args.step) at found (c.in-Ok.ensures.failed e))

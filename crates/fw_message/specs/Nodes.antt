@@ -1,0 +1,89 @@
+-- A device with its session as the world keeps them.
+use Rattle.std.specs.Prelude.{◌≡◌, ◌<◌, ◌⊎◌, ◌^◌, ◌-◌, ◌&&◌, ℕ, Bool, false, is_some, not, true, List, [], Option, Some, None, map}
+use Rattle.fd_core.specs.Banks.{AreApart, has_key}
+use Rattle.fd_core.specs.Images.{Put, key_of, puts}
+use Rattle.fd_core.specs.States.{DeviceState, Phase}
+use Rattle.fwup_wire.specs.declared.values.Key.{Key}
+use Rattle.fw_message.specs.Pairs.{HeldOf, PairOf, is_empty}
+use Rattle.fwup_wire.specs.Values.{AnswerOf, CommandOf}
+use Rattle.fw_message.specs.Worlds.{NodeOf}
+use Rattle.fw_message.specs.declared.side.Way.{Way}
+use Rattle.fw_message.specs.declared.side.Way.TheVariants as ways
+use Rattle.fw_message.specs.declared.step.MessageStep.{MessageStep}
+use Rattle.fw_message.specs.declared.step.MessageStep.TheVariants as steps
+
+-- the same, and how often the bank failed
+pub record CountedOf : Type 0 where
+  pub node : NodeOf
+  pub faults : ℕ
+
+-- the component that is being updated is one of these
+abbrev pub IsOneOf : List Key → Phase → Type 0
+IsOneOf keys (Phase.Download u w p) = has_key keys w.key ≡ true
+IsOneOf keys (Phase.Verify u w p) = has_key keys w.key ≡ true
+IsOneOf keys (Phase.Apply u w p) = has_key keys w.key ≡ true
+IsOneOf keys p = Unit {0}
+
+-- The bank has the device's components, in the same order; no key stands twice; and what is being updated is one of them.
+pub record HasComponents (v : DeviceState) : Type 0 where
+  pub keys : map key_of v.rows ≡ map (λ c. c.key) v.components
+  pub apart : AreApart (map key_of v.rows)
+  pub known : IsOneOf (map key_of v.rows) v.phase
+
+-- a bank failed: its count rose, or stands at its last value
+abbrev pub Rose : ℕ → ℕ → Type 0
+Rose old new = (old < new) ⊎ (new ≡ 2 ^ 64 - 1)
+
+-- the operator's calls, and restarts
+abbrev pub IsCall : MessageStep → Type 0
+IsCall (steps.Start device number) = Unit {0}
+IsCall (steps.Cancel device) = Unit {0}
+IsCall (steps.Activate device) = Unit {0}
+IsCall (steps.Restart device) = Unit {0}
+IsCall s = ⊥
+
+-- steps that neither call a bank nor add to the history
+abbrev pub IsQuiet : MessageStep → Type 0
+IsQuiet (steps.Take device way quiet) = ⊥
+IsQuiet (steps.Learn device ways.Up) = ⊥
+IsQuiet (steps.Verdict device verdict) = ⊥
+IsQuiet s = Unit {0}
+
+-- a command waits to be taken
+abbrev pub waits : Option HeldOf → Bool
+waits None = false
+waits (Some h) = not (is_some h.reply)
+
+-- a device that is told so of its own requests may take what the agent asked
+abbrev pub may_take : PairOf → Bool → Bool
+may_take m quiet = waits m.down && not (quiet && not (is_empty m.up))
+
+-- what ActivateFirmware activates, if it is taken
+abbrev pub put_by : DeviceState → CommandOf → List Put
+put_by v (CommandOf.ActivateFirmware self_contained) = puts v.rows
+put_by v c = []
+
+abbrev pub put_by_cell : DeviceState → Option HeldOf → List Put
+put_by_cell v None = []
+put_by_cell v (Some h) = put_by v h.command
+
+abbrev pub to_activate : PairOf → List Put
+to_activate m = put_by_cell m.device m.down
+
+-- an answer that tells that images were activated
+abbrev pub activates : Option AnswerOf → Bool
+activates (Some (AnswerOf.ActivateFirmware time)) = true
+activates reply = false
+
+abbrev pub is_activation : Option HeldOf → Bool
+is_activation None = false
+is_activation (Some h) = activates h.reply
+
+-- the cell of a way
+abbrev pub cell_of : PairOf → Way → Option HeldOf
+cell_of m ways.Down = m.down
+cell_of m ways.Up = m.up
+
+abbrev pub cell_in : Option NodeOf → Way → Option HeldOf
+cell_in None way = None
+cell_in (Some n) way = cell_of n.pair way

@@ -1,0 +1,52 @@
+-- Replays: steps of a world, one after another.
+use Rattle.std.specs.Prelude.{ℕ, ◌≡◌, ◌==◌, ◌+◌, ◌||◌, is_some, Bool, true, false, if◌then◌else◌, List, [], ◌∷◌, get_or, Option, Some, None, IfSome}
+use Rattle.fw_package.specs.Package.{PackageText}
+use Rattle.fw_message.specs.Nodes.{CountedOf, Rose}
+use Rattle.fw_message.specs.Worlds.{NodeOf, WorldOf, agent_restarted, device_of, named_step, needs_memory, node_at, refusal_of, restarts_agent, world_after}
+use Rattle.fw_message.specs.declared.step.MessageStep.{MessageStep}
+use Rattle.fw_message.specs.declared.step.MessageStepFault.{MessageStepFault}
+use Rattle.fw_message.specs.declared.step.MessageStepFault.TheVariants as faults
+
+-- a world, and how often the bank of each device failed
+pub record CountedWorldOf : Type 0 where
+  pub world : WorldOf
+  pub faults : List ℕ
+
+-- where the device of this identifier stands, counted from this number on
+abbrev pub place_from : ℕ → List NodeOf → ℕ → Option ℕ
+place_from i [] eid = None
+place_from i (n ∷ ns) eid = if n.eid == eid then Some i else place_from (i + 1) ns eid
+
+abbrev pub place_at : List NodeOf → ℕ → Option ℕ
+place_at ns eid = place_from 0 ns eid
+
+-- the agent restarts: so does the session of this device
+abbrev pub counted_restarted : List PackageText → CountedOf → CountedOf
+counted_restarted packages p = record { node = agent_restarted packages p.node; faults = p.faults }
+
+-- the bank of the device of this identifier failed: its count rose, or stands at its last value
+abbrev pub BankFailed : CountedWorldOf → CountedWorldOf → ℕ → Type 0
+BankFailed w v eid = IfSome (place_at w.world.nodes eid) (λ place. Rose (get_or w.faults place 0) (get_or v.faults place 0))
+
+-- A step leads from one world to another; its call of a bank fails only where the bank's count of failures tells so.
+pub record Leads (w : CountedWorldOf) (s : MessageStep) (v : CountedWorldOf) : Type 0 where
+  pub works : Bool
+  pub after : world_after w.world (named_step w.world.agent works s) ≡ Some v.world
+  pub failed : works ≡ false → BankFailed w v (device_of s)
+
+-- each step leads on from where the one before it led
+abbrev pub Run : CountedWorldOf → List MessageStep → CountedWorldOf → Type 0
+Run w [] v = v ≡ w
+Run w (s ∷ ss) v = (mid : CountedWorldOf) × Leads w s mid × Run mid ss v
+
+-- whether the world has the node of a step
+abbrev pub HasNode : WorldOf → MessageStep → Type 0
+HasNode w s = (restarts_agent w.agent s || is_some (node_at w.nodes (device_of s))) ≡ true
+
+-- Why a step isn't taken: there is no such node; or there is and the step isn't allowed, whether the bank works or not; or
+-- it is allowed, and memory that it needs is refused.
+abbrev pub Refuses : WorldOf → MessageStep → MessageStepFault → Type 0
+Refuses w s faults.NoSuchNode = (restarts_agent w.agent s ≡ false) × (node_at w.nodes (device_of s) ≡ None)
+Refuses w s faults.Memory =
+    (needs_memory s ≡ true) × HasNode w s × ((works : Bool) → is_some (world_after w (named_step w.agent works s)) ≡ true)
+Refuses w s fault = (fault ≡ refusal_of s) × HasNode w s × ((works : Bool) → world_after w (named_step w.agent works s) ≡ None)

@@ -1,0 +1,49 @@
+-- What is promised of every run of messages between an agent and its devices.
+use Rattle.std.specs.Prelude.{ℕ, ◌≡◌, ◌==◌, if◌then◌else◌, List, [], ◌∷◌, All, None, Some, IfSome, IsSomeAnd}
+use Rattle.fd_core.specs.States.{DeviceState}
+use Rattle.fd_core.specs.Steps.{device_restart}
+use Rattle.ua_core.specs.Calls.{new_session}
+use Rattle.fw_message.specs.History.{EntryOf}
+use Rattle.fw_message.specs.Laws.{IsOpening, IsSafeAndTied}
+use Rattle.fw_message.specs.Pairs.{PairRun}
+use Rattle.fw_message.specs.Worlds.{NodeOf, NotedOf, WorldOf, WorldStepOf, node_at, world_along}
+
+-- what happened to one device, in order
+abbrev pub history_of : ℕ → List NotedOf → List EntryOf
+history_of eid [] = []
+history_of eid (x ∷ xs) = if x.device == eid then x.entry ∷ history_of eid xs else history_of eid xs
+
+-- a device's pair with what happened to it
+abbrev pub run_of : NodeOf → List EntryOf → PairRun
+run_of n es = record { pair = n.pair; entries = es }
+
+abbrev pub IsOpeningNode : NodeOf → Type 0
+IsOpeningNode n = IsOpening (run_of n [])
+
+-- how a world begins: each device with its session begins, and nothing happened
+pub record IsOpeningWorld (w : WorldOf) : Type 0 where
+  pub nodes : All IsOpeningNode w.nodes
+  pub history : w.history ≡ []
+
+-- a device that starts now, with a new session and nothing asked
+abbrev pub new_node : ℕ → DeviceState → NodeOf
+new_node eid device =
+    record {
+      eid = eid;
+      pair = record { device = device_restart device; session = new_session.session; down = None; up = None };
+    }
+
+-- each device that was there is there, and its history is safe, and tied with the images that ran on it first
+abbrev pub IsSafeWorld : WorldOf → WorldOf → Type 0
+IsSafeWorld opening w = (eid : ℕ) → IfSome (node_at opening.nodes eid)
+    (λ n. IsSomeAnd (node_at w.nodes eid) (λ m. IsSafeAndTied opening.packages (run_of n []) (run_of m (history_of eid w.history))))
+
+-- Message safety: every run of messages keeps the history of each device safe and tied.
+abbrev pub WorldsAreSafe : Type 0
+WorldsAreSafe = (opening : WorldOf) (steps : List WorldStepOf) → IsOpeningWorld opening
+    → IfSome (world_along (Some opening) steps) (IsSafeWorld opening)
+
+-- And so does each run that goes on where one ended.
+abbrev pub WorldsStaySafe : Type 0
+WorldsStaySafe = (opening old new : WorldOf) (before steps : List WorldStepOf) → IsOpeningWorld opening
+    → world_along (Some opening) before ≡ Some old → world_along (Some old) steps ≡ Some new → IsSafeWorld opening new

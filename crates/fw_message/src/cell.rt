@@ -1,0 +1,106 @@
+//! The cell of a way: nothing, a command, or a command with its answer.
+
+ghost use Rattle.std.specs.Prelude.{◌≡◌, IsSome, None, Some, false, is_some, option_map};
+ghost use Rattle.fwup_wire.specs.Answers.{answer_in};
+ghost use Rattle.fwup_wire.specs.Commands.{command_code};
+ghost use Rattle.fwup_wire.specs.Lent.{answer_of, command_of};
+ghost use Rattle.fw_message.specs.Pairs.{asked, brought, closed, closed_unless, dropped_cell, fresh_cell, given_up, is_empty};
+
+use crate::same::is_same;
+use fwup_wire::{Answer, Command, read_answer};
+use pldm_base::Reply;
+use std::marker::Model;
+
+/// A command that was asked, its answer once it was taken, and whether its asker still waits for it.
+#[derive(Drop)]
+pub struct Held<'a> {
+    command: Command<'a>,
+    reply: Option<Reply>,
+    live: bool,
+}
+
+impl<'a> Model for Held<'a> {
+    ghost use Rattle.std.specs.Prelude.{option_map};
+    ghost use Rattle.fw_message.specs.Cells.{IsKept, answer_kept};
+    ghost use Rattle.fw_message.specs.Pairs.{HeldOf};
+    ghost use Rattle.fwup_wire.specs.Lent.{command_of};
+
+    ghost Value = { HeldOf };
+
+    ghost view = { λ h. record {
+      command = command_of h.command;
+      reply = answer_kept (command_of h.command) (option_map (λ r. r.items) h.reply);
+      live = h.live;
+    } };
+
+    ghost invariant = { λ h. IsKept (command_of h.command) (option_map (λ r. r.items) h.reply) };
+}
+
+impl<'a> Held<'a> {
+    /// A command that was asked just now.
+    pub(crate) fn new(command: Command<'a>) -> Held<'a>
+        ensures { result ≡ fresh_cell (command_of command.entry) }
+    {
+        Held {
+            command,
+            reply: None,
+            live: true,
+        }
+    }
+
+    /// The command.
+    pub fn command(&self) -> Command<'a>
+        ensures { command_of result ≡ self.now.command }
+    {
+        self.command
+    }
+
+    /// Whether its asker waits for it.
+    pub fn is_live(&self) -> bool
+        ensures { result ≡ self.now.live }
+    {
+        self.live
+    }
+
+    /// Whether the command was taken.
+    pub fn is_taken(&self) -> bool
+        ensures { result ≡ is_some self.now.reply }
+    {
+        self.reply.is_some()
+    }
+
+    /// The answer, once the command was taken.
+    pub fn answer(&self) -> Option<Answer<'_>>
+        ensures { option_map answer_of result ≡ self.now.reply }
+    {
+        match &self.reply {
+            Some(reply) => read_answer(self.command.code(), reply.as_slice()).ok(),
+            None => None,
+        }
+    }
+
+    /// The command is taken: this is its answer.
+    pub(crate) fn take(&mut self, reply: Reply)
+        requires { IsSome (answer_in (command_code self.old.command) reply.items) }
+        ensures { self.new ≡ record self.old { reply = answer_in (command_code self.old.command) reply.items } }
+    {
+        self.reply = Some(reply);
+    }
+
+    /// Its asker waits for it no longer.
+    pub(crate) fn close(&mut self)
+        ensures { self.new ≡ record self.old { live = false } }
+    {
+        self.live = false;
+    }
+
+    /// Its asker waits for it no longer, unless this is what it wishes.
+    pub(crate) fn close_unless(&mut self, wish: &Option<Command<'_>>)
+        ensures { Some self.new ≡ closed_unless (option_map command_of wish.now) (Some self.old) }
+    {
+        self.live = match wish {
+            Some(wish) => self.live && is_same(&self.command, wish),
+            None => false,
+        };
+    }
+}

@@ -1,0 +1,69 @@
+//! The images that a device has applied, before it activates them.
+
+ghost use Rattle.std.specs.Prelude.{◌≡◌, ◌≤◌, OnOk, IfOk, length, map};
+ghost use Rattle.fd_core.specs.Images.{put_among, rises};
+ghost use Rattle.fw_message.specs.Entries.{applied_puts, place_in, put_of};
+
+use crate::entry::{Entry, Event, Image};
+use fd_core::{Bank, Component, Key};
+use std::alloc::{AllocError, Global};
+
+/// A copy of each image that is applied, by rising key.
+pub fn applied_images<B: Bank>(
+    alloc: Global,
+    bank: &B,
+    components: &[Component],
+) -> Result<Vec<Image>, AllocError>
+    ensures { IfOk result (λ images. map put_of images.items ≡ applied_puts (B.rows bank.now) components.now) }
+{
+    let [component, rest @ ..] = components else {
+        return Ok(Vec::new(alloc));
+    };
+    let mut images = applied_images(alloc, bank, rest)?;
+    let Some((_, bytes)) = bank.applied(component.key) else {
+        return Ok(images);
+    };
+    let bytes = Vec::from_slice(alloc, bytes)?;
+    let image = Image {
+        key: component.key,
+        bytes,
+    };
+    put_in(&mut images, image)?;
+    Ok(images)
+}
+
+/// Puts an image among others, by rising key.
+#[tactic(auto, using(crate::proofs::Rising::put_in_place))]
+fn put_in(images: &mut Vec<Image>, image: Image) -> Result<(), AllocError>
+    ensures { OnOk result (map put_of images.new.items ≡ put_among (put_of image) (map put_of images.old.items)) }
+{
+    let place = place_for(images, image.key);
+    let Ok(()) = images.insert(place, image) else {
+        return Err(AllocError);
+    };
+    Ok(())
+}
+
+/// How many images stand before one with this key.
+fn place_for(images: &[Image], key: Key) -> usize
+    ensures place { result ≡ place_in (map put_of images.now) key }
+    ensures within { result ≤ length images.now }
+{
+    for (place, image) in images.iter().enumerate() {
+        if !rises(image.key, key) {
+            return place;
+        }
+    }
+    images.len()
+}
+
+/// Whether one key stands before another.
+fn rises(a: Key, b: Key) -> bool
+    ensures { result ≡ rises a b }
+{
+    if a.classification == b.classification {
+        a.identifier < b.identifier
+    } else {
+        a.classification < b.classification
+    }
+}

@@ -1,0 +1,26 @@
+//! What holds of every run of messages.
+
+ghost use Rattle.fw_message.specs.Laws.{MessagesAreSafe};
+ghost use Rattle.fw_message.specs.WorldLaws.{WorldsAreSafe, WorldsStaySafe};
+
+/// Every run of whole messages between an agent and a device keeps the history of the device safe and tied: what the device
+/// activates is one package's images for it, each recorded before; what is recorded was applied; and the images that run and
+/// the agent's records are those of the history.
+pub fn messages_are_safe()
+    ensures law { MessagesAreSafe }
+{
+    ua_core::stays_in_plan();
+    ua_core::pieces_continue();
+    fw_package::plans_named_images();
+}
+
+/// The same of an agent and all its devices: every run keeps the history of each of them safe and tied, and so does each run
+/// that goes on where one ended.
+pub fn worlds_are_safe()
+    ensures law { WorldsAreSafe }
+    ensures on { WorldsStaySafe }
+{
+    ua_core::stays_in_plan();
+    ua_core::pieces_continue();
+    fw_package::plans_named_images();
+}

@@ -1,0 +1,24 @@
+//! The world of an update agent and its devices (DSP0267 1.0): what they do over whole messages, step by step, and what is
+//! then true of every image that a device activates and of every component that the agent records as applied.
+#![tactic(auto)]
+
+mod cell;
+mod entry;
+mod images;
+mod laws;
+mod messages;
+mod pair;
+mod replay;
+mod same;
+mod side;
+mod step;
+#[cfg(test)]
+mod tests;
+
+pub use cell::Held;
+pub use entry::{Entry, Event, Image};
+pub use laws::{messages_are_safe, worlds_are_safe};
+pub use messages::MessageWorld;
+pub use replay::message_replay;
+pub use side::{Side, Way};
+pub use step::{MessageStep, MessageStepFault};

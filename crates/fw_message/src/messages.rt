@@ -1,0 +1,189 @@
+//! The world over whole messages: one cell a way, no tags and no time.
+
+ghost use Rattle.std.specs.Prelude.{[], ◌≡◌, ◌≤◌, ◌<◌, ◌++◌, ◌∷◌, Err, IfErr, IfOk, IfSome, None, OnErr, OnOk, Ok, Some, false, get_or, length, map, option_map, slice_set};
+ghost use Rattle.fw_message.specs.Entries.{entry_of};
+ghost use Rattle.fw_message.specs.Nodes.{HasComponents, cell_in};
+ghost use Rattle.fw_message.specs.Replays.{BankFailed, Refuses, counted_restarted, place_at};
+ghost use Rattle.fw_message.specs.WorldLaws.{IsOpeningWorld, new_node};
+ghost use Rattle.fw_message.specs.Worlds.{device_of, named_step, node_at, world_after};
+
+use crate::cell::Held;
+use crate::entry::Entry;
+use crate::pair::Pair;
+use crate::side::Way;
+use crate::step::{MessageStep, MessageStepFault};
+use fd_core::{Bank, Device};
+use fw_package::Package;
+use std::alloc::Global;
+use std::marker::Model;
+use ua_core::Session;
+
+/// An agent, its packages, its devices with the agent's session for each, and what happened.
+#[derive(Drop)]
+pub struct MessageWorld<'a, B: Bank + Drop> {
+    alloc: Global,
+    agent: u8,
+    packages: &'a [Package],
+    pairs: Vec<Pair<'a, B>>,
+    history: Vec<Entry>,
+}
+
+impl<'a, B: Bank + Drop> Model for MessageWorld<'a, B> {
+    ghost use Rattle.std.specs.Prelude.{map};
+    ghost use Rattle.fw_message.specs.Entries.{entry_of};
+    ghost use Rattle.fw_message.specs.Replays.{CountedWorldOf};
+
+    ghost Value = { CountedWorldOf };
+
+    ghost view = { λ w. record {
+      world = record {
+        agent = w.agent;
+        packages = w.packages.now;
+        nodes = map (λ p. p.node) w.pairs.items;
+        history = map entry_of w.history.items;
+      };
+      faults = map (λ p. p.faults) w.pairs.items;
+    } };
+}
+
+impl<'a, B: Bank + Drop> MessageWorld<'a, B> {
+    /// An agent with this endpoint identifier and these packages, numbered from 1 on, without devices. Later calls take
+    /// their memory from `alloc`.
+    pub fn new(alloc: Global, agent: u8, packages: &'a [Package]) -> MessageWorld<'a, B>
+        ensures world { result.world ≡ record { agent = agent; packages = packages.now; nodes = []; history = [] } }
+        ensures faults { result.faults ≡ [] }
+        ensures opens { IsOpeningWorld result.world }
+    {
+        MessageWorld {
+            alloc,
+            agent,
+            packages,
+            pairs: Vec::new(alloc),
+            history: Vec::new(alloc),
+        }
+    }
+
+    /// Adds a device, which starts now, with a new session. It has its bank's components.
+    ///
+    /// # Errors
+    /// `Memory` where memory for it is refused. Nothing has changed then, and the device is gone.
+    pub fn add(&mut self, eid: u8, device: Device<B>) -> Result<(), MessageStepFault>
+        requires device { HasComponents device.device }
+        requires fresh { node_at self.old.world.nodes eid ≡ None }
+        ensures nodes { OnOk result (self.new.world ≡ record self.old.world { nodes = self.old.world.nodes ++ new_node eid device.device ∷ [] }) }
+        ensures faults { OnOk result (self.new.faults ≡ self.old.faults ++ device.faults ∷ []) }
+        ensures opens { OnOk result (IsOpeningWorld self.old.world → IsOpeningWorld self.new.world) }
+        ensures same { OnErr result (self.new ≡ self.old) }
+        ensures memory { IfErr result (λ e. e ≡ MessageStepFault.Memory) }
+    {
+        let pair = Pair::new(self.alloc, eid, device);
+        let Ok(()) = self.pairs.push(pair) else {
+            return Err(MessageStepFault::Memory);
+        };
+        Ok(())
+    }
+
+    /// The agent's endpoint identifier.
+    pub fn agent(&self) -> u8
+        ensures { result ≡ self.now.world.agent }
+    {
+        self.agent
+    }
+
+    /// A device.
+    pub fn device(&self, eid: u8) -> Option<&Device<B>>
+        ensures { option_map (λ d. d.now.device) result ≡ option_map (λ n. n.pair.device) (node_at self.now.world.nodes eid) }
+    {
+        let pair = pair_of(&self.pairs, eid)?;
+        Some(pair.device())
+    }
+
+    /// The agent's session for a device.
+    pub fn session(&self, eid: u8) -> Option<&Session>
+        ensures { option_map (λ s. s.now.session) result ≡ option_map (λ n. n.pair.session) (node_at self.now.world.nodes eid) }
+    {
+        let pair = pair_of(&self.pairs, eid)?;
+        Some(pair.session())
+    }
+
+    /// What the cell of a way of a device holds: the command that was asked, its answer once it was taken, and whether its
+    /// asker waits for it. None where the cell is empty, or there is no such device.
+    pub fn cell(&self, eid: u8, way: Way) -> Option<&Held<'a>>
+        ensures { option_map (λ h. h.now) result ≡ cell_in (node_at self.now.world.nodes eid) way }
+    {
+        let pair = pair_of(&self.pairs, eid)?;
+        pair.cell(way)
+    }
+
+    /// What happened, in order.
+    pub fn history(&self) -> &[Entry]
+        ensures { map entry_of result.now ≡ self.now.world.history }
+    {
+        self.history.as_slice()
+    }
+
+    /// A step. Answers whether the bank worked.
+    ///
+    /// # Errors
+    /// As `message_replay`. Nothing has changed then.
+    pub(crate) fn step(&mut self, step: MessageStep) -> Result<bool, MessageStepFault>
+        ensures step { IfOk result (λ works. world_after self.old.world (named_step self.old.world.agent works step) ≡ Some self.new.world) }
+        ensures failed { result ≡ Ok false → BankFailed self.old self.new (device_of step) }
+        ensures refused { IfErr result (λ e. Refuses self.old.world step e) }
+        ensures same { OnErr result (self.new ≡ self.old) }
+    {
+        if step.restarts(self.agent) {
+            restart_each(&mut self.pairs, self.packages);
+            return Ok(true);
+        }
+        let Some(place) = place_of(&self.pairs, step.device()) else {
+            return Err(MessageStepFault::NoSuchNode);
+        };
+        let pair = &mut self.pairs[place];
+        let works = match pair.step(self.alloc, self.packages, step, &mut self.history) {
+            Ok(works) => works,
+            Err(fault) => return Err(fault),
+        };
+        Ok(works)
+    }
+}
+
+/// Where the device of this identifier stands.
+fn place_of<B: Bank>(pairs: &[Pair<'_, B>], eid: u8) -> Option<usize>
+    ensures place { result ≡ place_at (map (λ p. p.node) pairs.now) eid }
+    ensures within { IfSome result (λ place. place < length pairs.now) }
+{
+    for (place, pair) in pairs.iter().enumerate() {
+        if pair.eid() == eid {
+            return Some(place);
+        }
+    }
+    None
+}
+
+/// The pair of this identifier.
+#[tactic(auto, using(crate::proofs::Finding::found_at, crate::proofs::Finding::not_found))]
+fn pair_of<'p, 'a, B: Bank>(pairs: &'p [Pair<'a, B>], eid: u8) -> Option<&'p Pair<'a, B>>
+    ensures { option_map (λ p. p.now.node) result ≡ node_at (map (λ p. p.node) pairs.now) eid }
+{
+    let Some(place) = place_of(pairs, eid) else {
+        return None;
+    };
+    Some(&pairs[place])
+}
+
+/// The agent restarts, and with it each of its sessions.
+fn restart_each<'a, B: Bank>(pairs: &mut Vec<Pair<'a, B>>, packages: &'a [Package])
+    ensures { pairs.new.items ≡ map (counted_restarted packages.now) pairs.old.items }
+{
+    restart_all(pairs.as_mut_slice(), packages);
+}
+
+/// The same over a slice.
+fn restart_all<'a, B: Bank>(pairs: &mut [Pair<'a, B>], packages: &'a [Package])
+    ensures { pairs.new ≡ map (counted_restarted packages.now) pairs.old }
+{
+    for pair in pairs.iter_mut() {
+        pair.restart(packages);
+    }
+}

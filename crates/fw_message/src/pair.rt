@@ -1,0 +1,117 @@
+//! A device, the agent's session for it, and the cells between them.
+
+ghost use Rattle.std.specs.Prelude.{◌≡◌, ◌≤◌, None, Some, false, if◌then◌else◌, not, option_map, true};
+ghost use Rattle.fd_core.specs.States.{DeviceOf};
+ghost use Rattle.fwup_wire.specs.Lent.{command_of};
+ghost use Rattle.fw_message.specs.History.{package_at};
+ghost use Rattle.fw_message.specs.Nodes.{HasComponents, cell_of};
+ghost use Rattle.fw_message.specs.Pairs.{StepOf, down_wish, quietly, step_of, unwished_closed};
+ghost use Rattle.fw_message.specs.WorldLaws.{new_node};
+ghost use Rattle.fw_message.specs.declared.side.Way.TheVariants as ways;
+ghost use Rattle.fw_message.specs.declared.side.Side.TheVariants as sides;
+
+use crate::cell::Held;
+use crate::side::Way;
+use fd_core::{Bank, Device};
+use fw_package::Package;
+use std::alloc::Global;
+use std::marker::Model;
+use ua_core::{Lent, Session};
+
+mod asking;
+mod calling;
+mod serving;
+mod stepping;
+mod waiting;
+
+/// A device, the agent's session for it, and the two cells: of what the agent asks the device, and of what the device
+/// asks the agent.
+#[derive(Drop)]
+pub struct Pair<'a, B: Bank> {
+    eid: u8,
+    device: Device<B>,
+    session: Session,
+    down: Option<Held<'a>>,
+    up: Option<Held<'a>>,
+}
+
+impl<'a, B: Bank> Model for Pair<'a, B> {
+    ghost use Rattle.fw_message.specs.Nodes.{CountedOf, HasComponents};
+
+    ghost Value = { CountedOf };
+
+    ghost view = { λ p. record {
+      node = record {
+        eid = p.eid;
+        pair = record { device = p.device.device; session = p.session.session; down = p.down; up = p.up };
+      };
+      faults = p.device.faults;
+    } };
+
+    ghost invariant = { λ p. HasComponents p.device.device };
+}
+
+impl<'a, B: Bank> Pair<'a, B> {
+    /// A device that starts now, and a new session.
+    #[tactic(auto, using(crate::proofs::Components::restart_components))]
+    pub fn new(alloc: Global, eid: u8, device: Device<B>) -> Pair<'a, B>
+        requires { HasComponents device.device }
+        ensures node { result.node ≡ new_node eid device.device }
+        ensures faults { result.faults ≡ device.faults }
+    {
+        let mut device = device;
+        device.restart();
+        Pair {
+            eid,
+            device,
+            session: Session::new(alloc),
+            down: None,
+            up: None,
+        }
+    }
+
+    /// The device's endpoint identifier.
+    pub fn eid(&self) -> u8
+        ensures { result ≡ self.now.node.eid }
+    {
+        self.eid
+    }
+
+    /// The device.
+    pub fn device(&self) -> &Device<B>
+        ensures device { result.now.device ≡ self.now.node.pair.device }
+        ensures faults { result.now.faults ≡ self.now.faults }
+    {
+        &self.device
+    }
+
+    /// What the cell of a way holds.
+    pub fn cell(&self, way: Way) -> Option<&Held<'a>>
+        ensures { option_map (λ h. h.now) result ≡ cell_of self.now.node.pair way }
+    {
+        match way {
+            Way::Down => self.down.as_ref(),
+            Way::Up => self.up.as_ref(),
+        }
+    }
+
+    /// The agent's session for the device.
+    pub fn session(&self) -> &Session
+        ensures { result.now.session ≡ self.now.node.pair.session }
+    {
+        &self.session
+    }
+}
+
+/// The package of this number, from 1 on, as a session is lent it.
+pub fn lent<'a>(packages: &'a [Package], number: usize) -> Lent<'a>
+    ensures { result ≡ package_at packages.now number }
+{
+    let Some(index) = number.checked_sub(1) else {
+        return Lent::none();
+    };
+    match packages.get(index) {
+        Some(package) => Lent::some(package),
+        None => Lent::none(),
+    }
+}

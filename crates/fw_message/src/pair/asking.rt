@@ -1,0 +1,141 @@
+//! What is asked, and what is no longer waited for.
+
+ghost use Rattle.std.specs.Prelude.{◌≡◌, None, Some, false, if◌then◌else◌, true};
+ghost use Rattle.fw_message.specs.Pairs.{StepOf, asked, closed_unless, dropped_cell, given_up, quietly, step_of, unwished_closed};
+ghost use Rattle.fw_message.specs.declared.side.Way.TheVariants as ways;
+ghost use Rattle.fwup_wire.specs.Lent.{command_of};
+ghost use Rattle.std.specs.Prelude.{option_map};
+
+use crate::cell::Held;
+use crate::pair::{Pair, lent};
+use fd_core::Bank;
+use fw_package::Package;
+use fwup_wire::Command;
+
+impl<'a, B: Bank> Pair<'a, B> {
+    /// The agent asks what the session wishes. False where nothing is wished or the cell isn't empty.
+    pub fn ask_down(&mut self, packages: &'a [Package]) -> bool
+        ensures step { step_of packages.now self.old.node.pair StepOf.AskDown ≡ (if result then Some (quietly self.new.node.pair) else None) }
+        ensures same { result ≡ false → self.new ≡ self.old }
+        ensures eid { self.new.node.eid ≡ self.old.node.eid }
+        ensures faults { self.new.faults ≡ self.old.faults }
+    {
+        let wish = self.session.wish(&lent(packages, self.session.package()));
+        ask(&mut self.down, wish)
+    }
+
+    /// The device asks what it wishes.
+    pub fn ask_up(&mut self, packages: &'a [Package]) -> bool
+        ensures step { step_of packages.now self.old.node.pair StepOf.AskUp ≡ (if result then Some (quietly self.new.node.pair) else None) }
+        ensures same { result ≡ false → self.new ≡ self.old }
+        ensures eid { self.new.node.eid ≡ self.old.node.eid }
+        ensures faults { self.new.faults ≡ self.old.faults }
+    {
+        let wish = self.device.wish();
+        ask(&mut self.up, wish)
+    }
+
+    /// What nobody waits for in the cell of what the agent asks is gone.
+    pub fn drop_down(&mut self, packages: &'a [Package]) -> bool
+        ensures step { step_of packages.now self.old.node.pair (StepOf.Drop ways.Down) ≡ (if result then Some (quietly self.new.node.pair) else None) }
+        ensures same { result ≡ false → self.new ≡ self.old }
+        ensures eid { self.new.node.eid ≡ self.old.node.eid }
+        ensures faults { self.new.faults ≡ self.old.faults }
+    {
+        drop_closed(&mut self.down)
+    }
+
+    /// The same of what the device asks.
+    pub fn drop_up(&mut self, packages: &'a [Package]) -> bool
+        ensures step { step_of packages.now self.old.node.pair (StepOf.Drop ways.Up) ≡ (if result then Some (quietly self.new.node.pair) else None) }
+        ensures same { result ≡ false → self.new ≡ self.old }
+        ensures eid { self.new.node.eid ≡ self.old.node.eid }
+        ensures faults { self.new.faults ≡ self.old.faults }
+    {
+        drop_closed(&mut self.up)
+    }
+
+    /// The agent waits no longer, and the session is told that there was no answer.
+    pub fn give_up_down(&mut self, packages: &'a [Package]) -> bool
+        ensures step { step_of packages.now self.old.node.pair (StepOf.GiveUp ways.Down) ≡ (if result then Some (quietly self.new.node.pair) else None) }
+        ensures same { result ≡ false → self.new ≡ self.old }
+        ensures eid { self.new.node.eid ≡ self.old.node.eid }
+        ensures faults { self.new.faults ≡ self.old.faults }
+    {
+        let given_up = give_up(&mut self.down);
+        if given_up {
+            self.session.silent();
+        }
+        given_up
+    }
+
+    /// The device waits no longer.
+    pub fn give_up_up(&mut self, packages: &'a [Package]) -> bool
+        ensures step { step_of packages.now self.old.node.pair (StepOf.GiveUp ways.Up) ≡ (if result then Some (quietly self.new.node.pair) else None) }
+        ensures same { result ≡ false → self.new ≡ self.old }
+        ensures eid { self.new.node.eid ≡ self.old.node.eid }
+        ensures faults { self.new.faults ≡ self.old.faults }
+    {
+        give_up(&mut self.up)
+    }
+
+    /// What is no longer wished is no longer waited for.
+    #[tactic(auto, unfolding(crate::specs::Pairs::unwished_closed))]
+    pub fn close_unwished(&mut self, packages: &'a [Package])
+        ensures pair { self.new.node.pair ≡ unwished_closed packages.now self.old.node.pair }
+        ensures eid { self.new.node.eid ≡ self.old.node.eid }
+        ensures faults { self.new.faults ≡ self.old.faults }
+    {
+        let wish = self.session.wish(&lent(packages, self.session.package()));
+        close_unless(&mut self.down, &wish);
+        close_unless(&mut self.up, &self.device.wish());
+    }
+}
+
+/// An empty cell takes up what is wished.
+fn ask<'a>(cell: &mut Option<Held<'a>>, wish: Option<Command<'a>>) -> bool
+    ensures asked { asked cell.old (option_map command_of wish.entry) ≡ (if result then Some cell.new else None) }
+    ensures same { result ≡ false → cell.new ≡ cell.old }
+{
+    let (None, Some(command)) = (&*cell, wish) else {
+        return false;
+    };
+    *cell = Some(Held::new(command));
+    true
+}
+
+/// A cell that nobody waits for is emptied.
+fn drop_closed(cell: &mut Option<Held<'_>>) -> bool
+    ensures dropped { dropped_cell cell.old ≡ (if result then Some cell.new else None) }
+    ensures same { result ≡ false → cell.new ≡ cell.old }
+{
+    match cell {
+        Some(held) if !held.is_live() => {}
+        _ => return false,
+    }
+    *cell = None;
+    true
+}
+
+/// The asker waits no longer.
+fn give_up(cell: &mut Option<Held<'_>>) -> bool
+    ensures given_up { given_up cell.old ≡ (if result then Some cell.new else None) }
+    ensures same { result ≡ false → cell.new ≡ cell.old }
+{
+    match cell {
+        Some(held) if held.is_live() => {
+            held.close();
+            true
+        }
+        _ => false,
+    }
+}
+
+/// The asker waits no longer, unless this is what it wishes.
+fn close_unless(cell: &mut Option<Held<'_>>, wish: &Option<Command<'_>>)
+    ensures { cell.new ≡ closed_unless (option_map command_of wish.now) cell.old }
+{
+    if let Some(held) = cell {
+        held.close_unless(wish);
+    }
+}

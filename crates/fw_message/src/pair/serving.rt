@@ -1,0 +1,264 @@
+//! What is taken, learnt and judged.
+
+ghost use Rattle.std.specs.Prelude.{[], ◌≡◌, ◌≤◌, ◌∷◌, Bool, length, vec_capacity, IfNone, IfOk, IfSome, None, Some, false, if◌then◌else◌, is_some, map, option_map, option_to_list, true};
+ghost use Rattle.fd_core.specs.Images.{applied_of, row_of};
+ghost use Rattle.fd_core.specs.States.{staged_of};
+ghost use Rattle.fd_core.specs.Steps.{applied_by, device_verdict, verdict_after};
+ghost use Rattle.fd_core.specs.Wishes.{has_failed};
+ghost use Rattle.fw_message.specs.Entries.{put_of};
+ghost use Rattle.fw_message.specs.History.{EntryOf};
+ghost use Rattle.fw_message.specs.Nodes.{Rose, is_activation, may_take, to_activate, waits};
+ghost use Rattle.fw_message.specs.Pairs.{StepOf, activated_down, quietly, step_of};
+
+use crate::entry::Image;
+use crate::images::applied_images;
+use crate::pair::{Pair, lent};
+use fd_core::{Bank, Device, Key, Progress, State, Verdict};
+use fw_package::Package;
+use fwup_wire::{Answer, Command};
+use pldm_base::completion::ERROR;
+use std::alloc::{AllocError, Global};
+use ua_core::Recorded;
+
+impl<'a, B: Bank> Pair<'a, B> {
+    /// The session takes what the device asked, and answers it. None where nothing waits to be taken; else what the
+    /// session recorded.
+    #[tactic(auto, unfolding(crate::specs::Pairs::up_taken), using(crate::proofs::Records::recorded_behind))]
+    pub fn take_up(&mut self, packages: &'a [Package]) -> Option<Option<Recorded>>
+        ensures step { step_of packages.now self.old.node.pair StepOf.TakeUp ≡ option_map (λ r. record { after = self.new.node.pair; noted = map EntryOf.Recording (option_to_list r) }) result }
+        ensures same { result ≡ None → self.new ≡ self.old }
+        ensures eid { self.new.node.eid ≡ self.old.node.eid }
+        ensures faults { self.new.faults ≡ self.old.faults }
+    {
+        let Some(held) = &mut self.up else {
+            return None;
+        };
+        if held.is_taken() {
+            return None;
+        }
+        let made = self.session.records().len();
+        let lent = lent(packages, self.session.package());
+        let reply = self.session.take(&held.command(), &lent);
+        held.take(reply);
+        Some(self.session.records().get(made).copied())
+    }
+
+    /// The device takes what the agent asked, and answers it. None where nothing waits to be taken, or where the device
+    /// would be told that it is quiet while its own cell isn't empty; else whether its bank worked.
+    #[tactic(auto, unfolding(crate::specs::Pairs::down_taken), using(crate::proofs::Components::take_components))]
+    pub fn take_down(&mut self, packages: &'a [Package], quiet: bool) -> Option<bool>
+        ensures step { IfSome result (λ works. step_of packages.now self.old.node.pair (StepOf.TakeDown quiet works) ≡ Some (record {
+          after = self.new.node.pair;
+          noted = map EntryOf.Activated (activated_down self.old.node.pair quiet works);
+        })) }
+        ensures none { IfNone result ((works : Bool) → step_of packages.now self.old.node.pair (StepOf.TakeDown quiet works) ≡ None) }
+        ensures same { result ≡ None → self.new ≡ self.old }
+        ensures failed { result ≡ Some false → Rose self.old.faults self.new.faults }
+        ensures eid { self.new.node.eid ≡ self.old.node.eid }
+        ensures faults { self.old.faults ≤ self.new.faults }
+    {
+        let Some(held) = &mut self.down else {
+            return None;
+        };
+        if held.is_taken() || quiet && self.up.is_some() {
+            return None;
+        }
+        let reply = self.device.take(&held.command(), quiet);
+        let works = !matches!(reply.as_slice(), [ERROR, ..]);
+        held.take(reply);
+        Some(works)
+    }
+
+    /// Whether what the agent asked waits to be taken by a device that is told so of its own requests.
+    pub fn may_take(&self, quiet: bool) -> bool
+        ensures { result ≡ may_take self.now.node.pair quiet }
+    {
+        match &self.down {
+            Some(held) => !held.is_taken() && !(quiet && self.up.is_some()),
+            None => false,
+        }
+    }
+
+    /// Whether what the device asked waits to be taken.
+    pub fn waits_up(&self) -> bool
+        ensures { result ≡ waits self.now.node.pair.up }
+    {
+        match &self.up {
+            Some(held) => !held.is_taken(),
+            None => false,
+        }
+    }
+
+    /// A copy of what the device activates if it takes what the agent asked: nothing, unless that is ActivateFirmware.
+    #[tactic(auto, using(crate::proofs::Applied::all_applied))]
+    pub fn images_to_activate(&self, alloc: Global) -> Result<Vec<Image>, AllocError>
+        ensures { IfOk result (λ images. map put_of images.items ≡ to_activate self.now.node.pair) }
+    {
+        match &self.down {
+            Some(held) if matches!(held.command(), Command::ActivateFirmware { .. }) => {
+                applied_images(alloc, self.device.bank(), self.device.keys())
+            }
+            _ => Ok(Vec::new(alloc)),
+        }
+    }
+
+    /// Whether the device answered that it activated.
+    pub fn has_activated(&self) -> bool
+        ensures { result ≡ is_activation self.now.node.pair.down }
+    {
+        match &self.down {
+            Some(held) => matches!(held.answer(), Some(Answer::ActivateFirmware { .. })),
+            None => false,
+        }
+    }
+
+    /// The bytes of the image that a verdict applies, at most.
+    pub fn room_for(&self, verdict: Verdict) -> usize
+        ensures { verdict ≡ Verdict.ApplyOk → IfSome (staged_of self.now.node.pair.device.phase) (λ s. s.1 ≤ result) }
+    {
+        match (verdict, self.device.staged()) {
+            (Verdict::ApplyOk, Some((_, size))) => size as usize,
+            _ => 0,
+        }
+    }
+
+    /// A verdict on the image that the device has written. None where it doesn't count; else whether its bank worked.
+    #[tactic(auto, using(crate::proofs::Components::judge_components, crate::proofs::Working::judges_alike))]
+    pub fn judge(&mut self, packages: &'a [Package], verdict: Verdict) -> Option<bool>
+        ensures step { IfSome result (λ works. step_of packages.now self.old.node.pair (StepOf.Judge verdict works) ≡ Some (record {
+          after = self.new.node.pair;
+          noted = map EntryOf.Applied (applied_by self.old.node.pair.device verdict works);
+        })) }
+        ensures none { IfNone result ((works : Bool) → step_of packages.now self.old.node.pair (StepOf.Judge verdict works) ≡ None) }
+        ensures same { result ≡ None → self.new ≡ self.old }
+        ensures failed { result ≡ Some false → Rose self.old.faults self.new.faults }
+        ensures eid { self.new.node.eid ≡ self.old.node.eid }
+        ensures faults { self.old.faults ≤ self.new.faults }
+    {
+        let Ok(()) = self.device.verdict(verdict) else {
+            return None;
+        };
+        Some(verdict != Verdict::ApplyOk || !has_failed(&self.device))
+    }
+
+    /// The same, with a copy of the image that is applied by it. `room` is empty, with the capacity of that image.
+    #[tactic(auto, using(crate::proofs::Sealing::applies, crate::proofs::Working::applies_nothing))]
+    pub fn judge_noting(
+        &mut self,
+        packages: &'a [Package],
+        verdict: Verdict,
+        room: Vec<u8>,
+    ) -> Option<(bool, Option<Image>)>
+        requires empty { room.items ≡ [] }
+        requires room { verdict ≡ Verdict.ApplyOk → IfSome (staged_of self.old.node.pair.device.phase) (λ s. s.1 ≤ vec_capacity room) }
+        ensures step { IfSome result (λ r. step_of packages.now self.old.node.pair (StepOf.Judge verdict r.0) ≡ Some (record {
+          after = self.new.node.pair;
+          noted = map EntryOf.Applied (map put_of (option_to_list r.1));
+        })) }
+        ensures none { IfNone result ((works : Bool) → step_of packages.now self.old.node.pair (StepOf.Judge verdict works) ≡ None) }
+        ensures same { result ≡ None → self.new ≡ self.old }
+        ensures failed { IfSome result (λ r. r.0 ≡ false → Rose self.old.faults self.new.faults) }
+        ensures eid { self.new.node.eid ≡ self.old.node.eid }
+        ensures faults { self.old.faults ≤ self.new.faults }
+    {
+        let staged = self.device.staged();
+        let works = self.judge(packages, verdict)?;
+        if verdict != Verdict::ApplyOk || !works {
+            return Some((works, None));
+        }
+        let Some((key, _)) = staged else {
+            return Some((works, None));
+        };
+        Some((works, copied(self.device.bank(), key, room)))
+    }
+
+    /// Whether the device waits for this verdict.
+    pub fn awaits(&self, verdict: Verdict) -> bool
+        ensures { (works : Bool) → is_some (device_verdict self.now.node.pair.device verdict works) ≡ result }
+    {
+        let progress = self.device.progress();
+        match self.device.state() {
+            State::Verify => matches!(
+                (progress, verdict),
+                (
+                    Some(Progress::InProgress),
+                    Verdict::VerifyOk | Verdict::VerifyFail
+                )
+            ),
+            State::Apply => matches!(
+                (progress, verdict),
+                (
+                    Some(Progress::InProgress),
+                    Verdict::ApplyOk | Verdict::ApplyFail
+                )
+            ),
+            _ => false,
+        }
+    }
+
+    /// The session learns the answer that it waits for. False where there is none.
+    pub fn learn_down(&mut self, packages: &'a [Package]) -> bool
+        ensures step { step_of packages.now self.old.node.pair StepOf.LearnDown ≡ (if result then Some (quietly self.new.node.pair) else None) }
+        ensures same { result ≡ false → self.new ≡ self.old }
+        ensures eid { self.new.node.eid ≡ self.old.node.eid }
+        ensures faults { self.new.faults ≡ self.old.faults }
+    {
+        let Some(held) = &self.down else {
+            return false;
+        };
+        if !held.is_live() {
+            return false;
+        }
+        let Some(answer) = held.answer() else {
+            return false;
+        };
+        let lent = lent(packages, self.session.package());
+        self.session.learn(Ok(&answer), &lent);
+        self.down = None;
+        true
+    }
+
+    /// The device learns the answer that it waits for. None where there is none; else whether its bank worked.
+    #[tactic(auto, using(crate::proofs::Components::learn_components, crate::proofs::Working::learns_failed))]
+    pub fn learn_up(&mut self, packages: &'a [Package]) -> Option<bool>
+        ensures step { IfSome result (λ works. step_of packages.now self.old.node.pair (StepOf.LearnUp works) ≡ Some (quietly self.new.node.pair)) }
+        ensures none { IfNone result ((works : Bool) → step_of packages.now self.old.node.pair (StepOf.LearnUp works) ≡ None) }
+        ensures same { result ≡ None → self.new ≡ self.old }
+        ensures failed { result ≡ Some false → Rose self.old.faults self.new.faults }
+        ensures eid { self.new.node.eid ≡ self.old.node.eid }
+        ensures faults { self.old.faults ≤ self.new.faults }
+    {
+        let Some(held) = &self.up else {
+            return None;
+        };
+        if !held.is_live() {
+            return None;
+        }
+        let answer = held.answer()?;
+        let had_failed = has_failed(&self.device);
+        self.device.learn(Ok(&answer));
+        self.up = None;
+        Some(had_failed || !has_failed(&self.device))
+    }
+}
+
+/// A copy of the image that is applied for a component, into room that is empty; None where there is none, or not the room.
+fn copied<B: Bank>(bank: &B, key: Key, room: Vec<u8>) -> Option<Image>
+    requires { room.items ≡ [] }
+    ensures { IfSome (applied_of (row_of (B.rows bank.now) key)) (λ image. length image.bytes ≤ vec_capacity room
+        → map put_of (option_to_list result) ≡ record { key = key; bytes = image.bytes } ∷ []) }
+{
+    let (_, image) = bank.applied(key)?;
+    let mut bytes = room;
+    let Ok(()) = bytes.extend_from_slice(image) else {
+        return None;
+    };
+    Some(Image { key, bytes })
+}
+
+/// Whether the work of the device's state failed.
+fn has_failed<B: Bank>(device: &Device<B>) -> bool
+    ensures { result ≡ has_failed device.now.device.phase }
+{
+    matches!(device.progress(), Some(Progress::Failed { .. }))
+}

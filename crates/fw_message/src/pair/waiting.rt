@@ -1,0 +1,70 @@
+//! Time-outs: as many ticks without a change as they take.
+
+ghost use Rattle.std.specs.Prelude.{◌≡◌, None, Some, false, if◌then◌else◌, true};
+ghost use Rattle.fd_core.specs.Steps.{device_timeout, times_out as device_times_out};
+ghost use Rattle.ua_core.specs.Calls.{agent_timeout, times_out as session_times_out};
+ghost use Rattle.fw_message.specs.Pairs.{StepOf, quietly, step_of};
+ghost use Rattle.fw_message.specs.declared.side.Side.TheVariants as sides;
+
+use crate::pair::Pair;
+use fd_core::{Bank, Device, State};
+use fw_package::Package;
+use ua_core::{IDLE_LIMIT, Session};
+
+impl<'a, B: Bank> Pair<'a, B> {
+    /// The session has waited too long. False where it doesn't wait.
+    pub fn time_out_session(&mut self, packages: &'a [Package]) -> bool
+        ensures step { step_of packages.now self.old.node.pair (StepOf.TimeOut sides.Agent) ≡ (if result then Some (quietly self.new.node.pair) else None) }
+        ensures same { result ≡ false → self.new ≡ self.old }
+        ensures eid { self.new.node.eid ≡ self.old.node.eid }
+        ensures faults { self.new.faults ≡ self.old.faults }
+    {
+        if self.session.state().is_free() {
+            return false;
+        }
+        wait_for_session(&mut self.session);
+        true
+    }
+
+    /// The device has waited too long. False where it is idle.
+    #[tactic(auto, using(crate::proofs::Components::timeout_components))]
+    pub fn time_out_device(&mut self, packages: &'a [Package]) -> bool
+        ensures step { step_of packages.now self.old.node.pair (StepOf.TimeOut sides.Device) ≡ (if result then Some (quietly self.new.node.pair) else None) }
+        ensures same { result ≡ false → self.new ≡ self.old }
+        ensures eid { self.new.node.eid ≡ self.old.node.eid }
+        ensures faults { self.new.faults ≡ self.old.faults }
+    {
+        if self.device.state() == State::Idle {
+            return false;
+        }
+        wait_for_device(&mut self.device);
+        true
+    }
+}
+
+/// Ticks pass until a session that waits has waited too long.
+fn wait_for_session(session: &mut Session)
+    requires { session_times_out session.old.session.stage ≡ true }
+    ensures { session.new.session ≡ agent_timeout session.old.session }
+{
+    for _ in 0..IDLE_LIMIT {
+        session.idle_tick();
+        if session.state().is_free() {
+            return;
+        }
+    }
+}
+
+/// Ticks pass until a device that isn't idle has waited too long.
+fn wait_for_device<B: Bank>(device: &mut Device<B>)
+    requires { device_times_out device.old.device.phase ≡ true }
+    ensures device { device.new.device ≡ device_timeout device.old.device }
+    ensures faults { device.new.faults ≡ device.old.faults }
+{
+    for _ in 0..IDLE_LIMIT {
+        device.idle_tick();
+        if device.state() == State::Idle {
+            return;
+        }
+    }
+}

@@ -1,0 +1,37 @@
+//! Replays of steps over whole messages.
+
+ghost use Rattle.std.specs.Prelude.{◌≡◌, ◌<◌, IfErr, IfSome, List, OnOk, length, slice_get, take};
+ghost use Rattle.fw_message.specs.Replays.{CountedWorldOf, Refuses, Run};
+ghost use Rattle.fw_message.specs.WorldLaws.{IsOpeningWorld, IsSafeWorld};
+ghost use Rattle.fw_message.specs.declared.step.MessageStep.{MessageStep};
+
+use crate::laws::worlds_are_safe;
+use crate::messages::MessageWorld;
+use crate::step::{MessageStep, MessageStepFault};
+use fd_core::Bank;
+
+/// Takes these steps one after another. Whatever is called on a world that began as it was constructed, its history is then
+/// safe: the images that a device activates in one go are those that one package names for it, each recorded since its
+/// activation before, and each record has an application of its own before it; and tied: what runs on a device and what the
+/// agent has recorded are what the history says.
+///
+/// # Errors
+/// The number of the step that isn't taken, counted from 0, and why: `NoSuchNode`, else `NotNow` or `Refused`, else
+/// `Memory`. The world is then the one after the steps before it.
+pub fn message_replay<B: Bank + Drop>(
+    world: &mut MessageWorld<'_, B>,
+    steps: &[MessageStep],
+) -> Result<(), (usize, MessageStepFault)>
+    ensures ok { OnOk result (Run world.old steps.now world.new) }
+    ensures stopped { IfErr result (λ e. (e.0 < length steps.now) × Run world.old (take e.0 steps.now) world.new × IfSome (slice_get steps.now e.0) (λ s. Refuses world.new.world s e.1)) }
+    ensures safe { (opening : CountedWorldOf) (before : List MessageStep) → IsOpeningWorld opening.world → Run opening before world.old → IsSafeWorld opening.world world.new.world }
+{
+    worlds_are_safe();
+    for (i, step) in steps.iter().enumerate() {
+        match world.step(*step) {
+            Ok(_) => {}
+            Err(fault) => return Err((i, fault)),
+        }
+    }
+    Ok(())
+}

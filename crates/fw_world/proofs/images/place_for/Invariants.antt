@@ -1,8 +1,0 @@
-use Rattle.std.proofs.Common.{◌≡◌, ◌+◌, drop, map}
-use Rattle.fw_world.specs.Entries.{place_in, put_of}
-use Rattle.fw_world.proofs.images.place_for.Given as goal
-
--- all before this one stand before the key
-abbrev pub invariant-loop-place : goal.invariant-loop-place
-invariant-loop-place l =
-    place_in (map put_of l.images) l.key ≡ l.place + place_in (map put_of (drop l.place l.images)) l.key

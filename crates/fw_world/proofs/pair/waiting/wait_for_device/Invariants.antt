@@ -1,8 +1,0 @@
-use Rattle.std.proofs.Common.{◌≡◌, ◌+◌, ◌<◌}
-use Rattle.fw_world.proofs.pair.waiting.wait_for_device.Given as goal
-
--- nothing changed but the count of ticks
-abbrev pub invariant-loop : goal.invariant-loop
-invariant-loop g l =
-    (l.device.device ≡ l.fn.device.device) × (l.device.idle ≡ l.fn.device.idle + l.counter)
-    × (l.device.faults ≡ l.fn.device.faults) × (0 < l.counter → l.device.idle < 240)
