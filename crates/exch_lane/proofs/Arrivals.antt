@@ -4,7 +4,7 @@ use Rattle.std.proofs.lemmas.Bool.{eq-eqb, ne_eqb}
 use Rattle.mctp_wire.specs.Packet as wire
 use Rattle.mctp_wire.specs.declared.layout.Head.{Head}
 use Rattle.mctp_reasm.specs.Pieces.{IsMessage, MessageOf, PacketOf, pieces, spelled}
-use Rattle.exch_lane.specs.Sides.{for_end, is_for, packet_for}
+use Rattle.mctp_reasm.specs.Inboxes.{for_end, is_for, packet_for}
 use Rattle.exch_lane.proofs.Below.{Laws}
 use Rattle.exch_lane.proofs.Pieces.{piece_reads}
 

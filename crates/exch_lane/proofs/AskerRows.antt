@@ -10,7 +10,8 @@ use Rattle.pldm_exch.specs.Caller.{Open, answer_body, answer_in, closed_by, hear
 use Rattle.exch_lane.specs.Cells.{cell_at_asker}
 use Rattle.exch_lane.specs.Clocks.{Clock}
 use Rattle.exch_lane.specs.Lanes.{LaneOf, Sent, asker_clock}
-use Rattle.exch_lane.specs.Sides.{AskerRow, asker_answered, asker_fed, held_at}
+use Rattle.mctp_reasm.specs.Inboxes.{held_at}
+use Rattle.pldm_exch.specs.Sides.{AskerRow, asker_answered, asker_fed}
 use Rattle.exch_lane.specs.Steps.{asker_does, asker_row_in}
 use Rattle.exch_lane.proofs.Arrivals.{packet_arrives, piece_tag}
 use Rattle.exch_lane.proofs.AskerHears.{ReplyCame, asker_holds, asker_learns}

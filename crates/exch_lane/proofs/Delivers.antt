@@ -4,7 +4,7 @@ use Rattle.std.proofs.lemmas.Bool.{cases_lt, le-ltb, lt-ltb}
 use Rattle.std.proofs.lemmas.Bool.Decides.{eqb_tells}
 use Rattle.exch_lane.specs.Cells.{cell_delivers, cell_hears}
 use Rattle.exch_lane.specs.Lanes.{LaneOf, Sent, numbered}
-use Rattle.exch_lane.specs.Sides.{packet_for}
+use Rattle.mctp_reasm.specs.Inboxes.{packet_for}
 use Rattle.exch_lane.specs.Steps.{asker_row_in, delivers, lane_hears, may_deliver, taker_row_in}
 use Rattle.exch_lane.specs.declared.step.End.{End}
 use Rattle.exch_lane.specs.declared.step.End.TheVariants as ends

@@ -6,8 +6,9 @@ use Rattle.pldm_exch.specs.Caller.{IsCaller, Open, fresh, is_quiet, last_tag, re
 use Rattle.pldm_exch.specs.Kept.{kept_at}
 use Rattle.exch_lane.specs.Cells.{Cell, CellRun}
 use Rattle.exch_lane.specs.Clocks.{Clock}
-use Rattle.exch_lane.specs.Lanes.{AskerOf, LaneOf, Sent, TakerOf, asker_clock, taker_clock}
-use Rattle.exch_lane.specs.Sides.{held_at}
+use Rattle.exch_lane.specs.Lanes.{LaneOf, Sent, asker_clock, taker_clock}
+use Rattle.pldm_exch.specs.Ends.{AskerOf, TakerOf}
+use Rattle.mctp_reasm.specs.Inboxes.{held_at}
 use Rattle.exch_lane.proofs.Elapsed.{IsClock, elapsed}
 use Rattle.exch_lane.proofs.Views.{AskerView, Ends, Exchange, TagOf, TagView, TakerView, reply_of, request_of}
 
@@ -38,8 +39,8 @@ abbrev pub view_of : LaneOf → Option ℕ → ℕ → TagView
 view_of w current t =
     record {
       now = w.now;
-      asker_miss = w.asker.since_miss;
-      taker_miss = w.taker.since_miss;
+      asker_miss = w.asker_since_miss;
+      taker_miss = w.taker_since_miss;
       ends = ends_of w t;
       asker = asker_view w.asker t;
       taker = taker_view w.taker t;

@@ -6,7 +6,7 @@ use Rattle.pldm_exch.specs.Laws.{CallerStep}
 use Rattle.pldm_exch.specs.Rests.{fallen}
 use Rattle.exch_lane.specs.Clocks.{MayBeat, beat}
 use Rattle.exch_lane.specs.Lanes.{LaneOf, asker_clock, taker_clock}
-use Rattle.exch_lane.specs.Sides.{AskerTick}
+use Rattle.pldm_exch.specs.Sides.{AskerTick}
 use Rattle.exch_lane.proofs.Below.{Laws}
 use Rattle.exch_lane.proofs.Facts.{bool_cases, some_maps}
 use Rattle.exch_lane.proofs.Ghosts.{Ghost, IsAskedOf, IsCurrent, LaneGood, cell_from}
@@ -56,7 +56,7 @@ pub rested_waits : (l : Laws) (w : LaneOf) (g : Ghost) → w.asker.deaf ≤ 1 �
     → IsWaiting w g true (heard_tick w (rested_caller w.asker.caller))
 rested_waits l w g less none h = record {
   ticked = heard_ticked w (rested_caller w.asker.caller) (caller_ticks l w.asker.caller None none h.body.caller) h.body.own h.body.peer h.body.replies;
-  view = λ t lt. asker_hear_view w.asker (beat true (asker_clock w)).since_miss t (rested_caller w.asker.caller) less (rest_falls w.asker.caller.rests t);
+  view = λ t lt. asker_hear_view w.asker t (rested_caller w.asker.caller) less (rest_falls w.asker.caller.rests t);
   asked = rw none tt;
   last = λ z q. rested_last w g q h;
   unquiet = λ z q. rested_unquiet w g none q h;
@@ -74,7 +74,7 @@ older_waits l w g o may is k not_due not_over h =
     let lawful : IsCaller (older_caller w.asker.caller o) = rw (not_due, not_over) at (caller_ticks l w.asker.caller (Some o) is h.body.caller) in
     record {
       ticked = heard_ticked w (older_caller w.asker.caller o) lawful h.body.own h.body.peer h.body.replies;
-      view = λ t lt. asker_hear_view w.asker (beat true (asker_clock w)).since_miss t (older_caller w.asker.caller o) (omega (arith, k.hears)) (rest_falls w.asker.caller.rests t);
+      view = λ t lt. asker_hear_view w.asker t (older_caller w.asker.caller o) (omega (arith, k.hears)) (rest_falls w.asker.caller.rests t);
       asked = record { hears = refl; current = k.current; of = open_counts (asker_clock w) (record { asker = w.asker_eid; taker = w.taker_eid; tag = o.tag }) o (g.exchanges o.tag) may k.of };
       last = λ z q. h.last k.hears;
       unquiet = λ z q. rw k.current refl;
@@ -101,7 +101,7 @@ over_waits l w g o is k open_is not_due over h =
     let busy = over_busy w.asker.caller o open_is (eqb-true (o.age + 1) 18 over) in
     record {
       ticked = heard_ticked w (over_caller w.asker.caller) lawful h.body.own h.body.peer h.body.replies;
-      view = λ t lt. asker_hear_view w.asker (beat true (asker_clock w)).since_miss t (over_caller w.asker.caller) (omega (arith, k.hears)) (rest_falls w.asker.caller.rests t);
+      view = λ t lt. asker_hear_view w.asker t (over_caller w.asker.caller) (omega (arith, k.hears)) (rest_falls w.asker.caller.rests t);
       asked = tt;
       last = λ z q. h.last k.hears;
       unquiet = λ z q. rw k.current refl;

@@ -15,15 +15,14 @@ mod Journals
 mod Keeping
 mod LaneRows
 mod Lifts
+mod Mine
 mod Packets
 mod Pieces
 mod Quiets
 mod Resends
 mod Restarts
-mod Routes
 mod Running
 mod Runs
-mod SideRows
 mod Tags
 mod TakerHears
 mod TakerRows

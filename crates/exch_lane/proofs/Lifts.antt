@@ -5,8 +5,7 @@ use Rattle.std.proofs.lemmas.List.{get_or-replicate, get_or-set_other, get_or-se
 use Rattle.mctp_reasm.specs.Held.{Held}
 use Rattle.pldm_exch.specs.Caller.{fresh, rest_at}
 use Rattle.pldm_exch.specs.Kept.{Kept, kept_at, none_kept}
-use Rattle.exch_lane.specs.Lanes.{none_held}
-use Rattle.exch_lane.specs.Sides.{held_at}
+use Rattle.mctp_reasm.specs.Inboxes.{none_held, held_at}
 
 -- what stands under a tag after a tick
 pub at_map : {A : Type 0} (f : Option A → Option A) → f None ≡ None → (xs : List (Option A)) (t : ℕ) → get_or (map f xs) t None ≡ f (get_or xs t None)

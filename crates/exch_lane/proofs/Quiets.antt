@@ -6,7 +6,8 @@ use Rattle.mctp_reasm.specs.Held.{held_tick}
 use Rattle.pldm_exch.specs.Caller.{CallerState, IsCaller, Open, is_quiet, last_tag, older, rest_at}
 use Rattle.pldm_exch.specs.Rests.{fallen}
 use Rattle.exch_lane.specs.Clocks.{Clock, MayBeat, beat}
-use Rattle.exch_lane.specs.Lanes.{AskerOf, LaneOf, asker_clock}
+use Rattle.exch_lane.specs.Lanes.{LaneOf, asker_clock}
+use Rattle.pldm_exch.specs.Ends.{AskerOf}
 use Rattle.exch_lane.proofs.Elapsed.{elapsed_counted, elapsed_missed}
 use Rattle.exch_lane.proofs.Facts.{bool_cases, none_is, some_maps}
 use Rattle.exch_lane.proofs.Ghosts.{Ghost, IsAskedOf, IsOpenOf, LaneGood}
@@ -26,20 +27,16 @@ pub open_counts : (c : Clock) (x : Ends) (o : Open) (exchange : Option Exchange)
 open_counts c x o None may h = h
 open_counts c x o (Some e) may h = record { identifier = h.identifier; kind = h.kind; command = h.command; message = h.message; soon = elapsed_counted c e.first o.age may h.soon }
 
--- the asker with its clock gone on
-abbrev pub beaten : LaneOf → Bool → AskerOf
-beaten w asker = record w.asker { since_miss = (beat asker (asker_clock w)).since_miss }
-
 -- a quiet asker has nothing in its cell
 pub none_current : (w : LaneOf) (g : Ghost) (P : ℕ → Type 0) → w.asker.deaf ≡ 0 → is_quiet w.asker.caller ≡ true → LaneGood w g → IfSome g.current P
 none_current w g P hears quiet h = let none : g.current ≡ None = none_is g.current (sym (h.quiet hears) ∙ quiet) in rw none tt
 
 -- a tick that it misses
-pub missed_waits : (w : LaneOf) (g : Ghost) → MayBeat false (asker_clock w) → LaneGood w g → IsWaiting w g false (beaten w false)
+pub missed_waits : (w : LaneOf) (g : Ghost) → MayBeat false (asker_clock w) → LaneGood w g → IsWaiting w g false w.asker
 missed_waits w g may h = record {
-  ticked = record { miss = refl; own = h.body.own; peer = h.body.peer; replies = h.body.replies; caller = h.body.caller; deaf = h.body.deaf };
+  ticked = record { own = h.body.own; peer = h.body.peer; replies = h.body.replies; caller = h.body.caller; deaf = h.body.deaf };
   view = λ t lt. refl;
-  asked = some_maps w.asker.caller.asked (IsAskedOf w g) (IsAskedThen w false (beaten w false) g) h.body.asked
+  asked = some_maps w.asker.caller.asked (IsAskedOf w g) (IsAskedThen w false w.asker g) h.body.asked
       (λ o k. record { hears = k.hears; current = k.current; of = open_misses (asker_clock w) (record { asker = w.asker_eid; taker = w.taker_eid; tag = o.tag }) o (g.exchanges o.tag) may k.of });
   last = λ z q. h.last z;
   unquiet = λ z q. sym (h.quiet z) ∙ q;
@@ -47,11 +44,11 @@ missed_waits w g may h = record {
 }
 
 -- a tick that leaves it deaf
-pub deaf_waits : (w : LaneOf) (g : Ghost) → 1 < w.asker.deaf → LaneGood w g → IsWaiting w g true (record (beaten w true) { deaf = w.asker.deaf - 1 })
+pub deaf_waits : (w : LaneOf) (g : Ghost) → 1 < w.asker.deaf → LaneGood w g → IsWaiting w g true (record w.asker { deaf = w.asker.deaf - 1 })
 deaf_waits w g more h = record {
-  ticked = record { miss = refl; own = h.body.own; peer = h.body.peer; replies = h.body.replies; caller = h.body.caller; deaf = λ _. h.body.deaf (omega arith) };
-  view = λ t lt. asker_wait_view w.asker (beat true (asker_clock w)).since_miss t more;
-  asked = some_maps w.asker.caller.asked (IsAskedOf w g) (IsAskedThen w true (record (beaten w true) { deaf = w.asker.deaf - 1 }) g) h.body.asked (λ o k. absurd (let z = k.hears in omega arith));
+  ticked = record { own = h.body.own; peer = h.body.peer; replies = h.body.replies; caller = h.body.caller; deaf = λ _. h.body.deaf (omega arith) };
+  view = λ t lt. asker_wait_view w.asker t more;
+  asked = some_maps w.asker.caller.asked (IsAskedOf w g) (IsAskedThen w true (record w.asker { deaf = w.asker.deaf - 1 }) g) h.body.asked (λ o k. absurd (let z = k.hears in omega arith));
   last = λ z q. absurd (omega (arith, z, more));
   unquiet = λ z q. absurd (omega (arith, z, more));
   rested = λ z q. absurd (omega (arith, z, more));
@@ -59,11 +56,11 @@ deaf_waits w g more h = record {
 
 -- the asker that hears, with its caller after the tick
 abbrev pub heard_tick : LaneOf → CallerState → AskerOf
-heard_tick w c = record (beaten w true) { deaf = 0; caller = c; replies = map held_tick w.asker.replies }
+heard_tick w c = record w.asker { deaf = 0; caller = c; replies = map held_tick w.asker.replies }
 
 pub heard_ticked : (w : LaneOf) (c : CallerState) → IsCaller c → c.own ≡ w.asker_eid → c.peer ≡ w.taker_eid → length w.asker.replies ≡ 8
     → IsTicked w true (heard_tick w c)
-heard_ticked w c caller own peer long = record { miss = refl; own = own; peer = peer; replies = length-map w.asker.replies held_tick ∙ long; caller = caller; deaf = λ z. absurd (omega (arith, z)) }
+heard_ticked w c caller own peer long = record { own = own; peer = peer; replies = length-map w.asker.replies held_tick ∙ long; caller = caller; deaf = λ z. absurd (omega (arith, z)) }
 
 pub heard_view : (w : LaneOf) (c : CallerState) → w.asker.deaf ≤ 1 → c.rests ≡ fallen w.asker.caller.rests → (t : ℕ) → rest_at c t ≡ rest_at w.asker.caller t - 1
 heard_view w c less fell t = ap (λ rests. get_or rests t 0) fell ∙ rest_falls w.asker.caller.rests t

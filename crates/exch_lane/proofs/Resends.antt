@@ -7,7 +7,7 @@ use Rattle.pldm_exch.specs.Caller.{CallerState, IsCaller, Open, older, rest_at, 
 use Rattle.pldm_exch.specs.Rests.{fallen}
 use Rattle.exch_lane.specs.Clocks.{MayBeat, beat}
 use Rattle.exch_lane.specs.Lanes.{LaneOf, asker_clock, taker_clock}
-use Rattle.exch_lane.specs.Sides.{AskerTick}
+use Rattle.pldm_exch.specs.Sides.{AskerTick}
 use Rattle.exch_lane.specs.Steps.{sendings}
 use Rattle.exch_lane.proofs.Below.{Laws}
 use Rattle.exch_lane.proofs.Elapsed.{elapsed_counted}
@@ -18,7 +18,7 @@ use Rattle.exch_lane.proofs.Hearing.{caller_ticks}
 use Rattle.exch_lane.proofs.Packets.{packets_grow, packets_later, request_sent}
 use Rattle.exch_lane.proofs.Quiets.{heard_tick, heard_ticked}
 use Rattle.exch_lane.proofs.Tags.{view_resends, view_ticks}
-use Rattle.exch_lane.proofs.TickViews.{asker_hear_view, asker_send_view, rest_anew, rest_of_others, taker_tick_miss, taker_tick_view}
+use Rattle.exch_lane.proofs.TickViews.{asker_hear_view, asker_send_view, rest_anew, rest_of_others, taker_tick_view}
 use Rattle.exch_lane.proofs.Ticked.{IsAskedThen, made_same, tag_ticks, ticked_lane, ticks_body}
 use Rattle.exch_lane.proofs.Views.{Exchange, IsExchange, TagOf, asker_at, resent, rested, taker_at, view_ticked}
 use Rattle.exch_lane.proofs.Waits.{TicksRow}
@@ -70,10 +70,9 @@ sent_here : (w : LaneOf) (g : Ghost) (taker : Bool) (o : Open) (e : Exchange) �
 sent_here w g taker o e may allowed d h =
     let anew : rest_at (sent_caller w.asker.caller o) o.tag ≡ 40 = rest_anew w.asker.caller.rests o.tag h.caller.rests d.low in
     let same : view_of (sent_lane w taker o) g.current o.tag ≡ record (view_ticked (view_of w g.current o.tag) true taker) { asker = rested (asker_at true (asker_view w.asker o.tag)) }
-    = made_same (w.now + 1) (beat true (asker_clock w)).since_miss (beat true (asker_clock w)).since_miss (sent_lane w taker o).taker.since_miss (beat taker (taker_clock w)).since_miss (ends_of w o.tag) (asker_view (heard_tick w (sent_caller w.asker.caller o)) o.tag)
-    (rested (asker_at true (asker_view w.asker o.tag))) (taker_view (sent_lane w taker o).taker o.tag) (taker_at taker (taker_view w.taker o.tag)) (is_at g.current o.tag) refl
-    (taker_tick_miss taker w.taker (beat taker (taker_clock w)).since_miss) (asker_send_view w.asker (beat true (asker_clock w)).since_miss o.tag (sent_caller w.asker.caller o) (omega (arith, d.hears)) anew)
-    (taker_tick_view taker w.taker (beat taker (taker_clock w)).since_miss o.tag) in
+    = made_same (w.now + 1) (beat true (asker_clock w)).since_miss (beat taker (taker_clock w)).since_miss (ends_of w o.tag) (asker_view (heard_tick w (sent_caller w.asker.caller o)) o.tag)
+    (rested (asker_at true (asker_view w.asker o.tag))) (taker_view (sent_lane w taker o).taker o.tag) (taker_at taker (taker_view w.taker o.tag)) (is_at g.current o.tag) (asker_send_view w.asker o.tag (sent_caller w.asker.caller o) (omega (arith, d.hears)) anew)
+    (taker_tick_view taker w.taker o.tag) in
     rw (eq-eqb o.tag o.tag refl) (subst (λ v. IsExchange v (resent (w.now + 1) e)) (sym same) (sent_view w g taker o e may allowed d h))
 
 sent_tags : (w : LaneOf) (g : Ghost) (taker : Bool) (o : Open) (e : Exchange) → MayBeat true (asker_clock w) → MayBeat taker (taker_clock w)
@@ -84,8 +83,8 @@ sent_tags w g taker o e may allowed d h t lt = elim (eqb_tells t o.tag) [
   | inr other ↦
       let falls : rest_at (sent_caller w.asker.caller o) t ≡ rest_at w.asker.caller t - 1 = rest_of_others w.asker.caller.rests o.tag t other.1 in
       rw other.0
-      (tag_ticks w g true taker (heard_tick w (sent_caller w.asker.caller o)) (w.packets ++ sendings (w.now + 1) o.message) t may allowed h refl lt
-      (asker_hear_view w.asker (beat true (asker_clock w)).since_miss t (sent_caller w.asker.caller o) (omega (arith, d.hears)) falls))
+      (tag_ticks w g true taker (heard_tick w (sent_caller w.asker.caller o)) (w.packets ++ sendings (w.now + 1) o.message) t may allowed h lt
+      (asker_hear_view w.asker t (sent_caller w.asker.caller o) (omega (arith, d.hears)) falls))
 ]
 
 -- all packets

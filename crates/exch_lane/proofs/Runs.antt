@@ -1,8 +1,11 @@
 -- Lane refinement: a new lane is an empty cell, each step goes on, and so does every list of steps.
-use Rattle.std.proofs.Common.{◌≡◌, ◌≢◌, ◌∙◌, ℕ, List, [], ◌∷◌, Some, None, IsSomeAnd, refl, sym, subst, arith}
+use Rattle.std.proofs.Common.{◌≡◌, ◌≢◌, ◌∙◌, ℕ, true, false, List, [], ◌∷◌, Option, Some, None, IfSome, IsSomeAnd, is_some, refl, sym, subst, arith}
+use Rattle.std.specs.Option.{option_map}
+use Rattle.pldm_exch.specs.Caller.{Open, asking}
 use Rattle.exch_lane.specs.Cells.{cell_along, cells_along}
-use Rattle.exch_lane.specs.Lanes.{LaneOf, StepOf, lane_new}
-use Rattle.exch_lane.specs.Laws.{IsCellOf, LaneIsACell}
+use Rattle.exch_lane.specs.Clocks.{Clock}
+use Rattle.exch_lane.specs.Lanes.{LaneOf, StepOf, asker_clock, lane_new}
+use Rattle.exch_lane.specs.Laws.{IsCellOf, LaneIsACell, awaited}
 use Rattle.exch_lane.specs.Steps.{MayRun, MayTake, lane_after, lane_run}
 use Rattle.exch_lane.specs.declared.step.End.TheVariants as ends
 use Rattle.exch_lane.proofs.Begins.{goes_begin}
@@ -10,10 +13,12 @@ use Rattle.exch_lane.proofs.Below.{Laws}
 use Rattle.exch_lane.proofs.Delivers.{goes_deliver}
 use Rattle.exch_lane.proofs.Elapsed.{clock_new}
 use Rattle.exch_lane.proofs.Facts.{none_is}
-use Rattle.exch_lane.proofs.Ghosts.{Ghost, GoesOn, LaneGood, run_of}
+use Rattle.exch_lane.proofs.Ghosts.{Ghost, GoesOn, IsAskedOf, IsOpenOf, LaneGood, cell_from, cell_with, ends_of, exchange_at, run_of}
 use Rattle.exch_lane.proofs.Lifts.{nothing_held_at, nothing_kept_at}
+use Rattle.exch_lane.proofs.Mine.{of_lane}
 use Rattle.exch_lane.proofs.Restarts.{goes_abandon, goes_restart_asker, goes_restart_taker}
 use Rattle.exch_lane.proofs.Ticks.{goes_tick}
+use Rattle.exch_lane.proofs.Views.{Ends, Exchange}
 
 -- nothing explains a new lane
 abbrev pub ghost_new : Ghost
@@ -50,17 +55,41 @@ step_goes l w g (StepOf.Tick asker taker) may h = goes_tick l w g asker taker ma
 step_goes l w g (StepOf.Restart ends.Asker) may h = goes_restart_asker l w g h
 step_goes l w g (StepOf.Restart ends.Taker) may h = goes_restart_taker w g h
 
+-- what the cell waits for is the open request
+waits_with : (e : Exchange) (r : Option (List ℕ)) → awaited (cell_with e true r) ≡ Some (e.command, e.body)
+waits_with e None = refl
+waits_with e (Some r) = refl
+
+closed_waits : (e : Exchange) (r : Option (List ℕ)) → awaited (cell_with e false r) ≡ None
+closed_waits e None = refl
+closed_waits e (Some r) = refl
+
+none_waits : (e : Option Exchange) → awaited (cell_from false e) ≡ None
+none_waits None = refl
+none_waits (Some e) = closed_waits e e.reply
+
+some_waits : (c : Clock) (x : Ends) (o : Open) (e : Option Exchange) → IsSomeAnd e (IsOpenOf c x o) → awaited (cell_from true e) ≡ Some (asking o)
+some_waits c x o None is = absurd is
+some_waits c x o (Some e) is = waits_with e e.reply ∙ rw (is.command, is.message) refl
+
+waits_of : (w : LaneOf) (g : Ghost) (o : Option Open) → IfSome o (IsAskedOf w g)
+    → awaited (cell_from (is_some o) (exchange_at g.exchanges g.current)) ≡ option_map asking o
+waits_of w g None is = none_waits (exchange_at g.exchanges g.current)
+waits_of w g (Some o) is = rw is.current (some_waits (asker_clock w) (ends_of w o.tag) o (g.exchanges o.tag) is.of)
+
 -- a lane that is explained has its cell
-cell_of_good : (w : LaneOf) (g : Ghost) → LaneGood w g → IsCellOf w (run_of w g)
-cell_of_good w g h = record {
+cell_of_good : (l : Laws) (w : LaneOf) (g : Ghost) → LaneGood w g → IsCellOf w (run_of w g)
+cell_of_good l w g h = record {
+  packets = of_lane l w g h;
   entries = refl;
   quiet = λ hears quiet. let none : g.current ≡ None = none_is g.current (sym (h.quiet hears) ∙ quiet) in rw none refl;
+  waits = waits_of w g w.asker.caller.asked h.body.asked;
 }
 
 -- every list of steps goes on
 run_goes : (l : Laws) (w : LaneOf) (g : Ghost) (ss : List StepOf) → MayRun w ss → LaneGood w g
     → IsSomeAnd (cells_along w ss (Some (run_of w g))) (IsCellOf (lane_run w ss))
-run_goes l w g [] may h = cell_of_good w g h
+run_goes l w g [] may h = cell_of_good l w g h
 run_goes l w g (s ∷ ss) may h =
     let next = step_goes l w g s may.0 h in
     subst (λ run. IsSomeAnd (cells_along (lane_after w s) ss run) (IsCellOf (lane_run (lane_after w s) ss))) (sym next.runs) (run_goes l (lane_after w s) next.ghost ss may.1 next.good)

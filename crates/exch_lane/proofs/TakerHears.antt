@@ -3,7 +3,8 @@ use Rattle.std.proofs.Common.{◌≡◌, ◌<◌, ℕ, List, Option, Some, IfSom
 use Rattle.std.specs.List.{AllByRecursion}
 use Rattle.std.proofs.lemmas.Bool.Decides.{eqb_tells}
 use Rattle.mctp_reasm.specs.Held.{Held}
-use Rattle.exch_lane.specs.Lanes.{EntryOf, LaneOf, Sent, TakerOf, taker_clock}
+use Rattle.exch_lane.specs.Lanes.{EntryOf, LaneOf, Sent, taker_clock}
+use Rattle.pldm_exch.specs.Ends.{TakerOf}
 use Rattle.exch_lane.proofs.Deliveries.{view_taker_holds}
 use Rattle.exch_lane.proofs.Ghosts.{Ghost, GoesOn, IsAskedOf, IsCurrent, IsLiving, LaneGood, ends_of, run_of, view_of}
 use Rattle.exch_lane.proofs.Lifts.{set_here, set_length, set_there}
@@ -18,13 +19,13 @@ abbrev pub taker_turned : LaneOf → TakerOf → List Sent → List EntryOf → 
 taker_turned w taker packets entries = record w { taker = taker; packets = packets; entries = entries }
 
 pub taker_turns : (w : LaneOf) (g : Ghost) (exchanges : ℕ → Option Exchange) (taker : TakerOf) (packets : List Sent) (entries : List EntryOf) → LaneGood w g
-    → length taker.kept ≡ 8 → length taker.requests ≡ 8 → taker.since_miss ≡ w.taker.since_miss
+    → length taker.kept ≡ 8 → length taker.requests ≡ 8
     → ((t : ℕ) → t < 8 → TagOf (view_of (taker_turned w taker packets entries) g.current t) (exchanges t))
     → AllByRecursion (IsLiving w.now w.asker_eid w.taker_eid exchanges) packets
     → IfSome w.asker.caller.asked (IsAskedOf w (record { exchanges = exchanges; current = g.current }))
     → IfSome g.current (IsCurrent (record { exchanges = exchanges; current = g.current }))
     → LaneGood (taker_turned w taker packets entries) (record { exchanges = exchanges; current = g.current })
-taker_turns w g exchanges taker packets entries h kept requests same tags living asked current = record {
+taker_turns w g exchanges taker packets entries h kept requests tags living asked current = record {
   body = record {
     differ = h.body.differ;
     own = h.body.own;
@@ -33,7 +34,7 @@ taker_turns w g exchanges taker packets entries h kept requests same tags living
     kept = kept;
     requests = requests;
     asker_time = h.body.asker_time;
-    taker_time = rw same h.body.taker_time;
+    taker_time = h.body.taker_time;
     caller = h.body.caller;
     tags = tags;
     packets = living;
@@ -63,7 +64,7 @@ pub taker_holds : (w : LaneOf) (g : Ghost) (tag : ℕ) (e : Exchange) (o : Optio
     → GoesOn (taker_turned w (record w.taker { requests = slice_set w.taker.requests tag o }) packets w.entries) (Some (run_of w g))
 taker_holds w g tag e o packets low is hears holds living h = record {
   ghost = g;
-  good = taker_turns w g g.exchanges (record w.taker { requests = slice_set w.taker.requests tag o }) packets w.entries h h.body.kept (set_length w.taker.requests tag o h.body.requests) refl
+  good = taker_turns w g g.exchanges (record w.taker { requests = slice_set w.taker.requests tag o }) packets w.entries h h.body.kept (set_length w.taker.requests tag o h.body.requests)
       (silent_tags w g tag e o packets low is hears holds h) living h.body.asked h.body.current;
   runs = refl;
 }

@@ -9,7 +9,8 @@ use Rattle.pldm_base.specs.declared.header.PldmHead.{PldmHead}
 use Rattle.pldm_exch.specs.Kept.{Kept, asked_as, identifier_in, identifier_of, kept_as, kept_at, kept_with, request_heard}
 use Rattle.exch_lane.specs.Cells.{cell_at_taker, cell_take}
 use Rattle.exch_lane.specs.Lanes.{EntryOf, LaneOf, Sent, taker_clock}
-use Rattle.exch_lane.specs.Sides.{TakerRow, held_at, taker_asked, taker_fed, taker_read}
+use Rattle.mctp_reasm.specs.Inboxes.{held_at}
+use Rattle.pldm_exch.specs.Sides.{TakerRow, taker_asked, taker_fed, taker_read}
 use Rattle.exch_lane.specs.Steps.{sendings, taker_does, taker_row_in}
 use Rattle.exch_lane.proofs.Arrivals.{packet_arrives, piece_tag}
 use Rattle.exch_lane.proofs.Below.{Laws}

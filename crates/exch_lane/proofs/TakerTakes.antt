@@ -6,7 +6,8 @@ use Rattle.std.proofs.lemmas.Bool.Decides.{eqb_tells}
 use Rattle.std.proofs.lemmas.Cmp.{nat_list_eq_equiv}
 use Rattle.pldm_exch.specs.Kept.{Kept, kept_at}
 use Rattle.exch_lane.specs.Cells.{cell_take}
-use Rattle.exch_lane.specs.Lanes.{EntryOf, LaneOf, TakerOf, asker_clock, taker_clock}
+use Rattle.exch_lane.specs.Lanes.{EntryOf, LaneOf, asker_clock, taker_clock}
+use Rattle.pldm_exch.specs.Ends.{TakerOf}
 use Rattle.exch_lane.specs.Steps.{sendings}
 use Rattle.exch_lane.proofs.Deliveries.{new_is_unanswered, unanswered_is_current, view_takes}
 use Rattle.exch_lane.proofs.Facts.{some_maps}
@@ -70,7 +71,7 @@ takes_good w g tag e reply few none c h =
     let living = packets_grow w.now w.asker_eid w.taker_eid g.exchanges tag e e.last (Some reply) w.packets c.is (omega arith) (λ r is. absurd (let clash : None ≡ Some r = sym none ∙ is in cc)) h.body.packets in
     taker_turns w g (put tag (answered_with reply e) g.exchanges) (taker_after w tag e reply) (w.packets ++ sendings w.now (reply_of (ends_of w tag) e reply)) (w.entries ++ EntryOf.Taken e.command e.body reply ∷ []) h
     (set_length w.taker.kept tag (Some (record { identifier = e.identifier; reply = reply_of (ends_of w tag) e reply; age = 0 })) h.body.kept)
-    (set_length w.taker.requests tag None h.body.requests) refl
+    (set_length w.taker.requests tag None h.body.requests)
     (takes_tags w g tag e reply few none c h)
     (reply_sent w.now w.asker_eid w.taker_eid (put tag (answered_with reply e) g.exchanges) tag (answered_with reply e) reply w.packets c.low (put_here tag (answered_with reply e) g.exchanges) refl c.soon living)
     (some_maps w.asker.caller.asked (IsAskedOf w g) (IsAskedOf w (record { exchanges = put tag (answered_with reply e) g.exchanges; current = g.current })) h.body.asked

@@ -6,31 +6,27 @@ use Rattle.mctp_reasm.specs.Held.{held_tick}
 use Rattle.pldm_exch.specs.Caller.{CallerState, rest_at}
 use Rattle.pldm_exch.specs.Kept.{kept_tick}
 use Rattle.pldm_exch.specs.Rests.{AreRests, fallen}
-use Rattle.exch_lane.specs.Lanes.{AskerOf, TakerOf}
-use Rattle.exch_lane.specs.Sides.{taker_tick}
+use Rattle.pldm_exch.specs.Ends.{AskerOf, TakerOf}
+use Rattle.pldm_exch.specs.Sides.{taker_tick}
 use Rattle.exch_lane.proofs.Ghosts.{asker_view, taker_view}
 use Rattle.exch_lane.proofs.Lifts.{at_map}
 use Rattle.exch_lane.proofs.Views.{asker_at, rested, taker_at}
 
 -- the taker
-pub taker_tick_view : (counts : Bool) (a : TakerOf) (miss t : ℕ) → taker_view (taker_tick counts (record a { since_miss = miss })) t ≡ taker_at counts (taker_view a t)
-taker_tick_view false a miss t = refl
-taker_tick_view true a miss t = elim (cases_lt 1 a.deaf) [
+pub taker_tick_view : (counts : Bool) (a : TakerOf) (t : ℕ) → taker_view (taker_tick counts a) t ≡ taker_at counts (taker_view a t)
+taker_tick_view false a t = refl
+taker_tick_view true a t = elim (cases_lt 1 a.deaf) [
   | inl more ↦ rw (lt-leb a.deaf 1 more) refl
   | inr less ↦ rw (le-leb a.deaf 1 less, at_map kept_tick refl a.kept t, at_map held_tick refl a.requests t) refl
 ]
 
-pub taker_tick_miss : (counts : Bool) (a : TakerOf) (miss : ℕ) → (taker_tick counts (record a { since_miss = miss })).since_miss ≡ miss
-taker_tick_miss false a miss = refl
-taker_tick_miss true a miss = elim (cases_lt 1 a.deaf) [ inl more ↦ rw (lt-leb a.deaf 1 more) refl | inr less ↦ rw (le-leb a.deaf 1 less) refl ]
+pub taker_tick_kept : (counts : Bool) (a : TakerOf) → length a.kept ≡ 8 → length (taker_tick counts a).kept ≡ 8
+taker_tick_kept false a h = h
+taker_tick_kept true a h = elim (cases_lt 1 a.deaf) [ inl more ↦ rw (lt-leb a.deaf 1 more) h | inr less ↦ rw (le-leb a.deaf 1 less) (length-map a.kept kept_tick ∙ h) ]
 
-pub taker_tick_kept : (counts : Bool) (a : TakerOf) (miss : ℕ) → length a.kept ≡ 8 → length (taker_tick counts (record a { since_miss = miss })).kept ≡ 8
-taker_tick_kept false a miss h = h
-taker_tick_kept true a miss h = elim (cases_lt 1 a.deaf) [ inl more ↦ rw (lt-leb a.deaf 1 more) h | inr less ↦ rw (le-leb a.deaf 1 less) (length-map a.kept kept_tick ∙ h) ]
-
-pub taker_tick_requests : (counts : Bool) (a : TakerOf) (miss : ℕ) → length a.requests ≡ 8 → length (taker_tick counts (record a { since_miss = miss })).requests ≡ 8
-taker_tick_requests false a miss h = h
-taker_tick_requests true a miss h = elim (cases_lt 1 a.deaf) [ inl more ↦ rw (lt-leb a.deaf 1 more) h | inr less ↦ rw (le-leb a.deaf 1 less) (length-map a.requests held_tick ∙ h) ]
+pub taker_tick_requests : (counts : Bool) (a : TakerOf) → length a.requests ≡ 8 → length (taker_tick counts a).requests ≡ 8
+taker_tick_requests false a h = h
+taker_tick_requests true a h = elim (cases_lt 1 a.deaf) [ inl more ↦ rw (lt-leb a.deaf 1 more) h | inr less ↦ rw (le-leb a.deaf 1 less) (length-map a.requests held_tick ∙ h) ]
 
 -- rests
 pub rest_falls : (rests : List ℕ) (t : ℕ) → get_or (fallen rests) t 0 ≡ get_or rests t 0 - 1
@@ -45,13 +41,13 @@ pub rest_of_others : (rests : List ℕ) (tag t : ℕ) → t ≢ tag → get_or (
 rest_of_others rests tag t other = get_or-set_other (fallen rests) tag t 40 0 other ∙ rest_falls rests t
 
 -- the asker: it waits, or it hears and one tag may rest anew
-pub asker_wait_view : (a : AskerOf) (miss t : ℕ) → 1 < a.deaf → asker_view (record a { since_miss = miss; deaf = a.deaf - 1 }) t ≡ asker_at true (asker_view a t)
-asker_wait_view a miss t more = rw (lt-leb a.deaf 1 more) refl
+pub asker_wait_view : (a : AskerOf) (t : ℕ) → 1 < a.deaf → asker_view (record a { deaf = a.deaf - 1 }) t ≡ asker_at true (asker_view a t)
+asker_wait_view a t more = rw (lt-leb a.deaf 1 more) refl
 
-pub asker_hear_view : (a : AskerOf) (miss t : ℕ) (c : CallerState) → a.deaf ≤ 1 → rest_at c t ≡ rest_at a.caller t - 1
-    → asker_view (record a { since_miss = miss; deaf = 0; caller = c; replies = map held_tick a.replies }) t ≡ asker_at true (asker_view a t)
-asker_hear_view a miss t c less rest = rw (le-leb a.deaf 1 less, rest, at_map held_tick refl a.replies t) refl
+pub asker_hear_view : (a : AskerOf) (t : ℕ) (c : CallerState) → a.deaf ≤ 1 → rest_at c t ≡ rest_at a.caller t - 1
+    → asker_view (record a { deaf = 0; caller = c; replies = map held_tick a.replies }) t ≡ asker_at true (asker_view a t)
+asker_hear_view a t c less rest = rw (le-leb a.deaf 1 less, rest, at_map held_tick refl a.replies t) refl
 
-pub asker_send_view : (a : AskerOf) (miss t : ℕ) (c : CallerState) → a.deaf ≤ 1 → rest_at c t ≡ 40
-    → asker_view (record a { since_miss = miss; deaf = 0; caller = c; replies = map held_tick a.replies }) t ≡ rested (asker_at true (asker_view a t))
-asker_send_view a miss t c less rest = rw (le-leb a.deaf 1 less, rest, at_map held_tick refl a.replies t) refl
+pub asker_send_view : (a : AskerOf) (t : ℕ) (c : CallerState) → a.deaf ≤ 1 → rest_at c t ≡ 40
+    → asker_view (record a { deaf = 0; caller = c; replies = map held_tick a.replies }) t ≡ rested (asker_at true (asker_view a t))
+asker_send_view a t c less rest = rw (le-leb a.deaf 1 less, rest, at_map held_tick refl a.replies t) refl

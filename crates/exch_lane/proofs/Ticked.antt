@@ -3,12 +3,13 @@ use Rattle.std.proofs.Common.{◌≡◌, ◌+◌, ◌<◌, ℕ, Bool, List, Opti
 use Rattle.std.specs.List.{AllByRecursion}
 use Rattle.pldm_exch.specs.Caller.{IsCaller, Open, fresh}
 use Rattle.exch_lane.specs.Clocks.{MayBeat, beat}
-use Rattle.exch_lane.specs.Lanes.{AskerOf, LaneOf, Sent, asker_clock, taker_clock}
+use Rattle.exch_lane.specs.Lanes.{LaneOf, Sent, asker_clock, taker_clock}
+use Rattle.pldm_exch.specs.Ends.{AskerOf}
 use Rattle.exch_lane.specs.Steps.{tick_begins}
 use Rattle.exch_lane.proofs.Elapsed.{beat_clock}
 use Rattle.exch_lane.proofs.Ghosts.{Ghost, IsCurrent, IsLiving, IsOpenRequest, LaneBody, asker_view, ends_of, is_at, taker_view, view_of}
 use Rattle.exch_lane.proofs.Tags.{view_ticks}
-use Rattle.exch_lane.proofs.TickViews.{taker_tick_kept, taker_tick_miss, taker_tick_requests, taker_tick_view}
+use Rattle.exch_lane.proofs.TickViews.{taker_tick_kept, taker_tick_requests, taker_tick_view}
 use Rattle.exch_lane.proofs.Views.{AskerView, Ends, Exchange, TagOf, TagView, TakerView, asker_at, taker_at, view_ticked}
 
 -- the lane after a tick that leaves this asker and these packets
@@ -17,7 +18,6 @@ ticked_lane w asker taker a packets = record (tick_begins w asker taker) { asker
 
 -- what is true of the asker after each tick
 pub record IsTicked (w : LaneOf) (asker : Bool) (a : AskerOf) : Type 0 where
-  pub miss : a.since_miss ≡ (beat asker (asker_clock w)).since_miss
   pub own : a.caller.own ≡ w.asker_eid
   pub peer : a.caller.peer ≡ w.taker_eid
   pub replies : length a.replies ≡ 8
@@ -40,14 +40,14 @@ ticks_body w g asker taker a exchanges packets may allowed h k tags living asked
   own = k.own;
   peer = k.peer;
   replies = k.replies;
-  kept = taker_tick_kept taker w.taker (beat taker (taker_clock w)).since_miss h.kept;
-  requests = taker_tick_requests taker w.taker (beat taker (taker_clock w)).since_miss h.requests;
-  asker_time = rw k.miss (beat_clock asker (asker_clock w) h.asker_time may);
-  taker_time = rw (taker_tick_miss taker w.taker (beat taker (taker_clock w)).since_miss) (beat_clock taker (taker_clock w) h.taker_time allowed);
+  kept = taker_tick_kept taker w.taker h.kept;
+  requests = taker_tick_requests taker w.taker h.requests;
+  asker_time = beat_clock asker (asker_clock w) h.asker_time may;
+  taker_time = beat_clock taker (taker_clock w) h.taker_time allowed;
   caller = k.caller;
   tags = tags;
   packets = living;
-  asked = rw k.miss asked;
+  asked = asked;
   current = current;
   deaf = k.deaf;
 }
@@ -56,17 +56,16 @@ ticks_body w g asker taker a exchanges packets may allowed h k tags living asked
 abbrev pub made : (now am tm : ℕ) → Ends → AskerView → TakerView → Bool → TagView
 made now am tm x a k b = record { now = now; asker_miss = am; taker_miss = tm; ends = x; asker = a; taker = k; is_current = b }
 
-pub made_same : (now am am2 tm tm2 : ℕ) (x : Ends) (a a2 : AskerView) (k k2 : TakerView) (b : Bool) → am ≡ am2 → tm ≡ tm2 → a ≡ a2 → k ≡ k2
-    → made now am tm x a k b ≡ made now am2 tm2 x a2 k2 b
-made_same now am am2 tm tm2 x a a2 k k2 b e f p q = rw (e, f, p, q) refl
+pub made_same : (now am tm : ℕ) (x : Ends) (a a2 : AskerView) (k k2 : TakerView) (b : Bool) → a ≡ a2 → k ≡ k2
+    → made now am tm x a k b ≡ made now am tm x a2 k2 b
+made_same now am tm x a a2 k k2 b p q = rw (p, q) refl
 
 -- a tag whose asker's side ticks
 pub tag_ticks : (w : LaneOf) (g : Ghost) (asker taker : Bool) (a : AskerOf) (packets : List Sent) (t : ℕ) → MayBeat asker (asker_clock w)
-    → MayBeat taker (taker_clock w) → LaneBody w g → a.since_miss ≡ (beat asker (asker_clock w)).since_miss → t < 8
+    → MayBeat taker (taker_clock w) → LaneBody w g → t < 8
     → asker_view a t ≡ asker_at asker (asker_view w.asker t) → TagOf (view_of (ticked_lane w asker taker a packets) g.current t) (g.exchanges t)
-tag_ticks w g asker taker a packets t may allowed h miss lt view =
+tag_ticks w g asker taker a packets t may allowed h lt view =
     let same : view_of (ticked_lane w asker taker a packets) g.current t ≡ view_ticked (view_of w g.current t) asker taker
-    = made_same (w.now + 1) a.since_miss (beat asker (asker_clock w)).since_miss (ticked_lane w asker taker a packets).taker.since_miss (beat taker (taker_clock w)).since_miss (ends_of w t) (asker_view a t) (asker_at asker (asker_view w.asker t))
-    (taker_view (ticked_lane w asker taker a packets).taker t) (taker_at taker (taker_view w.taker t)) (is_at g.current t) miss
-    (taker_tick_miss taker w.taker (beat taker (taker_clock w)).since_miss) view (taker_tick_view taker w.taker (beat taker (taker_clock w)).since_miss t) in
+    = made_same (w.now + 1) (beat asker (asker_clock w)).since_miss (beat taker (taker_clock w)).since_miss (ends_of w t) (asker_view a t) (asker_at asker (asker_view w.asker t))
+    (taker_view (ticked_lane w asker taker a packets).taker t) (taker_at taker (taker_view w.taker t)) (is_at g.current t) view (taker_tick_view taker w.taker t) in
     subst (λ v. TagOf v (g.exchanges t)) (sym same) (view_ticks (g.exchanges t) (view_of w g.current t) asker taker may allowed (h.tags t lt))

@@ -5,14 +5,14 @@ use Rattle.pldm_exch.specs.Caller.{IsOpen, Open, sends_at, ticked}
 use Rattle.exch_lane.specs.Cells.{cell_ticks}
 use Rattle.exch_lane.specs.Clocks.{MayBeat}
 use Rattle.exch_lane.specs.Lanes.{LaneOf, asker_clock, taker_clock}
-use Rattle.exch_lane.specs.Sides.{asker_called, asker_tick}
+use Rattle.pldm_exch.specs.Sides.{asker_called, asker_tick}
 use Rattle.exch_lane.specs.Steps.{asker_tick_in, lane_ticks}
 use Rattle.exch_lane.proofs.Begins.{tag_low}
 use Rattle.exch_lane.proofs.Below.{Laws}
 use Rattle.exch_lane.proofs.Facts.{bool_cases}
 use Rattle.exch_lane.proofs.Ghosts.{Ghost, GoesOn, IsAskedOf, IsOpenOf, LaneGood, ends_of, run_of}
 use Rattle.exch_lane.proofs.Hearing.{gives_up, older_caller, older_waits, rested_waits}
-use Rattle.exch_lane.proofs.Quiets.{beaten, deaf_waits, heard_tick, missed_waits, rested_caller}
+use Rattle.exch_lane.proofs.Quiets.{deaf_waits, heard_tick, missed_waits, rested_caller}
 use Rattle.exch_lane.proofs.Resends.{resends}
 use Rattle.exch_lane.proofs.Views.{Exchange}
 use Rattle.exch_lane.proofs.Waits.{TicksRow, goes_wait}
@@ -46,10 +46,10 @@ calls_from l w g taker (Some o) less may allowed is k open_is h = calls_open l w
 
 -- a tick that the asker counts, or misses
 ticks_row : (l : Laws) (w : LaneOf) (g : Ghost) (asker taker : Bool) → MayBeat asker (asker_clock w) → MayBeat taker (taker_clock w) → LaneGood w g
-    → TicksRow w g asker taker (asker_tick asker (beaten w asker))
-ticks_row l w g false taker may allowed h = goes_wait w g false taker (beaten w false) may allowed h.body (missed_waits w g may h) refl
+    → TicksRow w g asker taker (asker_tick asker w.asker)
+ticks_row l w g false taker may allowed h = goes_wait w g false taker w.asker may allowed h.body (missed_waits w g may h) refl
 ticks_row l w g true taker may allowed h = elim (cases_lt 1 w.asker.deaf) [
-  | inl more ↦ rw (lt-leb w.asker.deaf 1 more) (goes_wait w g true taker (record (beaten w true) { deaf = w.asker.deaf - 1 }) may allowed h.body (deaf_waits w g more h) refl)
+  | inl more ↦ rw (lt-leb w.asker.deaf 1 more) (goes_wait w g true taker (record w.asker { deaf = w.asker.deaf - 1 }) may allowed h.body (deaf_waits w g more h) refl)
   | inr less ↦ rw (le-leb w.asker.deaf 1 less) (calls_from l w g taker w.asker.caller.asked less may allowed refl h.body.asked h.body.caller.asked h)
 ]
 

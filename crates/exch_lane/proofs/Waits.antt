@@ -5,8 +5,9 @@ use Rattle.std.proofs.lemmas.Bool.Decides.{eqb_tells}
 use Rattle.pldm_exch.specs.Caller.{CallerState, is_quiet, last_tag, rest_at}
 use Rattle.exch_lane.specs.Cells.{Cell, CellRun, cell_rests, cell_ticks, drop_in, hears_quiet, is_empty_cell}
 use Rattle.exch_lane.specs.Clocks.{MayBeat}
-use Rattle.exch_lane.specs.Lanes.{AskerOf, EntryOf, LaneOf, asker_clock, taker_clock}
-use Rattle.exch_lane.specs.Sides.{AskerTick}
+use Rattle.exch_lane.specs.Lanes.{EntryOf, LaneOf, asker_clock, taker_clock}
+use Rattle.pldm_exch.specs.Ends.{AskerOf}
+use Rattle.pldm_exch.specs.Sides.{AskerTick}
 use Rattle.exch_lane.specs.Steps.{asker_ticks, tick_begins}
 use Rattle.exch_lane.proofs.AskerHears.{settled_of}
 use Rattle.exch_lane.proofs.Facts.{bool_cases, both, none_is}
@@ -33,7 +34,7 @@ TicksRow w g asker taker row = GoesOn (asker_ticks (tick_begins w asker taker) r
 pub waiting_body : (w : LaneOf) (g : Ghost) (asker taker : Bool) (a : AskerOf) → MayBeat asker (asker_clock w) → MayBeat taker (taker_clock w)
     → LaneBody w g → IsWaiting w g asker a → LaneBody (ticked_lane w asker taker a w.packets) g
 waiting_body w g asker taker a may allowed h k =
-    ticks_body w g asker taker a g.exchanges w.packets may allowed h k.ticked (λ t lt. tag_ticks w g asker taker a w.packets t may allowed h k.ticked.miss lt (k.view t lt))
+    ticks_body w g asker taker a g.exchanges w.packets may allowed h k.ticked (λ t lt. tag_ticks w g asker taker a w.packets t may allowed h lt (k.view t lt))
     (packets_later w.now w.asker_eid w.taker_eid g.exchanges w.packets h.packets) k.asked h.current
 
 -- where it hears and isn't quiet

@@ -4,8 +4,9 @@ use Rattle.std.specs.Prelude.{ℕ, ◌==◌, ◌&&◌, Bool, true, false, if◌t
 use Rattle.std.specs.Cmp.Lexicographic.{pointwise}
 use Rattle.std.specs.Option.{option_and_then}
 use Rattle.pldm_exch.specs.Caller.{is_quiet}
-use Rattle.exch_lane.specs.Lanes.{AskerOf, EntryOf, LaneOf, Sent, StepOf, numbered}
-use Rattle.exch_lane.specs.Sides.{AskerRow, AskerTick, TakerRow}
+use Rattle.exch_lane.specs.Lanes.{EntryOf, LaneOf, Sent, StepOf, numbered}
+use Rattle.pldm_exch.specs.Ends.{AskerOf}
+use Rattle.pldm_exch.specs.Sides.{AskerRow, AskerTick, TakerRow}
 use Rattle.exch_lane.specs.Steps.{asker_row_in, asker_tick_in, lane_after, taker_row_in}
 use Rattle.exch_lane.specs.declared.step.End.{End}
 use Rattle.exch_lane.specs.declared.step.End.TheVariants as ends
@@ -106,12 +107,14 @@ cell_rests a run =
 abbrev pub cell_at_taker : (reply : List ℕ) → TakerRow → CellRun → Option CellRun
 cell_at_taker reply (TakerRow.Silent requests) run = Some run
 cell_at_taker reply (TakerRow.Repeats requests answer) run = Some run
-cell_at_taker reply (TakerRow.TakesUp requests m head body) run = cell_take head.command body reply run
+cell_at_taker reply (TakerRow.TakesUp requests m head body) run =
+    if head.pldm_type == 5 then cell_take head.command body reply run else None
+cell_at_taker reply (TakerRow.Strays requests m) run = None
 
 -- what a packet at the asker is for the cell
 abbrev pub cell_at_asker : AskerRow → CellRun → Option CellRun
 cell_at_asker (AskerRow.Ignores replies) run = Some run
-cell_at_asker (AskerRow.Learns replies caller reply) run = cell_learn reply run
+cell_at_asker (AskerRow.Learns replies caller heard) run = cell_learn heard.reply run
 
 -- what a packet at an end is for the cell
 abbrev pub cell_hears : LaneOf → End → (reply : List ℕ) → List ℕ → CellRun → Option CellRun

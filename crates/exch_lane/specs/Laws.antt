@@ -1,14 +1,43 @@
 -- Lane refinement: what lies between two nodes is one cell.
-use Rattle.std.specs.Prelude.{◌≡◌, ℕ, true, List, ◌++◌, Some, IsSomeAnd}
-use Rattle.pldm_exch.specs.Caller.{is_quiet}
-use Rattle.exch_lane.specs.Lanes.{AreEnds, LaneOf, StepOf, lane_new}
+use Rattle.std.specs.Prelude.{◌≡◌, ◌≤◌, ◌+◌, ◌==◌, ◌&&◌, ℕ, Bool, true, false, if◌then◌else◌, List, ◌++◌, drop, Option, Some, None, IsSomeAnd, Result, Ok, Err}
+use Rattle.std.specs.List.{AllByRecursion}
+use Rattle.mctp_wire.specs.Packet as wire
+use Rattle.mctp_wire.specs.declared.fault.WireFault.{WireFault}
+use Rattle.mctp_wire.specs.declared.layout.Head.{Head}
+use Rattle.std.specs.Option.{option_map}
+use Rattle.pldm_exch.specs.Caller.{asking, is_quiet}
+use Rattle.exch_lane.specs.Lanes.{AreEnds, LaneOf, Sent, StepOf, lane_new}
 use Rattle.exch_lane.specs.Steps.{MayRun, lane_run}
 use Rattle.exch_lane.specs.Cells.{Cell, CellRun, cells_along, no_cell_yet}
+
+-- the request that a cell's asker waits for
+abbrev pub awaited : Cell → Option (ℕ × List ℕ)
+awaited (Cell.Asked command body true) = Some (command, body)
+awaited (Cell.Answered command body reply true) = Some (command, body)
+awaited cell = None
+
+-- the packet goes between these: a request from the one, or a reply from the other
+abbrev pub is_between : (asker taker : ℕ) → Head → Bool
+is_between asker taker h =
+    if h.to then (h.source == asker) && (h.dest == taker) else (h.source == taker) && (h.dest == asker)
+
+abbrev pub read_between : (asker taker : ℕ) → Result (Head × List ℕ) WireFault → Bool
+read_between asker taker (Ok p) = is_between asker taker p.0
+read_between asker taker (Err fault) = false
+
+abbrev pub in_lane : (asker taker : ℕ) → List ℕ → Bool
+in_lane asker taker bytes = read_between asker taker (wire.packet_of bytes)
+
+-- a packet that can still come is one of the lane
+abbrev pub IsOfLane : LaneOf → Sent → Type 0
+IsOfLane w s = w.now ≤ s.date + 8 → in_lane w.asker_eid w.taker_eid s.bytes ≡ true
 
 -- The cell is the lane's: their histories are the same, and where the asker hears and is quiet the cell is empty.
 pub record IsCellOf (w : LaneOf) (run : CellRun) : Type 0 where
   pub entries : run.entries ≡ w.entries
   pub quiet : w.asker.deaf ≡ 0 → is_quiet w.asker.caller ≡ true → run.cell ≡ Cell.Empty
+  pub packets : AllByRecursion (IsOfLane w) w.packets
+  pub waits : awaited run.cell ≡ option_map asking w.asker.caller.asked
 
 -- the cell's run along these steps is never stuck, and its cell is the lane's
 abbrev pub StaysACell : (asker taker : ℕ) → List StepOf → Type 0

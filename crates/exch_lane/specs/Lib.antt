@@ -1,9 +1,7 @@
 pub mod Cells
 pub mod Clocks
-pub mod Inboxes
 pub mod Journals
 pub mod Lanes
 pub mod Laws
 pub mod Nodes
-pub mod Sides
 pub mod Steps

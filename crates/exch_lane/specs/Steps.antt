@@ -7,8 +7,10 @@ use Rattle.pldm_base.specs.declared.header.PldmHead.{PldmHead}
 use Rattle.pldm_exch.specs.Caller.{abandoned, begun, may_begin}
 use Rattle.pldm_exch.specs.Kept.{kept_with}
 use Rattle.exch_lane.specs.Clocks.{MayBeat, beat}
-use Rattle.exch_lane.specs.Lanes.{AskerOf, EntryOf, LaneOf, Sent, StepOf, TakerOf, asker_clock, asker_new, numbered, taker_clock, taker_new}
-use Rattle.exch_lane.specs.Sides.{AskerRow, AskerTick, TakerRow, asker_row, asker_tick, taker_row, taker_tick}
+use Rattle.exch_lane.specs.Lanes.{EntryOf, LaneOf, Sent, StepOf, asker_clock, numbered, taker_clock}
+use Rattle.pldm_exch.specs.Ends.{AskerOf, TakerOf, asker_new, taker_new}
+use Rattle.pldm_exch.specs.Requests.{reply_message}
+use Rattle.pldm_exch.specs.Sides.{AskerRow, AskerTick, TakerRow, asker_row, asker_tick, taker_row, taker_tick}
 use Rattle.exch_lane.specs.declared.step.End.{End}
 use Rattle.exch_lane.specs.declared.step.End.TheVariants as ends
 use Rattle.exch_lane.specs.declared.step.LaneFault.{LaneFault}
@@ -35,18 +37,6 @@ with_asker w a = record w { asker = a }
 
 abbrev pub with_taker : LaneOf → TakerOf → LaneOf
 with_taker w t = record w { taker = t }
-
--- The reply to a request: destination and source are exchanged, TO and Rq are clear, and tag, identifier, type and
--- command are the request's.
-abbrev pub reply_message : MessageOf → PldmHead → List ℕ → MessageOf
-reply_message m head reply =
-    record {
-      dest = m.source;
-      source = m.dest;
-      to = false;
-      tag = m.tag;
-      bytes = pldm_bytes (record { rq = false; instance = head.instance; pldm_type = head.pldm_type; command = head.command }) reply;
-    }
 
 -- A request begins (DSP0267: PLDM type 5): its packets are sent.
 abbrev pub begins : LaneOf → (command : ℕ) → List ℕ → LaneOf
@@ -75,12 +65,13 @@ abbrev pub taker_does : LaneOf → (reply : List ℕ) → TakerRow → LaneOf
 taker_does w reply (TakerRow.Silent requests) = with_taker w (record w.taker { requests = requests })
 taker_does w reply (TakerRow.Repeats requests answer) = sending (with_taker w (record w.taker { requests = requests })) answer
 taker_does w reply (TakerRow.TakesUp requests m head body) = takes w requests m head body reply
+taker_does w reply (TakerRow.Strays requests m) = with_taker w (record w.taker { requests = requests })
 
 -- what the node that asks does with a packet
 abbrev pub asker_does : LaneOf → AskerRow → LaneOf
 asker_does w (AskerRow.Ignores replies) = with_asker w (record w.asker { replies = replies })
-asker_does w (AskerRow.Learns replies caller reply) =
-    noted (with_asker w (record w.asker { caller = caller; replies = replies })) (EntryOf.Learnt reply)
+asker_does w (AskerRow.Learns replies caller heard) =
+    noted (with_asker w (record w.asker { caller = caller; replies = replies })) (EntryOf.Learnt heard.reply)
 
 -- the row of the node that answers, for these bytes
 abbrev pub taker_row_in : LaneOf → List ℕ → TakerRow
@@ -111,8 +102,9 @@ abbrev pub tick_begins : LaneOf → (asker taker : Bool) → LaneOf
 tick_begins w asker taker =
     record w {
       now = w.now + 1;
-      asker = record w.asker { since_miss = (beat asker (asker_clock w)).since_miss };
-      taker = taker_tick taker (record w.taker { since_miss = (beat taker (taker_clock w)).since_miss });
+      asker_since_miss = (beat asker (asker_clock w)).since_miss;
+      taker_since_miss = (beat taker (taker_clock w)).since_miss;
+      taker = taker_tick taker w.taker;
     }
 
 -- the row of the node that asks, for a tick
@@ -124,8 +116,8 @@ lane_ticks w asker taker = asker_ticks (tick_begins w asker taker) (asker_tick_i
 
 -- An end starts anew, and is deaf for 40 ticks; nothing that was sent is lost by it.
 abbrev pub restarts : LaneOf → End → LaneOf
-restarts w ends.Asker = with_asker w (asker_new w.asker_eid w.taker_eid 40 w.asker.since_miss)
-restarts w ends.Taker = with_taker w (taker_new 40 w.taker.since_miss)
+restarts w ends.Asker = with_asker w (asker_new w.asker_eid w.taker_eid 40)
+restarts w ends.Taker = with_taker w (taker_new 40)
 
 -- the lane after a step
 abbrev pub lane_after : LaneOf → StepOf → LaneOf

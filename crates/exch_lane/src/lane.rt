@@ -2,24 +2,26 @@
 
 ghost use Rattle.std.specs.Prelude.{◌&&◌, ◌==◌, ◌≡◌, ◌≢◌, ◌≤◌, IfErr, None, OnErr, OnOk, is_some, length, map, true};
 ghost use Rattle.pldm_exch.specs.Caller.{is_quiet, may_begin};
+ghost use Rattle.pldm_exch.specs.Ends.{asker_of, taker_of};
 ghost use Rattle.exch_lane.specs.Journals.{HasRoom, sent_of, with_learnt, with_sent, with_taken};
 ghost use Rattle.exch_lane.specs.Lanes.{AreEnds, StepOf, entry_of, is_deaf_in, lane_new, step_of};
-ghost use Rattle.exch_lane.specs.Nodes.{asker_after, heard_in, learnt_in, taker_after};
-ghost use Rattle.exch_lane.specs.Sides.{asker_row, taker_row};
+ghost use Rattle.exch_lane.specs.Nodes.{asker_after, asker_ticked, call_tick_of, heard_in, taker_after};
+ghost use Rattle.pldm_exch.specs.Sides.{asker_counts, asker_row, learnt_in, taker_counts, taker_row};
 ghost use Rattle.exch_lane.specs.Steps.{IsCause, MayTake, abandons, begins, lane_after, lane_hears, lane_ticks, may_step, restarts};
 
-use crate::asker::Asker;
 use crate::entry::LaneEntry;
 use crate::journal::{Journal, SentPacket};
 use crate::step::{End, LaneFault, LaneStep};
-use crate::taker::{Heard, Taker, data_of};
-use pldm_exch::CallTick;
+use pldm_base::Reply;
+use pldm_exch::{Asker, Brought, CallTick, DEAF, Taker};
 use std::alloc::Global;
 use std::marker::Model;
 
 /// One direction of requests between two nodes: both ends, and every packet that was ever sent between them.
 #[derive(Debug, Drop)]
 pub struct Lane {
+    asker_deaf: u8,
+    taker_deaf: u8,
     asker: Asker,
     taker: Taker,
     journal: Journal,
@@ -28,11 +30,12 @@ pub struct Lane {
 impl Model for Lane {
     ghost use Rattle.std.specs.Prelude.{◌≡◌, map};
     ghost use Rattle.exch_lane.specs.Journals.{sent_of};
+    ghost use Rattle.pldm_exch.specs.Ends.{asker_of, taker_of};
     ghost use Rattle.exch_lane.specs.Lanes.{LaneOf, entry_of};
 
     ghost Value = { LaneOf };
 
-    ghost view = { λ l. record { asker_eid = l.asker.own; taker_eid = l.asker.peer; now = l.journal.time; asker = l.asker.state; taker = l.taker.state; packets = map sent_of l.journal.packets.items; entries = map entry_of l.journal.entries.items } };
+    ghost view = { λ l. record { asker_eid = l.asker.own; taker_eid = l.asker.peer; now = l.journal.time; asker_since_miss = 0; taker_since_miss = 0; asker = asker_of l.asker_deaf l.asker; taker = taker_of l.taker_deaf l.taker; packets = map sent_of l.journal.packets.items; entries = map entry_of l.journal.entries.items } };
 
     ghost invariant = { λ l. (l.taker.own ≡ l.asker.peer) × (l.taker.peer ≡ l.asker.own) };
 }
@@ -44,6 +47,8 @@ impl Lane {
         ensures { result ≡ lane_new asker taker }
     {
         Lane {
+            asker_deaf: 0,
+            taker_deaf: 0,
             asker: Asker::new(asker, taker),
             taker: Taker::new(taker, asker),
             journal: Journal::new(alloc),
@@ -76,8 +81,8 @@ impl Lane {
         ensures { result ≡ is_deaf_in self.now end }
     {
         match end {
-            End::Asker => self.asker.is_deaf(),
-            End::Taker => self.taker.is_deaf(),
+            End::Asker => self.asker_deaf > 0,
+            End::Taker => self.taker_deaf > 0,
         }
     }
 
@@ -100,7 +105,7 @@ impl Lane {
     pub fn can_begin(&self) -> bool
         ensures { result ≡ ((self.now.asker.deaf == 0) && may_begin self.now.asker.caller) }
     {
-        self.asker.can_begin()
+        self.asker_deaf == 0 && self.asker.can_begin()
     }
 
     /// Takes one step, or leaves the lane as it is.
@@ -129,7 +134,7 @@ impl Lane {
         ensures err { OnErr result (self.new ≡ self.old) }
         ensures cause { IfErr result (λ e. IsCause self.old (StepOf.Begin command body.now) e) }
     {
-        if !self.asker.can_begin() {
+        if !self.can_begin() {
             return Err(LaneFault::NotNow);
         }
         let Ok(()) = self.journal.make_room() else {
@@ -170,8 +175,14 @@ impl Lane {
         };
         let bytes = packet.bytes.as_slice();
         match end {
-            End::Asker => asker_hears(&mut self.asker, &mut self.journal, bytes),
-            End::Taker => taker_hears(&mut self.taker, &mut self.journal, bytes, reply),
+            End::Asker => asker_hears(self.asker_deaf, &mut self.asker, &mut self.journal, bytes),
+            End::Taker => taker_hears(
+                self.taker_deaf,
+                &mut self.taker,
+                &mut self.journal,
+                bytes,
+                reply,
+            ),
         }
         Ok(())
     }
@@ -190,8 +201,8 @@ impl Lane {
             return Err(LaneFault::Memory);
         };
         self.journal.time = time;
-        self.taker.tick();
-        if let CallTick::Send(message) = self.asker.tick() {
+        taker_ticks(&mut self.taker_deaf, &mut self.taker);
+        if let CallTick::Send(message) = asker_ticks(&mut self.asker_deaf, &mut self.asker) {
             self.journal.send(&message);
         }
         Ok(())
@@ -202,44 +213,98 @@ impl Lane {
         ensures { self.new ≡ restarts self.old end }
     {
         match end {
-            End::Asker => self.asker.restart(),
-            End::Taker => self.taker.restart(),
+            End::Asker => {
+                self.asker = Asker::new(self.asker.own(), self.asker.peer());
+                self.asker_deaf = DEAF;
+            }
+            End::Taker => {
+                self.taker = Taker::new(self.taker.own(), self.taker.peer());
+                self.taker_deaf = DEAF;
+            }
         }
     }
 }
 
-/// The asker hears the bytes of a packet.
+/// The asker hears the bytes of a packet; where it is deaf it drops it.
 #[tactic(auto, using(crate::proofs::LaneRows::rows))]
-fn asker_hears(asker: &mut Asker, journal: &mut Journal, bytes: &[u8])
+fn asker_hears(deaf: u8, asker: &mut Asker, journal: &mut Journal, bytes: &[u8])
     requires room { HasRoom journal.old }
-    ensures asker { asker.new ≡ record asker.old { state = asker_after asker.old.state (asker_row asker.old.own asker.old.peer asker.old.state bytes.now) } }
+    ensures asker { asker_of deaf asker.new ≡ asker_after (asker_of deaf asker.old) (asker_row asker.old.own asker.old.peer (asker_of deaf asker.old) bytes.now) }
+    ensures between { (asker.new.own ≡ asker.old.own) × (asker.new.peer ≡ asker.old.peer) }
     ensures packets { journal.new.packets ≡ journal.old.packets }
-    ensures entries { map entry_of journal.new.entries.items ≡ with_learnt (map entry_of journal.old.entries.items) (learnt_in (asker_row asker.old.own asker.old.peer asker.old.state bytes.now)) }
+    ensures entries { map entry_of journal.new.entries.items ≡ with_learnt (map entry_of journal.old.entries.items) (learnt_in (asker_row asker.old.own asker.old.peer (asker_of deaf asker.old) bytes.now)) }
     ensures time { journal.new.time ≡ journal.old.time }
 {
-    if let Some(reply) = asker.hear(bytes) {
-        journal.note(LaneEntry::Learnt(reply));
+    if deaf > 0 {
+        return;
+    }
+    if let Some(heard) = asker.hear(bytes) {
+        journal.note(LaneEntry::Learnt(heard.reply));
     }
 }
 
-/// The taker hears the bytes of a packet.
+/// The taker hears the bytes of a packet, and answers a new request by `reply`; where it is deaf it drops the packet.
 #[tactic(auto, using(crate::proofs::LaneRows::rows))]
-fn taker_hears(taker: &mut Taker, journal: &mut Journal, bytes: &[u8], reply: &[u8])
+fn taker_hears(deaf: u8, taker: &mut Taker, journal: &mut Journal, bytes: &[u8], reply: &[u8])
     requires room { HasRoom journal.old }
     requires reply { length reply.now ≤ 252 }
-    ensures taker { taker.new ≡ record taker.old { state = taker_after taker.old.state reply.now (taker_row taker.old.own taker.old.peer taker.old.state bytes.now) } }
-    ensures packets { map sent_of journal.new.packets.items ≡ with_sent journal.old.time (map sent_of journal.old.packets.items) (heard_in reply.now (taker_row taker.old.own taker.old.peer taker.old.state bytes.now)) }
-    ensures entries { map entry_of journal.new.entries.items ≡ with_taken reply.now (map entry_of journal.old.entries.items) (heard_in reply.now (taker_row taker.old.own taker.old.peer taker.old.state bytes.now)) }
+    ensures taker { taker_of deaf taker.new ≡ taker_after (taker_of deaf taker.old) reply.now (taker_row taker.old.own taker.old.peer (taker_of deaf taker.old) bytes.now) }
+    ensures between { (taker.new.own ≡ taker.old.own) × (taker.new.peer ≡ taker.old.peer) }
+    ensures packets { map sent_of journal.new.packets.items ≡ with_sent journal.old.time (map sent_of journal.old.packets.items) (heard_in reply.now (taker_row taker.old.own taker.old.peer (taker_of deaf taker.old) bytes.now)) }
+    ensures entries { map entry_of journal.new.entries.items ≡ with_taken reply.now (map entry_of journal.old.entries.items) (heard_in reply.now (taker_row taker.old.own taker.old.peer (taker_of deaf taker.old) bytes.now)) }
     ensures time { journal.new.time ≡ journal.old.time }
 {
-    match taker.hear(bytes, reply) {
-        Heard::Nothing => {}
-        Heard::Again(answer) => journal.send(&answer),
-        Heard::New(command, body, answer) => {
+    if deaf > 0 {
+        return;
+    }
+    match taker.hear(bytes) {
+        Brought::Nothing | Brought::Strays(_) => {}
+        Brought::Again(answer) => journal.send(&answer),
+        Brought::New(request) => {
+            let answer = taker.answer(&request, reply);
             journal.send(&answer);
-            journal.note(LaneEntry::Taken(command, body, data_of(reply)));
+            let body = data_of(request.body());
+            journal.note(LaneEntry::Taken(request.head().command, body, data_of(reply)));
         }
     }
+}
+
+/// A tick at the asker: a deaf count falls by one, and where it is 0 then the end grows older.
+#[tactic(auto, using(crate::proofs::LaneRows::rows))]
+fn asker_ticks(deaf: &mut u8, asker: &mut Asker) -> CallTick
+    ensures answer { result ≡ call_tick_of (asker_counts (asker_of deaf.old asker.old)) }
+    ensures after { asker_of deaf.new asker.new ≡ asker_ticked (asker_counts (asker_of deaf.old asker.old)) }
+    ensures between { (asker.new.own ≡ asker.old.own) × (asker.new.peer ≡ asker.old.peer) }
+{
+    if *deaf > 1 {
+        *deaf -= 1;
+        return CallTick::Nothing;
+    }
+    *deaf = 0;
+    asker.tick()
+}
+
+/// A tick at the taker: a deaf count falls by one, and where it is 0 then the end grows older.
+fn taker_ticks(deaf: &mut u8, taker: &mut Taker)
+    ensures after { taker_of deaf.new taker.new ≡ taker_counts (taker_of deaf.old taker.old) }
+    ensures between { (taker.new.own ≡ taker.old.own) × (taker.new.peer ≡ taker.old.peer) }
+{
+    if *deaf > 1 {
+        *deaf -= 1;
+        return;
+    }
+    *deaf = 0;
+    taker.tick();
+}
+
+/// Request data, or a reply, of their own.
+fn data_of(bytes: &[u8]) -> Reply
+    requires { length bytes.now ≤ 252 }
+    ensures { result.items ≡ bytes.now }
+{
+    let mut data = Reply::new();
+    let _ = data.try_extend_from_slice(bytes);
+    data
 }
 
 #[cfg(test)]

@@ -2,9 +2,7 @@
 //! reordered and late, with the exchanges of PLDM messages (DSP0240) at both ends.
 #![tactic(auto)]
 
-mod asker;
 mod entry;
-mod inbox;
 mod journal;
 mod lane;
 mod laws;
@@ -12,10 +10,8 @@ mod replay;
 #[cfg(test)]
 mod run_tests;
 mod step;
-mod taker;
 #[cfg(test)]
 mod tests;
-mod times;
 
 pub use entry::LaneEntry;
 pub use journal::SentPacket;

@@ -3,12 +3,14 @@
 
 mod assembly;
 mod cutting;
+mod inbox;
 mod laws;
 mod messages;
 mod outcomes;
 
 pub use assembly::Assembly;
 pub use cutting::split;
+pub use inbox::Inbox;
 pub use laws::{feeds_next, feeds_other, pieces_of_a_message};
 pub use messages::{MAX_MESSAGE, Message, MessageFault};
 pub use outcomes::{DropCause, Fed};

@@ -1,11 +1,11 @@
 -- What is true of each caller stays true.
-use Rattle.std.proofs.Common.{◌≡◌, ◌≢◌, ◌∙◌, ◌+◌, ◌-◌, ◌%◌, ◌≤◌, ◌<◌, ℕ, zero, suc, Bool, true, false, List, [], ◌∷◌, Option, Some, None, IfSome, length, get_or, slice_set, ◌⊎◌, inl, inr, true≢false, refl, sym, ap, arith}
+use Rattle.std.proofs.Common.{◌≡◌, ◌≢◌, ◌∙◌, ◌+◌, ◌-◌, ◌%◌, ◌≤◌, ◌<◌, ℕ, zero, suc, Bool, true, false, List, [], ◌∷◌, Option, Some, None, IfSome, length, drop, get_or, slice_set, ◌⊎◌, inl, inr, true≢false, refl, sym, ap, arith}
 use Rattle.std.specs.List.{AllByRecursion}
 use Rattle.std.proofs.lemmas.Bool.Decides.{eqb_tells}
 use Rattle.std.proofs.lemmas.List.{get_or-map, get_or-set_same}
 use Rattle.mctp_reasm.specs.Pieces.{MessageOf}
 use Rattle.pldm_exch.specs.Rests.{AreRests, fallen}
-use Rattle.pldm_exch.specs.Caller.{CallerState, IsCaller, IsOpen, Open, abandoned, answer_body, answer_heard, begun, caller_tick, closed_by, fresh, heard_as, older, sends_at, ticked}
+use Rattle.pldm_exch.specs.Caller.{CallerState, IsCaller, IsOpen, Open, abandoned, answer_body, answer_heard, begun, caller_tick, closed_by, fresh, heard_as, older, request_message, sends_at, ticked}
 
 -- rests
 length_fallen : (rests : List ℕ) → length (fallen rests) ≡ length rests
@@ -159,3 +159,10 @@ pub tick_is : (c : CallerState) → IsCaller c → IsCaller (caller_tick c).0
 tick_is c h = ticked_is c c.asked refl h h.asked
 
 pub ruleset callers = (fresh_is, begun_is, abandoned_is, heard_is, tick_is)
+
+-- an open request has a header
+bytes_by : (m : MessageOf) (own peer n pldm_type command : ℕ) (body : List ℕ) → m ≡ request_message own peer n pldm_type command body → 4 ≤ length m.bytes
+bytes_by m own peer n pldm_type command body e = rw e (omega arith)
+
+pub open_bytes : (c : CallerState) (o : Open) → IsOpen c o → 4 ≤ length o.message.bytes
+open_bytes c o h = bytes_by o.message c.own c.peer o.identifier o.pldm_type o.command (drop 4 o.message.bytes) h.message

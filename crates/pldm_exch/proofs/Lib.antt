@@ -3,5 +3,6 @@ mod Callers
 mod Keeping
 mod Resting
 mod Rows
+mod SideRows
 mod SingleRows
 mod Values

@@ -19,6 +19,10 @@ pub record Open : Type 0 where
   pub message : MessageOf
   pub age : ℕ
 
+-- the command and the request data of a request that waits
+abbrev pub asking : Open → ℕ × List ℕ
+asking o = (o.command, drop 4 o.message.bytes)
+
 -- the node that asks and its peer; the number of the next request, counted modulo 32; the rest of each tag; the open
 -- request; whether the last request was answered, or there was none
 pub record CallerState : Type 0 where

@@ -1,7 +1,10 @@
 pub mod Caller
+pub mod Ends
 pub mod Fields
 pub mod Kept
 pub mod Laws
 pub mod Places
+pub mod Requests
 pub mod Rests
 pub mod Rows
+pub mod Sides

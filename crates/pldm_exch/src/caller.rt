@@ -1,7 +1,7 @@
 //! One direction's requests.
 
 ghost use Rattle.std.specs.Prelude.{◌≡◌, ◌≤◌, length, List, ℕ, IfSome, IsSome, IsSomeAnd, option_map, is_some, true};
-ghost use Rattle.pldm_exch.specs.Caller.{IsAnswerTo, IsCaller, abandoned, answer_body, answer_heard, begun, caller_tick, fresh, is_answer_head, is_quiet, may_begin, sends_at};
+ghost use Rattle.pldm_exch.specs.Caller.{IsAnswerTo, IsCaller, abandoned, answer_body, answer_heard, asking, begun, caller_tick, fresh, is_answer_head, is_quiet, may_begin, sends_at};
 ghost use Rattle.pldm_exch.specs.Fields.{open_of};
 
 use crate::rests::Rests;
@@ -128,6 +128,20 @@ impl Caller {
         ensures lawful { IsCaller self.now }
     {
         self.asked.is_some()
+    }
+
+    /// The command and the request data of the open request.
+    #[tactic(auto, using(crate::proofs::Callers::open_bytes))]
+    pub fn open_request(&self) -> Option<(u8, &[u8])>
+        ensures { option_map {U = ℕ × List ℕ} (λ r. (r.0, r.1.now)) result ≡ option_map asking self.now.asked }
+    {
+        let Some(open) = &self.asked else {
+            return None;
+        };
+        let [_, _, _, _, body @ ..] = open.message.bytes() else {
+            return None;
+        };
+        Some((open.head.command, body))
     }
 
     /// Whether nothing of the last request can come any more: no request is open, and the last one was answered, or its

@@ -5,18 +5,24 @@
 mod answerer;
 #[cfg(test)]
 mod answerer_tests;
+mod asker;
 mod caller;
 #[cfg(test)]
 mod caller_tests;
 mod dated;
 mod laws;
+mod request;
 mod rests;
+mod taker;
 mod times;
 
 pub use answerer::{Answerer, Asked};
+pub use asker::Asker;
 pub use caller::{CallTick, Caller, ReplyIn};
 pub use laws::{
     answers_are_kept, answers_stay_lawful, callers_stay_lawful, eight_requests_rest, kept_change,
     open_requests_repeat, repeats_answer_the_request, rests_change, rests_outlast_sendings,
 };
-pub use times::{GIVEN_UP, HOLD, RETIRE, RETRY};
+pub use request::{Brought, Request};
+pub use taker::Taker;
+pub use times::{DEAF, GIVEN_UP, HOLD, LIFE, RETIRE, RETRY};

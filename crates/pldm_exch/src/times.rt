@@ -16,3 +16,10 @@ pub const HOLD: u16 = 24;
 /// copy of it arrives within 8 ticks, an assembly of copies ends within 17, the answer arrives within 16, an assembly of
 /// answers ends within 25, and the answer is kept for at most 33.
 pub const RETIRE: u16 = 40;
+
+/// A packet may arrive while no more than so many ticks have passed since its sending.
+pub const LIFE: u32 = 8;
+
+/// A node that starts anew is deaf and silent for so many ticks: as long as a tag rests, so that nothing of its requests
+/// before is left when it hears again.
+pub const DEAF: u8 = 40;

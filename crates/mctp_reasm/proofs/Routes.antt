@@ -6,8 +6,7 @@ use Rattle.mctp_wire.specs.declared.layout.Head.{Head}
 use Rattle.mctp_reasm.specs.Held.{Held, IsOfSame, held_after, held_as, held_tick, packets_of, cause_of, joined}
 use Rattle.mctp_reasm.specs.declared.outcomes.DropCause.{DropCause}
 use Rattle.mctp_reasm.specs.Pieces.{PacketOf, Route, route_of}
-use Rattle.exch_lane.specs.Inboxes.{AreOnRoutes, IsInbox, IsOnRoute, inbox_route}
-use Rattle.exch_lane.specs.Sides.{held_at, held_with, is_for}
+use Rattle.mctp_reasm.specs.Inboxes.{AreOnRoutes, IsInbox, IsOnRoute, held_at, held_with, inbox_route, is_for}
 
 -- one place
 on_aged : (r : Route) (h : Held) (b : Bool) → IsOnRoute r h.packets → IsOnRoute r (packets_of (if b then None else Some (record h { age = h.age + 1 })))

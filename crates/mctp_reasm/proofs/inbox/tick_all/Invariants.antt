@@ -1,6 +1,6 @@
 use Rattle.std.proofs.Common.{◌≡◌, map, ◌++◌, take, drop}
 use Rattle.mctp_reasm.specs.Held.{held_tick}
-use Rattle.exch_lane.proofs.inbox.tick_all.Given as goal
+use Rattle.mctp_reasm.proofs.inbox.tick_all.Given as goal
 
 -- the assemblies so far have ticked
 abbrev pub invariant-loop-place : goal.invariant-loop-place

@@ -1,22 +1,21 @@
-//! The messages that an end hears, put together from their packets.
+//! The messages that a node hears from a peer, put together from their packets (DSP0236, section 8).
 
 ghost use Rattle.std.specs.Prelude.{◌≡◌, ◌≤◌, IfSome, false, length, map, option_map, true};
 ghost use Rattle.mctp_reasm.specs.Held.{IsOfSame, held_tick, packets_of};
 ghost use Rattle.mctp_reasm.specs.Pieces.{packet_of};
-ghost use Rattle.exch_lane.specs.Inboxes.{AreOnRoutes, IsInbox};
-ghost use Rattle.exch_lane.specs.Lanes.{none_held};
-ghost use Rattle.exch_lane.specs.Sides.{fed_at, held_at, held_with, is_for, packet_for};
+ghost use Rattle.mctp_reasm.specs.Inboxes.{AreOnRoutes, IsInbox, fed_at, held_at, held_with, is_for, none_held, packet_for};
 
-use mctp_reasm::{Assembly, Fed};
+use crate::{Assembly, Fed};
 use mctp_wire::{Head, Packet};
 use std::marker::Model;
 
 /// Tags of a direction: the tag of a message has three bits (DSP0236).
 const TAGS: usize = 8;
 
-/// The assemblies of the messages that an end hears from its peer, one a tag.
+/// The assemblies of the messages that a node hears from one peer, one a tag: of that peer's requests (TO set), or of its
+/// replies (TO clear).
 #[derive(Debug, Drop)]
-pub(crate) struct Inbox {
+pub struct Inbox {
     own: u8,
     peer: u8,
     to: bool,
@@ -24,7 +23,7 @@ pub(crate) struct Inbox {
 }
 
 impl Model for Inbox {
-    ghost use Rattle.exch_lane.specs.Inboxes.{InboxOf, IsInbox};
+    ghost use Rattle.mctp_reasm.specs.Inboxes.{InboxOf, IsInbox};
 
     ghost Value = { InboxOf };
 
@@ -34,8 +33,8 @@ impl Model for Inbox {
 }
 
 impl Inbox {
-    /// An inbox of `own` that holds nothing: it hears requests of `peer` where `to` is set, and else replies.
-    pub(crate) fn new(own: u8, peer: u8, to: bool) -> Inbox
+    /// The inbox of the endpoint `own`, which holds nothing: it hears requests of `peer` where `to` is set, and else replies.
+    pub fn new(own: u8, peer: u8, to: bool) -> Inbox
         ensures { result ≡ record { own = own; peer = peer; to = to; held = none_held } }
     {
         Inbox {
@@ -55,29 +54,29 @@ impl Inbox {
         }
     }
 
-    /// The end's own endpoint.
-    pub(crate) fn own(&self) -> u8
+    /// The node's own endpoint identifier.
+    pub fn own(&self) -> u8
         ensures { result ≡ self.now.own }
     {
         self.own
     }
 
-    /// The endpoint that it hears.
-    pub(crate) fn peer(&self) -> u8
+    /// The endpoint identifier of the peer that it hears.
+    pub fn peer(&self) -> u8
         ensures { result ≡ self.now.peer }
     {
         self.peer
     }
 
-    /// Whether a packet is for this end: it goes to it, comes from its peer, and TO is set where requests are heard.
+    /// Whether a packet is for this node: it goes to it, comes from its peer, and TO is set where requests are heard.
     fn is_for(&self, head: &Head) -> bool
         ensures { result ≡ is_for self.now.own self.now.peer self.now.to head.now }
     {
         head.dest == self.own && head.source == self.peer && head.to == self.to
     }
 
-    /// The packet that these bytes are, where it is for this end.
-    pub(crate) fn packet_in<'b>(&self, bytes: &'b [u8]) -> Option<Packet<'b>>
+    /// The packet that these bytes are, where it is one and for this node: of its peer, to its endpoint, with TO as it hears.
+    pub fn packet_in<'b>(&self, bytes: &'b [u8]) -> Option<Packet<'b>>
         ensures value { option_map (λ p. packet_of p.head p.body.now) result ≡ packet_for self.now.own self.now.peer self.now.to bytes.now }
         ensures mine { IfSome result (λ p. is_for self.now.own self.now.peer self.now.to p.head ≡ true) }
         ensures body { IfSome result (λ p. (1 ≤ length p.body.now) × (length p.body.now ≤ 64)) }
@@ -92,9 +91,9 @@ impl Inbox {
         Some(packet)
     }
 
-    /// Feeds a packet to the assembly of its tag.
+    /// Feeds a packet for this node to the assembly of its tag, and tells what came of it.
     #[tactic(auto, using(crate::proofs::Routes::routes))]
-    pub(crate) fn feed(&mut self, packet: &Packet<'_>) -> Fed
+    pub fn feed(&mut self, packet: &Packet<'_>) -> Fed
         requires mine { is_for self.old.own self.old.peer self.old.to packet.now.head ≡ true }
         requires body { (1 ≤ length packet.now.body.now) × (length packet.now.body.now ≤ 64) }
         requires tag { packet.now.head.tag ≤ 7 }
@@ -104,9 +103,9 @@ impl Inbox {
         feed_to(&mut self.places, packet)
     }
 
-    /// A tick passes.
+    /// A tick passes: each assembly grows older, and ends in the ninth tick after its last packet.
     #[tactic(auto, using(crate::proofs::Routes::routes))]
-    pub(crate) fn tick(&mut self)
+    pub fn tick(&mut self)
         ensures { self.new ≡ record self.old { held = map held_tick self.old.held } }
     {
         tick_all(&mut self.places);

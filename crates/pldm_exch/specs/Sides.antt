@@ -1,48 +1,23 @@
--- What each end of a lane makes of a packet and of a tick.
-use Rattle.std.specs.Prelude.{ℕ, ◌-◌, ◌==◌, ◌&&◌, nat_le, Bool, true, false, not, if◌then◌else◌, List, map, get_or, slice_set, Option, Some, None, Result, Ok, Err}
-use Rattle.mctp_wire.specs.Packet as wire
-use Rattle.mctp_wire.specs.declared.fault.WireFault.{WireFault}
-use Rattle.mctp_wire.specs.declared.layout.Head.{Head}
-use Rattle.mctp_reasm.specs.Held.{Held, fed, held_after, held_tick}
-use Rattle.mctp_reasm.specs.Pieces.{MessageOf, PacketOf, packet_of}
+-- What each end of an exchange makes of a packet and of a tick, a row a case.
+use Rattle.std.specs.Prelude.{ℕ, ◌-◌, ◌==◌, nat_le, Bool, true, false, if◌then◌else◌, List, map, Option, Some, None, Result, Ok, Err}
+use Rattle.mctp_reasm.specs.Held.{Held, held_tick}
+use Rattle.mctp_reasm.specs.Inboxes.{fed_at, held_with, packet_for}
+use Rattle.mctp_reasm.specs.Pieces.{MessageOf, PacketOf}
 use Rattle.mctp_reasm.specs.declared.outcomes.Fed.{Fed}
 use Rattle.mctp_reasm.specs.declared.outcomes.Fed.TheVariants as outcomes
 use Rattle.pldm_base.specs.Header.{pldm_of}
 use Rattle.pldm_base.specs.declared.header.PldmFault.{PldmFault}
 use Rattle.pldm_base.specs.declared.header.PldmHead.{PldmHead}
 use Rattle.pldm_exch.specs.Caller.{CallerState, Heard, answer_heard, caller_tick}
-use Rattle.pldm_exch.specs.Kept.{Kept, answerer_tick, request_heard}
+use Rattle.pldm_exch.specs.Ends.{AnsweringOf, AskerOf, AskingOf, TakerOf, asker_of, taker_of}
+use Rattle.pldm_exch.specs.Kept.{Kept, answerer_tick, kept_with, request_heard}
+use Rattle.pldm_exch.specs.Requests.{RequestOf, reply_message}
 use Rattle.pldm_exch.specs.declared.answerer.Asked.{Asked}
 use Rattle.pldm_exch.specs.declared.answerer.Asked.TheVariants as asks
 use Rattle.pldm_exch.specs.declared.caller.CallTick.{CallTick}
 use Rattle.pldm_exch.specs.declared.caller.CallTick.TheVariants as ticks
-use Rattle.exch_lane.specs.Lanes.{AskerOf, TakerOf}
-
--- the packet is for this end: it goes to its endpoint and comes from its peer, and TO is set exactly where the end
--- hears requests
-abbrev pub is_for : (own peer : ℕ) → (to : Bool) → Head → Bool
-is_for own peer to h = (h.dest == own) && (h.source == peer) && (if to then h.to else not h.to)
-
--- the packet that was read, where it is for this end
-abbrev pub for_end : (own peer : ℕ) → (to : Bool) → Result (Head × List ℕ) WireFault → Option PacketOf
-for_end own peer to (Ok p) = if is_for own peer to p.0 then Some (packet_of p.0 p.1) else None
-for_end own peer to (Err fault) = None
-
--- The packet that these bytes are, where it is for this end; bytes that are no packet are dropped.
-abbrev pub packet_for : (own peer : ℕ) → (to : Bool) → List ℕ → Option PacketOf
-packet_for own peer to bytes = for_end own peer to (wire.packet_of bytes)
-
--- what is held under a tag
-abbrev pub held_at : List (Option Held) → ℕ → Option Held
-held_at held tag = get_or held tag None
-
--- what comes of a packet: it is fed to the assembly of its tag
-abbrev pub fed_at : List (Option Held) → PacketOf → Fed
-fed_at held p = fed (held_at held p.head.tag) p
-
--- what is held after it
-abbrev pub held_with : List (Option Held) → PacketOf → List (Option Held)
-held_with held p = slice_set held p.head.tag (held_after (held_at held p.head.tag) p)
+use Rattle.pldm_exch.specs.declared.request.Brought.{Brought}
+use Rattle.pldm_exch.specs.declared.request.Brought.TheVariants as brings
 
 -- What a packet is for the node that answers: each row has what is held of requests then.
 pub data TakerRow : Type 0 where
@@ -52,17 +27,19 @@ pub data TakerRow : Type 0 where
   Repeats : (requests : List (Option Held)) → (answer : MessageOf) → TakerRow
   -- a new request is whole: the message, its head and its request data
   TakesUp : (requests : List (Option Held)) → (request : MessageOf) → (head : PldmHead) → (body : List ℕ) → TakerRow
+  -- a message that is no PLDM request is whole
+  Strays : (requests : List (Option Held)) → (message : MessageOf) → TakerRow
 
 -- a request: new, or there again
 abbrev pub taker_asked : List (Option Held) → MessageOf → PldmHead → List ℕ → Asked → TakerRow
 taker_asked requests m head body (asks.Again answer) = TakerRow.Repeats requests answer
 taker_asked requests m head body asks.New = TakerRow.TakesUp requests m head body
 
--- a whole message: it is dropped unless it is a PLDM request
+-- a whole message: a PLDM request, or a stray
 abbrev pub taker_read : List (Option Held) → List (Option Kept) → MessageOf → Result (PldmHead × List ℕ) PldmFault → TakerRow
 taker_read requests kept m (Ok r) =
-    if r.0.rq then taker_asked requests m r.0 r.1 (request_heard kept m) else TakerRow.Silent requests
-taker_read requests kept m (Err fault) = TakerRow.Silent requests
+    if r.0.rq then taker_asked requests m r.0 r.1 (request_heard kept m) else TakerRow.Strays requests m
+taker_read requests kept m (Err fault) = TakerRow.Strays requests m
 
 -- what its assembly says of the packet
 abbrev pub taker_fed : List (Option Held) → List (Option Kept) → Fed → TakerRow
@@ -83,13 +60,13 @@ taker_row own peer t bytes =
 pub data AskerRow : Type 0 where
   -- nothing is learnt
   Ignores : (replies : List (Option Held)) → AskerRow
-  -- the open request is answered, by this reply
-  Learns : (replies : List (Option Held)) → (caller : CallerState) → (reply : List ℕ) → AskerRow
+  -- the open request is answered: its command, and the reply
+  Learns : (replies : List (Option Held)) → (caller : CallerState) → (heard : Heard) → AskerRow
 
 -- a whole message: it answers the open request, or is dropped
 abbrev pub asker_answered : List (Option Held) → CallerState → Option Heard → AskerRow
 asker_answered replies caller None = AskerRow.Ignores replies
-asker_answered replies caller (Some heard) = AskerRow.Learns replies caller heard.reply
+asker_answered replies caller (Some heard) = AskerRow.Learns replies caller heard
 
 -- what its assembly says of the packet
 abbrev pub asker_fed : List (Option Held) → CallerState → Fed → AskerRow
@@ -145,3 +122,52 @@ taker_counts t =
 abbrev pub taker_tick : Bool → TakerOf → TakerOf
 taker_tick true t = taker_counts t
 taker_tick false t = t
+
+-- what an end that hears makes of these bytes
+abbrev pub asking_row : AskingOf → List ℕ → AskerRow
+asking_row a bytes = asker_packet (asker_of 0 a) (packet_for a.own a.peer false bytes)
+
+abbrev pub answering_row : AnsweringOf → List ℕ → TakerRow
+answering_row t bytes = taker_packet (taker_of 0 t) (packet_for t.own t.peer true bytes)
+
+-- the answer that the node that asks learns
+abbrev pub learnt_in : AskerRow → Option Heard
+learnt_in (AskerRow.Ignores replies) = None
+learnt_in (AskerRow.Learns replies caller heard) = Some heard
+
+-- that node after a packet
+abbrev pub asking_after : AskingOf → AskerRow → AskingOf
+asking_after a (AskerRow.Ignores replies) = record a { replies = replies }
+asking_after a (AskerRow.Learns replies caller heard) = record a { caller = caller; replies = replies }
+
+-- what a packet brings to the node that answers
+pub data BroughtOf : Type 0 where
+  Nothing : BroughtOf
+  Again : (answer : MessageOf) → BroughtOf
+  New : (request : RequestOf) → BroughtOf
+  Strays : (message : MessageOf) → BroughtOf
+
+-- that, as the code has it
+abbrev pub brought_of : Brought → BroughtOf
+brought_of brings.Nothing = BroughtOf.Nothing
+brought_of (brings.Again answer) = BroughtOf.Again answer
+brought_of (brings.New request) = BroughtOf.New request
+brought_of (brings.Strays message) = BroughtOf.Strays message
+
+-- what it is by the row
+abbrev pub brought_in : TakerRow → BroughtOf
+brought_in (TakerRow.Silent requests) = BroughtOf.Nothing
+brought_in (TakerRow.Repeats requests answer) = BroughtOf.Again answer
+brought_in (TakerRow.TakesUp requests m head body) = BroughtOf.New (record { message = m; head = head; body = body })
+brought_in (TakerRow.Strays requests m) = BroughtOf.Strays m
+
+-- what the node that answers holds of requests after a packet
+abbrev pub requests_in : TakerRow → List (Option Held)
+requests_in (TakerRow.Silent requests) = requests
+requests_in (TakerRow.Repeats requests answer) = requests
+requests_in (TakerRow.TakesUp requests m head body) = requests
+requests_in (TakerRow.Strays requests m) = requests
+
+-- A new request is answered: the answer is kept.
+abbrev pub answered_with : AnsweringOf → RequestOf → List ℕ → AnsweringOf
+answered_with t r reply = record t { kept = kept_with t.kept (reply_message r.message r.head reply) }

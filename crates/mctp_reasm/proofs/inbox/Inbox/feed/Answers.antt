@@ -1,6 +1,6 @@
 use Rattle.mctp_reasm.specs.Pieces.{packet_of}
-use Rattle.exch_lane.proofs.Routes.{inbox_with}
-use Rattle.exch_lane.proofs.inbox.Inbox.feed.Goals as goal
+use Rattle.mctp_reasm.proofs.Routes.{inbox_with}
+use Rattle.mctp_reasm.proofs.inbox.Inbox.feed.Goals as goal
 
 pub invariant_of-self : goal.invariant_of-self
 invariant_of-self c =

@@ -1,7 +1,7 @@
 use Rattle.std.proofs.Common.{ap, arith, get_or}
 use Rattle.std.proofs.lemmas.List.Edits.{map_over_more}
 use Rattle.mctp_reasm.specs.Held.{held_tick}
-use Rattle.exch_lane.proofs.inbox.tick_all.Goals as goal
+use Rattle.mctp_reasm.proofs.inbox.tick_all.Goals as goal
 
 pub loop-place-preserved : goal.loop-place-preserved
 loop-place-preserved c =

@@ -1,0 +1,66 @@
+-- The assemblies of the messages that a node hears from a peer, of requests or of replies: one a tag, since source,
+-- destination and TO are the same for all.
+use Rattle.std.specs.Prelude.{◌≡◌, ℕ, ◌+◌, ◌==◌, ◌&&◌, not, Bool, if◌then◌else◌, List, [], ◌∷◌, length, replicate, get_or, slice_set, Option, Some, None, Result, Ok, Err}
+use Rattle.mctp_wire.specs.Packet as wire
+use Rattle.mctp_wire.specs.declared.fault.WireFault.{WireFault}
+use Rattle.mctp_wire.specs.declared.layout.Head.{Head}
+use Rattle.mctp_reasm.specs.Held.{Held, fed, held_after, packets_of}
+use Rattle.mctp_reasm.specs.Pieces.{PacketOf, Route, packet_of, route_of}
+use Rattle.mctp_reasm.specs.declared.outcomes.Fed.{Fed}
+
+-- a node, its peer, whether it hears requests, and what it holds under each tag
+pub record InboxOf : Type 0 where
+  pub own : ℕ
+  pub peer : ℕ
+  pub to : Bool
+  pub held : List (Option Held)
+
+-- eight tags of which nothing is held
+abbrev pub none_held : List (Option Held)
+none_held = replicate 8 None
+
+-- the packet is for this node: it goes to its endpoint and comes from its peer, and TO is set exactly where requests are
+-- heard
+abbrev pub is_for : (own peer : ℕ) → (to : Bool) → Head → Bool
+is_for own peer to h = (h.dest == own) && (h.source == peer) && (if to then h.to else not h.to)
+
+-- the packet that was read, where it is for this node
+abbrev pub for_end : (own peer : ℕ) → (to : Bool) → Result (Head × List ℕ) WireFault → Option PacketOf
+for_end own peer to (Ok p) = if is_for own peer to p.0 then Some (packet_of p.0 p.1) else None
+for_end own peer to (Err fault) = None
+
+-- The packet that these bytes are, where it is for this node; bytes that are no packet are dropped.
+abbrev pub packet_for : (own peer : ℕ) → (to : Bool) → List ℕ → Option PacketOf
+packet_for own peer to bytes = for_end own peer to (wire.packet_of bytes)
+
+-- what is held under a tag
+abbrev pub held_at : List (Option Held) → ℕ → Option Held
+held_at held tag = get_or held tag None
+
+-- what comes of a packet: it is fed to the assembly of its tag
+abbrev pub fed_at : List (Option Held) → PacketOf → Fed
+fed_at held p = fed (held_at held p.head.tag) p
+
+-- what is held after it
+abbrev pub held_with : List (Option Held) → PacketOf → List (Option Held)
+held_with held p = slice_set held p.head.tag (held_after (held_at held p.head.tag) p)
+
+-- what all packets have in common that are heard under a tag
+abbrev pub inbox_route : (own peer : ℕ) → Bool → (tag : ℕ) → Route
+inbox_route own peer to tag = record { dest = own; source = peer; to = to; tag = tag }
+
+-- the packets of one message are on this route
+abbrev pub IsOnRoute : Route → List PacketOf → Type 0
+IsOnRoute r [] = Unit {0}
+IsOnRoute r (q ∷ qs) = route_of q.head ≡ r
+
+-- what is held under each tag, from one on, is on its route
+abbrev pub AreOnRoutes : (own peer : ℕ) → Bool → (tag : ℕ) → List (Option Held) → Type 0
+AreOnRoutes own peer to tag [] = Unit {0}
+AreOnRoutes own peer to tag (h ∷ hs) =
+    IsOnRoute (inbox_route own peer to tag) (packets_of h) × AreOnRoutes own peer to (tag + 1) hs
+
+-- what is true of each inbox
+pub record IsInbox (b : InboxOf) : Type 0 where
+  pub places : length b.held ≡ 8
+  pub routes : AreOnRoutes b.own b.peer b.to 0 b.held

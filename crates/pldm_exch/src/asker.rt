@@ -1,0 +1,127 @@
+//! The end of a node that asks a peer.
+
+ghost use Rattle.std.specs.Prelude.{◌≡◌, ◌≤◌, List, ℕ, is_some, length, option_map, true};
+ghost use Rattle.pldm_exch.specs.Caller.{abandoned, asking, begun, caller_tick, is_quiet, may_begin};
+ghost use Rattle.pldm_exch.specs.Ends.{asking_new, asking_older};
+ghost use Rattle.pldm_exch.specs.Sides.{asking_after, asking_row, learnt_in};
+
+use crate::caller::{CallTick, Caller, ReplyIn};
+use mctp_reasm::{Fed, Inbox, Message};
+use pldm_base::TYPE_FIRMWARE_UPDATE;
+use std::marker::Model;
+
+/// What a node has to ask one peer: its requests, and the assemblies of that peer's replies. A node that is deaf gives it
+/// neither packets nor ticks.
+#[derive(Debug, Drop)]
+pub struct Asker {
+    caller: Caller,
+    inbox: Inbox,
+}
+
+impl Model for Asker {
+    ghost use Rattle.std.specs.Prelude.{◌≡◌, false};
+    ghost use Rattle.pldm_exch.specs.Ends.{AskingOf};
+
+    ghost Value = { AskingOf };
+
+    ghost view = { λ a. record { own = a.inbox.own; peer = a.inbox.peer; caller = a.caller; replies = a.inbox.held } };
+
+    ghost invariant = { λ a. a.inbox.to ≡ false };
+}
+
+impl Asker {
+    /// The end of the node `own` that asks the node `peer`, before its first request.
+    pub fn new(own: u8, peer: u8) -> Asker
+        ensures { result ≡ asking_new own peer }
+    {
+        Asker {
+            caller: Caller::new(own, peer),
+            inbox: Inbox::new(own, peer, false),
+        }
+    }
+
+    /// The node's own endpoint identifier.
+    pub fn own(&self) -> u8
+        ensures { result ≡ self.now.own }
+    {
+        self.inbox.own()
+    }
+
+    /// The endpoint identifier of the node that it asks.
+    pub fn peer(&self) -> u8
+        ensures { result ≡ self.now.peer }
+    {
+        self.inbox.peer()
+    }
+
+    /// Whether a request waits for its reply.
+    pub fn is_open(&self) -> bool
+        ensures { result ≡ is_some self.now.caller.asked }
+    {
+        self.caller.is_open()
+    }
+
+    /// The command and the request data of the request that waits for its reply.
+    pub fn open_request(&self) -> Option<(u8, &[u8])>
+        ensures { option_map {U = ℕ × List ℕ} (λ r. (r.0, r.1.now)) result ≡ option_map asking self.now.caller.asked }
+    {
+        self.caller.open_request()
+    }
+
+    /// Whether nothing of the last request can come any more: none is open, and the last one was answered, or its tag has
+    /// rested.
+    pub fn is_quiet(&self) -> bool
+        ensures { result ≡ is_quiet self.now.caller }
+    {
+        self.caller.quiet()
+    }
+
+    /// Whether a request may begin: it is quiet, and the next tag has rested.
+    pub fn can_begin(&self) -> bool
+        ensures { result ≡ may_begin self.now.caller }
+    {
+        self.caller.can_begin()
+    }
+
+    /// Begins a request of PLDM type 5 with request data of at most 252 bytes, and gives out the message to send.
+    pub fn begin(&mut self, command: u8, body: &[u8]) -> Message
+        requires may { may_begin self.old.caller ≡ true }
+        requires body { length body.now ≤ 252 }
+        ensures request { result ≡ (begun self.old.caller 5 command body.now).1 }
+        ensures after { self.new ≡ record self.old { caller = (begun self.old.caller 5 command body.now).0 } }
+    {
+        self.caller.begin(TYPE_FIRMWARE_UPDATE, command, body)
+    }
+
+    /// Gives the open request up: it isn't sent again, and its reply is dropped.
+    pub fn abandon(&mut self)
+        ensures { self.new ≡ record self.old { caller = abandoned self.old.caller } }
+    {
+        self.caller.abandon();
+    }
+
+    /// Hears the bytes of a packet: the reply that is learnt, if the packet makes the open request's reply whole. Bytes
+    /// that are no packet of the peer's replies change nothing.
+    #[tactic(auto, using(crate::proofs::SideRows::rows))]
+    pub fn hear(&mut self, bytes: &[u8]) -> Option<ReplyIn>
+        ensures learnt { option_map (λ r. record { command = r.command; reply = r.reply.items }) result ≡ learnt_in (asking_row self.old bytes.now) }
+        ensures after { self.new ≡ asking_after self.old (asking_row self.old bytes.now) }
+    {
+        let Some(packet) = self.inbox.packet_in(bytes) else {
+            return None;
+        };
+        let Fed::Whole(message) = self.inbox.feed(&packet) else {
+            return None;
+        };
+        self.caller.on_answer(&message)
+    }
+
+    /// A tick passes: what is held grows older, and the open request is sent again or given up.
+    pub fn tick(&mut self) -> CallTick
+        ensures answer { result ≡ (caller_tick self.old.caller).1 }
+        ensures after { self.new ≡ asking_older self.old }
+    {
+        self.inbox.tick();
+        self.caller.tick()
+    }
+}

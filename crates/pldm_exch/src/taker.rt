@@ -1,0 +1,130 @@
+//! The end of a node that answers a peer.
+
+ghost use Rattle.std.specs.Prelude.{◌≡◌, ◌≤◌, length, true};
+ghost use Rattle.pldm_base.specs.Header.{IsHead, pldm_of};
+ghost use Rattle.pldm_exch.specs.Ends.{answering_new, answering_older};
+ghost use Rattle.pldm_exch.specs.Sides.{answered_with, answering_row, brought_in, brought_of, requests_in, taker_read};
+ghost use Rattle.pldm_exch.specs.Requests.{reply_message};
+
+use crate::answerer::{Answerer, Asked};
+use crate::request::{Brought, Request};
+use mctp_reasm::{Fed, Inbox, Message};
+use pldm_base::PldmHead;
+use std::marker::Model;
+
+/// What a node has to answer one peer: the answers that it keeps, and the assemblies of that peer's requests. A node that
+/// is deaf gives it neither packets nor ticks.
+#[derive(Debug, Drop)]
+pub struct Taker {
+    answerer: Answerer,
+    inbox: Inbox,
+}
+
+impl Model for Taker {
+    ghost use Rattle.std.specs.Prelude.{◌≡◌, true};
+    ghost use Rattle.pldm_exch.specs.Ends.{AnsweringOf};
+
+    ghost Value = { AnsweringOf };
+
+    ghost view = { λ t. record { own = t.inbox.own; peer = t.inbox.peer; kept = t.answerer; requests = t.inbox.held } };
+
+    ghost invariant = { λ t. t.inbox.to ≡ true };
+}
+
+impl Taker {
+    /// The end of the node `own` that answers the node `peer`, before its first answer.
+    pub fn new(own: u8, peer: u8) -> Taker
+        ensures { result ≡ answering_new own peer }
+    {
+        Taker {
+            answerer: Answerer::new(),
+            inbox: Inbox::new(own, peer, true),
+        }
+    }
+
+    /// The node's own endpoint identifier.
+    pub fn own(&self) -> u8
+        ensures { result ≡ self.now.own }
+    {
+        self.inbox.own()
+    }
+
+    /// The endpoint identifier of the node that it answers.
+    pub fn peer(&self) -> u8
+        ensures { result ≡ self.now.peer }
+    {
+        self.inbox.peer()
+    }
+
+    /// Hears the bytes of a packet, and tells what is to be done if the packet makes a message whole. Bytes that are no
+    /// packet of the peer's requests change nothing.
+    #[tactic(auto, using(crate::proofs::SideRows::rows))]
+    pub fn hear(&mut self, bytes: &[u8]) -> Brought
+        ensures brought { brought_of result ≡ brought_in (answering_row self.old bytes.now) }
+        ensures after { self.new ≡ record self.old { requests = requests_in (answering_row self.old bytes.now) } }
+    {
+        let Some(packet) = self.inbox.packet_in(bytes) else {
+            return Brought::Nothing;
+        };
+        let Fed::Whole(message) = self.inbox.feed(&packet) else {
+            return Brought::Nothing;
+        };
+        self.read(message)
+    }
+
+    /// What a whole message brings.
+    #[tactic(auto, using(crate::proofs::SideRows::rows))]
+    fn read(&self, message: Message) -> Brought
+        ensures { brought_of result ≡ brought_in (taker_read self.now.requests self.now.kept message (pldm_of message.bytes)) }
+    {
+        let Ok((head, _)) = pldm_base::decode(message.bytes()) else {
+            return Brought::Strays(message);
+        };
+        if !head.rq {
+            return Brought::Strays(message);
+        }
+        if let Asked::Again(answer) = self.answerer.on_request(&message) {
+            return Brought::Again(answer);
+        }
+        Brought::New(Request { message, head })
+    }
+
+    /// Answers a new request with a completion code and fields of at most 252 bytes: the message to send, which is kept.
+    pub fn answer(&mut self, request: &Request, reply: &[u8]) -> Message
+        requires { length reply.now ≤ 252 }
+        ensures answer { result ≡ reply_message request.now.message request.now.head reply.now }
+        ensures after { self.new ≡ answered_with self.old request.now reply.now }
+    {
+        let answer = reply_to(&request.message, &request.head, reply);
+        self.answerer.keep(&answer);
+        answer
+    }
+
+    /// A tick passes: what is held and what is kept grow older.
+    pub fn tick(&mut self)
+        ensures { self.new ≡ answering_older self.old }
+    {
+        self.inbox.tick();
+        self.answerer.tick();
+    }
+}
+
+/// The reply to a request, as a message.
+fn reply_to(request: &Message, head: &PldmHead, reply: &[u8]) -> Message
+    requires reply { length reply.now ≤ 252 }
+    requires head { IsHead head.now }
+    ensures { result ≡ reply_message request.now head.now reply.now }
+{
+    let reply_head = PldmHead { rq: false, ..*head };
+    let bytes = pldm_base::encode(&reply_head, reply);
+    let Ok(message) = Message::new(
+        request.source(),
+        request.dest(),
+        false,
+        request.tag(),
+        bytes.as_slice(),
+    ) else {
+        unreachable!()
+    };
+    message
+}
