@@ -16,7 +16,6 @@ pub mod Planned
 pub mod Readings
 pub mod Reports
 pub mod Runs
-pub mod Same
 pub mod Serves
 pub mod Takes
 pub mod Turns

@@ -5,6 +5,5 @@ pub mod Laws
 pub mod Nodes
 pub mod Pairs
 pub mod Replays
-pub mod Same
 pub mod WorldLaws
 pub mod Worlds

@@ -6,7 +6,6 @@ ghost use Rattle.fwup_wire.specs.Commands.{command_code};
 ghost use Rattle.fwup_wire.specs.Lent.{answer_of, command_of};
 ghost use Rattle.fw_message.specs.Pairs.{asked, brought, closed, closed_unless, dropped_cell, fresh_cell, given_up, is_empty};
 
-use crate::same::is_same;
 use fwup_wire::{Answer, Command, read_answer};
 use pldm_base::Reply;
 use std::marker::Model;
@@ -99,7 +98,7 @@ impl<'a> Held<'a> {
         ensures { Some self.new ≡ closed_unless (option_map command_of wish.now) (Some self.old) }
     {
         self.live = match wish {
-            Some(wish) => self.live && is_same(&self.command, wish),
+            Some(wish) => self.live && self.command.is_same(wish),
             None => false,
         };
     }

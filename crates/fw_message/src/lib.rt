@@ -9,7 +9,6 @@ mod laws;
 mod messages;
 mod pair;
 mod replay;
-mod same;
 mod side;
 mod step;
 #[cfg(test)]

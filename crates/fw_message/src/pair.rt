@@ -3,7 +3,7 @@
 ghost use Rattle.std.specs.Prelude.{◌≡◌, ◌≤◌, None, Some, false, if◌then◌else◌, not, option_map, true};
 ghost use Rattle.fd_core.specs.States.{DeviceOf};
 ghost use Rattle.fwup_wire.specs.Lent.{command_of};
-ghost use Rattle.fw_message.specs.History.{package_at};
+ghost use Rattle.ua_core.specs.Lent.{package_at};
 ghost use Rattle.fw_message.specs.Nodes.{HasComponents, cell_of};
 ghost use Rattle.fw_message.specs.Pairs.{StepOf, down_wish, quietly, step_of, unwished_closed};
 ghost use Rattle.fw_message.specs.WorldLaws.{new_node};
@@ -16,7 +16,7 @@ use fd_core::{Bank, Device};
 use fw_package::Package;
 use std::alloc::Global;
 use std::marker::Model;
-use ua_core::{Lent, Session};
+use ua_core::Session;
 
 mod asking;
 mod calling;
@@ -100,18 +100,5 @@ impl<'a, B: Bank> Pair<'a, B> {
         ensures { result.now.session ≡ self.now.node.pair.session }
     {
         &self.session
-    }
-}
-
-/// The package of this number, from 1 on, as a session is lent it.
-pub fn lent<'a>(packages: &'a [Package], number: usize) -> Lent<'a>
-    ensures { result ≡ package_at packages.now number }
-{
-    let Some(index) = number.checked_sub(1) else {
-        return Lent::none();
-    };
-    match packages.get(index) {
-        Some(package) => Lent::some(package),
-        None => Lent::none(),
     }
 }

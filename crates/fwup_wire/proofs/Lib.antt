@@ -3,5 +3,6 @@ mod Found
 pub mod Items
 pub mod ParameterLaws
 pub mod Parts
+pub mod SameCommands
 mod Written
 mod WrittenAnswers

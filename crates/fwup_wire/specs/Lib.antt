@@ -6,4 +6,5 @@ pub mod Items
 pub mod Laws
 pub mod Lent
 pub mod Parameters
+pub mod Same
 pub mod Values

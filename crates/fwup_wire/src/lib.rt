@@ -19,6 +19,7 @@ mod descriptors;
 mod laws;
 mod parameter_list;
 mod parameters;
+mod same;
 mod values;
 mod writer;
 

@@ -1,5 +1,5 @@
 -- What a session reads from the package that it is lent.
-use Rattle.std.specs.Prelude.{Bool, None, Option, Some, [], if◌then◌else◌, length, nat_lt, ◌%◌, ◌/◌, ◌==◌, ℕ}
+use Rattle.std.specs.Prelude.{Bool, List, None, Option, Some, [], if◌then◌else◌, length, nat_lt, slice_index_or, suc, zero, ◌%◌, ◌/◌, ◌==◌, ℕ}
 use Rattle.std.specs.Borrow.{Bor}
 use Rattle.fw_package.specs.Package.{ComponentOf, PackageText}
 use Rattle.fw_package.specs.Package.{DescriptorOf as DescriptorKnown, TextOf as TextKept}
@@ -14,6 +14,11 @@ no_package = record { header_size = 0; records = []; components = [] }
 abbrev pub lent : Option (Bor PackageText) → PackageText
 lent None = no_package
 lent (Some p) = p.now
+
+-- the package of this number, from 1 on
+abbrev pub package_at : List PackageText → ℕ → PackageText
+package_at packages zero = no_package
+package_at packages (suc n) = slice_index_or packages n no_package
 
 -- option bit 0: the update is forced
 abbrev pub is_forced : ComponentOf → Bool

@@ -7,7 +7,7 @@ ghost use Rattle.fw_package.specs.Choice.{component_at, plan_of, record_at, reco
 ghost use Rattle.fw_package.specs.Package.{descriptor_of, text_of as package_text_of};
 ghost use Rattle.fwup_wire.specs.Lent.{text_of, version_of};
 ghost use Rattle.ua_core.specs.Learn.{job_for, planned};
-ghost use Rattle.ua_core.specs.Lent.{is_forced, key_of, no_package, sent_size, sent_text, sent_version, told_descriptor};
+ghost use Rattle.ua_core.specs.Lent.{is_forced, key_of, no_package, package_at, sent_size, sent_text, sent_version, told_descriptor};
 
 use crate::planned::Job;
 use crate::plans::unlearnt;
@@ -64,6 +64,19 @@ impl<'a> Lent<'a> {
         ensures { result ≡ no_package }
     {
         Lent { package: None }
+    }
+
+    /// The package of this number, counted from 1; none where there is no such package.
+    pub fn of(packages: &'a [Package], number: usize) -> Lent<'a>
+        ensures { result ≡ package_at packages.now number }
+    {
+        let Some(index) = number.checked_sub(1) else {
+            return Lent::none();
+        };
+        match packages.get(index) {
+            Some(package) => Lent::some(package),
+            None => Lent::none(),
+        }
     }
 
     /// The record for the device with these descriptors, and its components, or why there is nothing to send.

@@ -8,11 +8,11 @@ use Rattle.fd_core.specs.States.{Phase, WorkOf}
 use Rattle.fd_core.specs.Wishes.{device_wish}
 use Rattle.fd_core.specs.declared.states.Progress.TheVariants as progress
 use Rattle.ua_core.specs.Laws.{StandsInPlan}
-use Rattle.ua_core.specs.Lent.{key_of, told_descriptor}
+use Rattle.ua_core.specs.Lent.{key_of, told_descriptor, package_at}
 use Rattle.ua_core.specs.Serve.{window}
 use Rattle.ua_core.specs.Session.{JobOf, Stage, TaskOf}
 use Rattle.ua_core.specs.declared.planned.Recorded.{Recorded}
-use Rattle.fw_message.specs.History.{EntryOf, package_at}
+use Rattle.fw_message.specs.History.{EntryOf}
 use Rattle.fw_message.specs.Pairs.{HeldOf, PairOf, down_wish}
 use Rattle.fw_message.proofs.Safety.Applied.{AppliedIs, Backed, BackedBut, NoneApplied}
 use Rattle.fw_message.proofs.Safety.Counts.{IsPending}

@@ -8,11 +8,11 @@ use Rattle.fw_package.specs.Choice.{component_at, image_for}
 use Rattle.fw_package.specs.Package.{DescriptorOf, PackageText}
 use Rattle.fwup_wire.specs.declared.values.Key.{Key}
 use Rattle.fd_core.specs.Images.{ImageOf, Put, RowOf, dropped, put_among, put_applied, puts, rises, same_key, sealed, sealed_if, switched, turned_to}
-use Rattle.ua_core.specs.Lent.{key_of}
+use Rattle.ua_core.specs.Lent.{key_of, package_at}
 use Rattle.ua_core.specs.declared.planned.Recorded.{Recorded}
-use Rattle.fw_message.specs.History.{HasRecording, IsFrom, package_at}
+use Rattle.fw_message.specs.History.{HasRecording, IsFrom}
 use Rattle.fw_message.proofs.Safety.Counts.{recorded_component}
-use Rattle.fw_message.proofs.Safety.Same.{key_means}
+use Rattle.fwup_wire.proofs.SameCommands.{key_means}
 
 abbrev pub put_of : Key → ImageOf → Put
 put_of key image = record { key = key; bytes = image.bytes }

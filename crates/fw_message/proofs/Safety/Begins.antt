@@ -12,11 +12,11 @@ use Rattle.fd_core.specs.Wishes.{wish_at}
 use Rattle.fd_core.specs.declared.parts.Component.{Component}
 use Rattle.fd_core.specs.declared.states.Progress.{Progress}
 use Rattle.fd_core.specs.declared.states.Progress.TheVariants as progress
-use Rattle.ua_core.specs.Lent.{is_forced, key_of, sent_size, sent_version}
+use Rattle.ua_core.specs.Lent.{is_forced, key_of, sent_size, sent_version, package_at}
 use Rattle.ua_core.specs.Session.{Stage}
 use Rattle.ua_core.specs.Wish.{stage_wish}
 use Rattle.ua_core.specs.declared.planned.Recorded.{Recorded}
-use Rattle.fw_message.specs.History.{EntryOf, package_at}
+use Rattle.fw_message.specs.History.{EntryOf}
 use Rattle.fw_message.specs.Pairs.{HeldOf, PairOf, down_taken, noted, with_down}
 use Rattle.fw_message.proofs.Safety.Agreement.{AreTold, CommandStands, Holds, IsBegun, IsBegunAt, IsSame, IsStanding, NothingAccepted, OwnStands, Pending, Settled, StageForm, TableTime, Together, Waiting, at_hand, command_of, reply_of}
 use Rattle.fw_message.proofs.Safety.Applied.{NoneApplied, none_dropped}

@@ -10,7 +10,8 @@ use Rattle.fd_core.specs.declared.states.Progress.TheVariants as progress
 use Rattle.ua_core.specs.Session.{Stage}
 use Rattle.ua_core.specs.Wish.{stage_wish}
 use Rattle.ua_core.specs.declared.planned.Recorded.{Recorded}
-use Rattle.fw_message.specs.History.{EntryOf, package_at}
+use Rattle.fw_message.specs.History.{EntryOf}
+use Rattle.ua_core.specs.Lent.{package_at}
 use Rattle.fw_message.specs.Pairs.{HeldOf, PairOf, StepOf, asked, dropped_cell, fresh_cell, given_up, put_down, put_up, step_of, with_down, with_up}
 use Rattle.fw_message.specs.declared.side.Way.TheVariants as ways
 use Rattle.fw_message.proofs.Safety.Agreement.{Application, CommandStands, IsBegunAt, IsStanding, OwnStands, Pending, Together, Transfer, UpdateOffered, Verification, at_hand, command_of, is_applied, is_offered, is_sealed, reply_of}

@@ -10,7 +10,7 @@ use Rattle.fw_message.specs.History.{EntryOf}
 use Rattle.fw_message.specs.Pairs.{HeldOf, PairOf, closed_unless, down_wish, is_wished, unwished_closed, with_down, with_up}
 use Rattle.fw_message.proofs.Safety.Agreement.{CommandStands, IsStanding, StandsOpen}
 use Rattle.fw_message.proofs.Safety.Cells.{closed_up}
-use Rattle.fw_message.proofs.Safety.Same.{same_self}
+use Rattle.fwup_wire.proofs.SameCommands.{same_self}
 
 wished_self : (c : CommandOf) (wish : Option CommandOf) → wish ≡ Some c → is_wished c wish ≡ true
 wished_self c wish e = rw e (same_self c)

@@ -9,10 +9,10 @@ use Rattle.fw_package.specs.Choice.{component_at}
 use Rattle.fw_package.specs.Package.{ComponentOf, PackageText}
 use Rattle.fwup_wire.specs.declared.values.Key.{Key}
 use Rattle.fd_core.specs.Images.{Put, same_key}
-use Rattle.ua_core.specs.Lent.{key_of}
+use Rattle.ua_core.specs.Lent.{key_of, package_at}
 use Rattle.ua_core.specs.declared.planned.Recorded.{Recorded}
-use Rattle.fw_message.specs.History.{EntryOf, applied_count, recorded_count, one_if, package_at, records_put, same_put}
-use Rattle.fw_message.proofs.Safety.Same.{bytes_means, bytes_self, key_means, key_self}
+use Rattle.fw_message.specs.History.{EntryOf, applied_count, recorded_count, one_if, records_put, same_put}
+use Rattle.fwup_wire.proofs.SameCommands.{bytes_means, bytes_self, key_means, key_self}
 
 -- the component that a record is of
 abbrev pub recorded_component : List PackageText → Recorded → ComponentOf

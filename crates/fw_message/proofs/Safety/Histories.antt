@@ -12,7 +12,7 @@ use Rattle.fw_message.specs.Pairs.{noted}
 use Rattle.fw_message.proofs.Safety.Applied.{Backed, NoneApplied, none_dropped, none_switched, put_of, puts_from, puts_none}
 use Rattle.fw_message.proofs.Safety.Counts.{Balanced, IsPending, balanced_more, balanced_never, never_activated, never_applied, never_recorded, recorded_component}
 use Rattle.fw_message.proofs.Safety.Readings.{activating, activations_applied, activations_recorded, after_all, after_applied, after_recorded, in_all, in_applied, in_recorded, read_joined, read_push, since, since_push_applied, since_push_recorded, through}
-use Rattle.fw_message.proofs.Safety.Same.{key_means}
+use Rattle.fwup_wire.proofs.SameCommands.{key_means}
 use Rattle.fw_message.proofs.Safety.Turns.{HasOne, drop_runs, one_dropped, one_sealed, one_switched, seal_runs, switch_turns}
 
 -- where an activation goes on, nothing is applied

@@ -11,14 +11,14 @@ use Rattle.fd_core.specs.States.{Phase, WorkOf}
 use Rattle.fd_core.specs.declared.states.Progress.TheVariants as progress
 use Rattle.ua_core.specs.Laws.{LearnsInPlan, StandsInPlan}
 use Rattle.ua_core.specs.Learn.{LearnRow, begun, fails, first_pass, first_task, job_for, job_of, learn_by, learn_row, next_pass, planned, with_passed}
-use Rattle.ua_core.specs.Lent.{told_descriptor}
+use Rattle.ua_core.specs.Lent.{told_descriptor, package_at}
 use Rattle.ua_core.specs.Session.{JobOf, SessionOf, Stage, TaskOf}
 use Rattle.ua_core.specs.Wish.{stage_wish}
 use Rattle.ua_core.specs.declared.planned.Planned.{Planned}
 use Rattle.ua_core.specs.declared.planned.Recorded.{Recorded}
 use Rattle.ua_core.specs.declared.state.Cause.{Cause}
 use Rattle.ua_core.specs.declared.state.Cause.TheVariants as causes
-use Rattle.fw_message.specs.History.{EntryOf, package_at}
+use Rattle.fw_message.specs.History.{EntryOf}
 use Rattle.fw_message.specs.Pairs.{HeldOf, PairOf, StepOf, brought, learn_down, step_of, with_down}
 use Rattle.fw_message.proofs.Safety.Agreement.{AreTold, Cleared, FreshIn, HasChosen, IsBegun, IsBegunAt, IsChosen, IsPieceOf, IsStanding, IsTransfer, NothingAccepted, Pending, TableTime, Together, Transfer, UpdateOffered, Waiting, at_hand, command_of, reply_of}
 use Rattle.fw_message.proofs.Safety.Applied.{none_backed}

@@ -8,10 +8,10 @@ use Rattle.fw_package.specs.Laws.{PlansNamedImages}
 use Rattle.fw_package.specs.Package.{DescriptorOf, PackageText}
 use Rattle.fw_package.specs.declared.fault.PlanFault.TheVariants.{DuplicateComponent, ImageTooLarge, TextTooLong, TooManyComponents}
 use Rattle.ua_core.specs.Laws.{IsTask, number_of}
-use Rattle.ua_core.specs.Lent.{key_of}
+use Rattle.ua_core.specs.Lent.{key_of, package_at}
 use Rattle.ua_core.specs.Session.{TaskOf}
 use Rattle.ua_core.specs.declared.planned.Planned.{Planned}
-use Rattle.fw_message.specs.History.{IsNamed, package_at}
+use Rattle.fw_message.specs.History.{IsNamed}
 use Rattle.fw_message.proofs.Safety.Agreement.{IsChosen, at_hand}
 use Rattle.fw_message.proofs.Safety.Applied.{Names}
 

@@ -10,9 +10,8 @@ use Rattle.fd_core.specs.Images.{RowOf}
 use Rattle.fd_core.specs.States.{Phase, WorkOf}
 use Rattle.fd_core.specs.Wishes.{wish_at}
 use Rattle.fd_core.specs.declared.states.Progress.TheVariants as progress
-use Rattle.ua_core.specs.Lent.{key_of}
+use Rattle.ua_core.specs.Lent.{key_of, package_at}
 use Rattle.ua_core.specs.declared.planned.Recorded.{Recorded}
-use Rattle.fw_message.specs.History.{package_at}
 use Rattle.fw_message.proofs.Safety.Agreement.{Application, IsBegunAt, IsHeld, IsPieceOf, IsTransfer, NothingAccepted, OwnStands, Settled, StageForm, Transfer, UpdateOffered, Verification, is_sealed}
 use Rattle.fw_message.proofs.Safety.Applied.{Names, backed_recorded}
 

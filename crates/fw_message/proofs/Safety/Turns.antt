@@ -9,7 +9,7 @@ use Rattle.fw_message.specs.Laws.{IsUnapplied}
 use Rattle.fw_message.specs.History.{running}
 use Rattle.fw_message.proofs.Safety.Applied.{none_turned, put_of}
 use Rattle.fw_message.proofs.Safety.Readings.{through}
-use Rattle.fw_message.proofs.Safety.Same.{key_means, key_self}
+use Rattle.fwup_wire.proofs.SameCommands.{key_means, key_self}
 
 unfoldable pub AreApplied : (Key → Option ImageOf) → List RowOf → Type 0
 AreApplied f [] = Unit {0}

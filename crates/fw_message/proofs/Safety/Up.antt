@@ -9,14 +9,14 @@ use Rattle.fd_core.specs.Images.{RowOf}
 use Rattle.fd_core.specs.States.{Phase}
 use Rattle.fd_core.specs.Wishes.{device_wish}
 use Rattle.ua_core.specs.Laws.{ServesInPlan, StandsInPlan}
-use Rattle.ua_core.specs.Lent.{key_of}
+use Rattle.ua_core.specs.Lent.{key_of, package_at}
 use Rattle.ua_core.specs.Serve.{ServeRow, after_by, answer_by, recorded_with, refuses, serve_row, task_after, unexpected, window}
 use Rattle.ua_core.specs.Session.{SessionOf, Stage, TaskOf}
 use Rattle.ua_core.specs.Wish.{stage_wish}
 use Rattle.ua_core.specs.declared.planned.Planned.{Planned}
 use Rattle.ua_core.specs.declared.planned.Recorded.{Recorded}
 use Rattle.ua_core.specs.declared.state.Cause.TheVariants as causes
-use Rattle.fw_message.specs.History.{EntryOf, IsNamed, package_at}
+use Rattle.fw_message.specs.History.{EntryOf, IsNamed}
 use Rattle.fw_message.specs.Pairs.{HeldOf, PairOf, StepOf, noted, step_of, take_up, take_up_at, up_taken, with_up}
 use Rattle.fw_message.proofs.Safety.Agreement.{CommandStands, HasChosen, IsStanding, OwnStands, Pending, Settled, StageForm, Together, Waiting, at_hand, is_offered, reply_of}
 use Rattle.fw_message.proofs.Safety.Counts.{IsPending}

@@ -7,10 +7,11 @@ ghost use Rattle.fwup_wire.specs.Lent.{command_of};
 ghost use Rattle.std.specs.Prelude.{option_map};
 
 use crate::cell::Held;
-use crate::pair::{Pair, lent};
+use crate::pair::Pair;
 use fd_core::Bank;
 use fw_package::Package;
 use fwup_wire::Command;
+use ua_core::Lent;
 
 impl<'a, B: Bank> Pair<'a, B> {
     /// The agent asks what the session wishes. False where nothing is wished or the cell isn't empty.
@@ -20,7 +21,7 @@ impl<'a, B: Bank> Pair<'a, B> {
         ensures eid { self.new.node.eid ≡ self.old.node.eid }
         ensures faults { self.new.faults ≡ self.old.faults }
     {
-        let wish = self.session.wish(&lent(packages, self.session.package()));
+        let wish = self.session.wish(&Lent::of(packages, self.session.package()));
         ask(&mut self.down, wish)
     }
 
@@ -86,7 +87,7 @@ impl<'a, B: Bank> Pair<'a, B> {
         ensures eid { self.new.node.eid ≡ self.old.node.eid }
         ensures faults { self.new.faults ≡ self.old.faults }
     {
-        let wish = self.session.wish(&lent(packages, self.session.package()));
+        let wish = self.session.wish(&Lent::of(packages, self.session.package()));
         close_unless(&mut self.down, &wish);
         close_unless(&mut self.up, &self.device.wish());
     }

@@ -12,13 +12,13 @@ ghost use Rattle.fw_message.specs.Pairs.{StepOf, activated_down, quietly, step_o
 
 use crate::entry::Image;
 use crate::images::applied_images;
-use crate::pair::{Pair, lent};
+use crate::pair::Pair;
 use fd_core::{Bank, Device, Key, Progress, State, Verdict};
 use fw_package::Package;
 use fwup_wire::{Answer, Command};
 use pldm_base::completion::ERROR;
 use std::alloc::{AllocError, Global};
-use ua_core::Recorded;
+use ua_core::{Lent, Recorded};
 
 impl<'a, B: Bank> Pair<'a, B> {
     /// The session takes what the device asked, and answers it. None where nothing waits to be taken; else what the
@@ -37,7 +37,7 @@ impl<'a, B: Bank> Pair<'a, B> {
             return None;
         }
         let made = self.session.records().len();
-        let lent = lent(packages, self.session.package());
+        let lent = Lent::of(packages, self.session.package());
         let reply = self.session.take(&held.command(), &lent);
         held.take(reply);
         Some(self.session.records().get(made).copied())
@@ -212,7 +212,7 @@ impl<'a, B: Bank> Pair<'a, B> {
         let Some(answer) = held.answer() else {
             return false;
         };
-        let lent = lent(packages, self.session.package());
+        let lent = Lent::of(packages, self.session.package());
         self.session.learn(Ok(&answer), &lent);
         self.down = None;
         true

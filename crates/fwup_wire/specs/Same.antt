@@ -1,14 +1,17 @@
 -- Whether two commands are the same, with all their fields.
 use Rattle.std.specs.Prelude.{nat_eq, ◌==◌, ◌&&◌, Bool, true, false}
 use Rattle.std.specs.Cmp.Lexicographic.{pointwise}
-use Rattle.fd_core.specs.Images.{same_key}
 use Rattle.fwup_wire.specs.Fields.{flag_byte}
 use Rattle.fwup_wire.specs.Values.{CommandOf, EntryOf, OfferOf, RequestOf, TextOf, VersionOf}
+use Rattle.fwup_wire.specs.declared.values.Key.{Key}
 
 abbrev pub same_bool : Bool → Bool → Bool
 same_bool true b = b
 same_bool false true = false
 same_bool false false = true
+
+abbrev pub same_key : Key → Key → Bool
+same_key a b = (a.classification == b.classification) && (a.identifier == b.identifier)
 
 abbrev pub same_text : TextOf → TextOf → Bool
 same_text a b = (a.text_type == b.text_type) && pointwise nat_eq a.bytes b.bytes
@@ -34,6 +37,7 @@ same_offer a b =
     && ((a.index == b.index)
     && (same_version a.version b.version && ((a.size == b.size) && same_bool a.force b.force)))
 
+-- The same command, with all its fields.
 unfoldable pub same_command : CommandOf → CommandOf → Bool
 same_command CommandOf.QueryDeviceIdentifiers CommandOf.QueryDeviceIdentifiers = true
 same_command CommandOf.GetFirmwareParameters CommandOf.GetFirmwareParameters = true

@@ -3,11 +3,10 @@ use Rattle.std.specs.Prelude.{ℕ, nat_eq, ◌==◌, ◌≡◌, Bool, true, fals
 use Rattle.std.proofs.Common.{refl}
 use Rattle.std.specs.Cmp.Lexicographic.{pointwise}
 use Rattle.std.proofs.lemmas.Bool.{and_parts, eqb-true, eq-eqb}
-use Rattle.fd_core.specs.Images.{same_key}
 use Rattle.fwup_wire.specs.Fields.{flag_byte}
 use Rattle.fwup_wire.specs.Values.{CommandOf, EntryOf, OfferOf, RequestOf, TextOf, VersionOf}
 use Rattle.fwup_wire.specs.declared.values.Key.{Key}
-use Rattle.fw_message.specs.Same.{same_bool, same_text, same_version, same_request, same_entry, same_offer, same_command}
+use Rattle.fwup_wire.specs.Same.{same_bool, same_key, same_text, same_version, same_request, same_entry, same_offer, same_command}
 
 pub bytes_self : (xs : List ℕ) → pointwise nat_eq xs xs ≡ true
 bytes_self [] = refl
