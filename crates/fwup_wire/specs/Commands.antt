@@ -1,5 +1,5 @@
 -- The commands of DSP0267 1.0: which bytes are one, what reading gives, and how they are written.
-use Rattle.std.specs.Prelude.{[], ◌%◌, ◌++◌, ◌^◌, ◌<◌, ◌==◌, ◌∷◌, ◌≡◌, ◌≤◌, Err, List, None, Ok, Option, Result, Some, false, if◌then◌else◌, length, true, ℕ}
+use Rattle.std.specs.Prelude.{[], ◌%◌, ◌++◌, ◌^◌, ◌<◌, ◌==◌, ◌∷◌, ◌≡◌, ◌≤◌, Err, List, None, Ok, Option, Result, Some, false, if◌then◌else◌, length, nat_le, true, ◌&&◌, Bool, ℕ}
 use Rattle.std.specs.Option.{option_map}
 use Rattle.byteorder.specs.Endian.{little_bytes}
 use Rattle.pldm_base.specs.Codes.{invalid_data, invalid_length, unsupported_command}
@@ -202,3 +202,12 @@ HasWidths (CommandOf.UpdateComponent o) = HasComponentWidths o.key o.version.sta
 HasWidths (CommandOf.RequestFirmwareData offset size) = (offset < 256 ^ 4) × (size < 256 ^ 4)
 HasWidths (CommandOf.ApplyComplete result methods) = methods < 256 ^ 2
 HasWidths c = Unit {0}
+
+-- what can be said: it can be written, and each number fits its field
+pub record IsSpoken (c : CommandOf) : Type 0 where
+  pub writable : IsWritable c
+  pub widths : HasWidths c
+
+-- the commands that go from a device to its agent: RequestFirmwareData, TransferComplete, VerifyComplete, ApplyComplete
+abbrev pub is_asked_of_agent : ℕ → Bool
+is_asked_of_agent command = nat_le 0x15 command && nat_le command 0x18

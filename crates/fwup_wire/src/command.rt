@@ -2,7 +2,7 @@
 
 ghost use Rattle.std.specs.Prelude.{IsTrue, ◌↔◌, ◌≡◌};
 ghost use Rattle.fwup_wire.specs.Lent.{command_of};
-ghost use Rattle.fwup_wire.specs.Commands.{IsWritable, command_code};
+ghost use Rattle.fwup_wire.specs.Commands.{IsWritable, command_code, is_asked_of_agent};
 
 use crate::code::command;
 use crate::values::{Key, Text, TransferFlag, Version};
@@ -150,4 +150,12 @@ impl Command<'_> {
             _ => true,
         }
     }
+}
+
+/// Whether a command goes from a device to its agent. The others go from the agent to a device; each end answers those of the
+/// other kind with `ERROR_UNSUPPORTED_PLDM_CMD` whatever their request data.
+pub fn is_asked_of_agent(code: u8) -> bool
+    ensures { result ≡ is_asked_of_agent code }
+{
+    code >= command::REQUEST_FIRMWARE_DATA && code <= command::APPLY_COMPLETE
 }

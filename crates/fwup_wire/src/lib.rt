@@ -26,7 +26,7 @@ mod writer;
 pub use answer::{Answer, Malformed, OfferResponse, Status, TableResponse};
 pub use answer_reading::read_answer;
 pub use answer_writing::write_answer;
-pub use command::{Command, ComponentOffer, TableEntry, UpdateRequest};
+pub use command::{Command, ComponentOffer, TableEntry, UpdateRequest, is_asked_of_agent};
 pub use command_reading::read;
 pub use command_writing::write;
 pub use descriptor_list::{DescriptorList, MAX_DESCRIPTOR_BYTES};
