@@ -1,0 +1,6 @@
+mod Controls
+mod NodeHears
+mod NodeServes
+mod NodeTicks
+mod Rows
+mod Working

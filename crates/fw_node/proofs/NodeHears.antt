@@ -1,0 +1,67 @@
+-- What a packet is for a half that hears, by what it brings.
+use Rattle.std.proofs.Common.{◌≡◌, ◌∙◌, ◌==◌, ℕ, Bool, true, false, List, Option, Result, Ok, Err, refl, sym, ap}
+use Rattle.mctp_reasm.specs.Held.{Held}
+use Rattle.mctp_reasm.specs.Pieces.{MessageOf}
+use Rattle.pldm_base.specs.declared.header.PldmHead.{PldmHead}
+use Rattle.pldm_exch.specs.Caller.{is_quiet}
+use Rattle.fwup_wire.specs.Values.{CommandOf}
+use Rattle.mctp_reasm.specs.Inboxes.{packet_for}
+use Rattle.pldm_exch.specs.Ends.{AnsweringOf, asker_of, taker_of}
+use Rattle.pldm_exch.specs.Sides.{AskerRow, TakerRow, answering_row, asking_after, asking_row, taker_packet, taker_row}
+use Rattle.fw_node.specs.BothEnds.{EndsOf}
+use Rattle.fw_node.specs.Halves.{CoreOf, HalfOf, IncomingOf, answering_after, half_brings, half_hears, half_hears_by, incoming, read_by, takes_if, takes_read}
+use Rattle.fw_node.specs.Nodes.{half_of}
+
+-- the ends after a packet of these rows
+abbrev pub ends_after : EndsOf → AskerRow → TakerRow → EndsOf
+ends_after e asker taker = record { asking = asking_after e.asking asker; answering = answering_after asker e.answering taker }
+
+-- what is held of requests is put once or twice
+read_alike : {C : Type 0} (core : CoreOf C) (quiet works : Bool) (h : HalfOf C) (requests : List (Option Held)) (m : MessageOf) (head : PldmHead) (read : Result CommandOf ℕ)
+    → takes_read core quiet works h requests m head read ≡ takes_read core quiet works (record h { taker = record h.taker { requests = requests } }) requests m head read
+read_alike core quiet works h requests m head (Ok c) = refl
+read_alike core quiet works h requests m head (Err code) = refl
+
+takes_alike : {C : Type 0} (b : Bool) (core : CoreOf C) (works : Bool) (h : HalfOf C) (requests : List (Option Held)) (m : MessageOf) (head : PldmHead) (body : List ℕ)
+    → takes_if b core works h requests m head body ≡ takes_if b core works (record h { taker = record h.taker { requests = requests } }) requests m head body
+takes_alike true core works h requests m head body = read_alike core (is_quiet h.asker.caller) works h requests m head (read_by core head.command body)
+takes_alike false core works h requests m head body = refl
+
+rows_bring : {C : Type 0} (core : CoreOf C) (works : Bool) (deaf : ℕ) (c : C) (e : EndsOf) (asker : AskerRow) (taker : TakerRow)
+    → half_hears_by core works (half_of deaf c e) asker taker ≡ half_brings core works (half_of deaf c (ends_after e asker taker)) (incoming asker taker)
+rows_bring core works deaf c e (AskerRow.Learns replies caller heard) taker = refl
+rows_bring core works deaf c e (AskerRow.Ignores replies) (TakerRow.Silent requests) = refl
+rows_bring core works deaf c e (AskerRow.Ignores replies) (TakerRow.Repeats requests answer) = refl
+rows_bring core works deaf c e (AskerRow.Ignores replies) (TakerRow.TakesUp requests m head body) =
+    takes_alike (head.pldm_type == 5) core works (half_of deaf c (record e { asking = asking_after e.asking (AskerRow.Ignores replies) })) requests m head body
+rows_bring core works deaf c e (AskerRow.Ignores replies) (TakerRow.Strays requests m) = refl
+
+-- both ends have the same endpoints
+taker_is : (own peer : ℕ) (t : AnsweringOf) (bytes : List ℕ) → t.own ≡ own → t.peer ≡ peer → taker_row own peer (taker_of 0 t) bytes ≡ answering_row t bytes
+taker_is own peer t bytes o p =
+    sym (ap (λ n. taker_packet (taker_of 0 t) (packet_for n t.peer true bytes)) o ∙ ap (λ n. taker_packet (taker_of 0 t) (packet_for own n true bytes)) p)
+
+-- a half that hears
+pub hearing_brings : {C : Type 0} (core : CoreOf C) (works : Bool) (c : C) (e : EndsOf) (bytes : List ℕ) → e.answering.own ≡ e.asking.own → e.answering.peer ≡ e.asking.peer
+    → half_hears core works (half_of 0 c e) bytes
+    ≡ half_brings core works (half_of 0 c (ends_after e (asking_row e.asking bytes) (answering_row e.answering bytes))) (incoming (asking_row e.asking bytes) (answering_row e.answering bytes))
+hearing_brings core works c e bytes own peer =
+    ap (half_hears_by core works (half_of 0 c e) (asking_row e.asking bytes)) (taker_is e.asking.own e.asking.peer e.answering bytes own peer)
+    ∙ rows_bring core works 0 c e (asking_row e.asking bytes) (answering_row e.answering bytes)
+
+-- the same for a node whose count of deaf ticks is at its end, by what its ends say
+pub hears_brings : {C : Type 0} (core : CoreOf C) (works : Bool) (deaf : ℕ) (c : C) (e new : EndsOf) (bytes : List ℕ) (i : IncomingOf) → deaf ≡ 0
+    → e.answering.own ≡ e.asking.own → e.answering.peer ≡ e.asking.peer
+    → i ≡ incoming (asking_row e.asking bytes) (answering_row e.answering bytes)
+    → new.asking ≡ asking_after e.asking (asking_row e.asking bytes)
+    → new.answering ≡ answering_after (asking_row e.asking bytes) e.answering (answering_row e.answering bytes)
+    → half_hears core works (half_of deaf c e) bytes ≡ half_brings core works (half_of deaf c new) i
+hears_brings core works deaf c e new bytes i hears own peer brings asking answering =
+    let arow = asking_row e.asking bytes in
+    let trow = answering_row e.answering bytes in
+    ap (λ d. half_hears core works (half_of d c e) bytes) hears
+    ∙ hearing_brings core works c e bytes own peer
+    ∙ ap (λ x. half_brings core works (half_of 0 c (record { asking = x; answering = answering_after arow e.answering trow })) (incoming arow trow)) (sym asking)
+    ∙ ap (λ y. half_brings core works (half_of 0 c (record { asking = new.asking; answering = y })) (incoming arow trow)) (sym answering)
+    ∙ ap (half_brings core works (half_of 0 c new)) (sym brings)
+    ∙ ap (λ d. half_brings core works (half_of d c new) i) (sym hears)

@@ -1,0 +1,48 @@
+-- What a node makes of a firmware update request.
+use Rattle.std.proofs.Common.{◌≡◌, ◌==◌, ◌∷◌, [], ℕ, Bool, true, List, Option, Result, Ok, Err, refl}
+use Rattle.mctp_reasm.specs.Held.{Held}
+use Rattle.std.proofs.lemmas.Bool.{eq-eqb}
+use Rattle.mctp_ctl.specs.declared.answers.Endpoint.{Endpoint}
+use Rattle.pldm_base.specs.declared.terminus.Role.{Role}
+use Rattle.pldm_exch.specs.Caller.{is_quiet}
+use Rattle.pldm_exch.specs.Requests.{RequestOf, reply_message}
+use Rattle.fwup_wire.specs.Values.{CommandOf}
+use Rattle.fw_node.specs.Halves.{CoreOf, HalfOf, IncomingOf, half_brings, read_by, reply_read, settled, takes_read}
+use Rattle.fw_node.specs.Nodes.{IsAnswered, IsTold, NodeHeard, finished, replied}
+
+-- a half whose core took what was read, and answered it
+abbrev pub answered_half : {C : Type 0} → CoreOf C → HalfOf C → RequestOf → C → List ℕ → HalfOf C
+answered_half core h r c reply = settled core (replied (record h { core = c }) (reply_message r.message r.head reply))
+
+taken_read : {C : Type 0} (core : CoreOf C) (role : Role) (e : Endpoint) (tid : ℕ) (quiet works : Bool) (h : HalfOf C) (r : RequestOf) (read : Result CommandOf ℕ)
+    → finished role e tid (takes_read core quiet works h h.taker.requests r.message r.head read)
+    ≡ record {
+      half = answered_half core h r (reply_read core quiet works h.core read).core (reply_read core quiet works h.core read).reply;
+      tid = tid;
+      sent = reply_message r.message r.head (reply_read core quiet works h.core read).reply ∷ [];
+    }
+taken_read core role e tid quiet works h r (Ok c) = refl
+taken_read core role e tid quiet works h r (Err code) = refl
+
+pub taken : {C : Type 0} (core : CoreOf C) (role : Role) (e : Endpoint) (tid : ℕ) (works : Bool) (h : HalfOf C) (r : RequestOf) → r.head.pldm_type ≡ 5
+    → finished role e tid (half_brings core works h (IncomingOf.New r))
+    ≡ record {
+      half = answered_half core h r (reply_read core (is_quiet h.asker.caller) works h.core (read_by core r.head.command r.body)).core (reply_read core (is_quiet h.asker.caller) works h.core (read_by core r.head.command r.body)).reply;
+      tid = tid;
+      sent = reply_message r.message r.head (reply_read core (is_quiet h.asker.caller) works h.core (read_by core r.head.command r.body)).reply ∷ [];
+    }
+taken core role e tid works h r five =
+    rw (eq-eqb r.head.pldm_type 5 five) (taken_read core role e tid (is_quiet h.asker.caller) works h r (read_by core r.head.command r.body))
+
+told_read : {C : Type 0} (core : CoreOf C) (quiet works : Bool) (h : HalfOf C) (requests : List (Option Held)) (r : RequestOf) (read : Result CommandOf ℕ)
+    → IsAnswered core quiet works h.core read → IsTold (takes_read core quiet works h requests r.message r.head read)
+told_read core quiet works h requests r (Ok c) told = told
+told_read core quiet works h requests r (Err code) told = tt
+
+pub told : {C : Type 0} (core : CoreOf C) (works : Bool) (h : HalfOf C) (r : RequestOf) → r.head.pldm_type ≡ 5
+    → IsAnswered core (is_quiet h.asker.caller) works h.core (read_by core r.head.command r.body)
+    → IsTold (half_brings core works h (IncomingOf.New r))
+told core works h r five is =
+    rw (eq-eqb r.head.pldm_type 5 five) (told_read core (is_quiet h.asker.caller) works h h.taker.requests r (read_by core r.head.command r.body) is)
+
+pub ruleset node_serves = (taken, told)

@@ -1,0 +1,49 @@
+-- A tick of a device node, as the code goes.
+use Rattle.std.proofs.Common.{◌≡◌, ◌∙◌, ◌≤◌, ◌<◌, ℕ, ◌++◌, ◌∷◌, [], Bool, true, false, nat_le, List, Option, Some, None, refl, sym, ap, map, flat_map, arith}
+use Rattle.std.proofs.lemmas.Bool.{le-leb}
+use Rattle.std.proofs.lemmas.Grind.{flat_map-append}
+use Rattle.mctp_reasm.specs.Pieces.{MessageOf}
+use Rattle.pldm_exch.specs.Caller.{CallerState, caller_tick, may_begin}
+use Rattle.pldm_exch.specs.declared.caller.CallTick.{CallTick}
+use Rattle.pldm_exch.specs.declared.caller.CallTick.TheVariants as ticks
+use Rattle.fwup_wire.specs.Values.{CommandOf}
+use Rattle.pldm_exch.specs.Sides.{asker_called}
+use Rattle.fw_node.specs.Halves.{CoreOf, HalfOf, Ticked, aged, begins_if, begins_wish, called, half_counts, half_ticks, idled, last_part, unwished_abandoned, with_caller}
+use Rattle.fw_node.specs.Cores.{TimedDevice, device_core}
+use Rattle.fw_node.specs.Packets.{all_packets, packets_of, sent_by}
+
+-- what was sent before stands before what is sent at last
+abbrev pub behind : {C : Type 0} → List MessageOf → Ticked C → Ticked C
+behind ms t = record { half = t.half; sent = ms ++ t.sent }
+
+nil_behind : {A : Type 0} (xs : List A) → xs ++ [] ≡ xs
+nil_behind [] = refl
+nil_behind (x ∷ xs) = ap (λ ys. x ∷ ys) (nil_behind xs)
+
+begun_behind : {C : Type 0} (may : Bool) (h : HalfOf C) (c : CommandOf) (ms : List MessageOf) → begins_if may h c ms ≡ behind ms (begins_if may h c [])
+begun_behind true h c ms = refl
+begun_behind false h c ms = rw (nil_behind ms) refl
+
+wished_behind : {C : Type 0} (wish : Option CommandOf) (h : HalfOf C) (ms : List MessageOf) → begins_wish wish h ms ≡ behind ms (begins_wish wish h [])
+wished_behind None h ms = rw (nil_behind ms) refl
+wished_behind (Some c) h ms = begun_behind (may_begin h.asker.caller) h c ms
+
+last_behind : {C : Type 0} (f : CoreOf C) (h : HalfOf C) (ms : List MessageOf) → last_part f h ms ≡ behind ms (last_part f h [])
+last_behind f h ms = wished_behind (f.wish h.core) (with_caller h (unwished_abandoned (f.wish h.core) h.asker.caller)) ms
+
+by_call : (h : HalfOf TimedDevice) (t : CallTick)
+    → called device_core (aged h) (asker_called (aged h).asker t) ≡ last_part device_core (idled device_core (aged h)) (sent_by t)
+by_call h ticks.Nothing = refl
+by_call h (ticks.Send m) = refl
+by_call h ticks.GaveUp = refl
+
+pub hearing_tick : (h : HalfOf TimedDevice) → h.asker.deaf ≤ 1 → h.taker.deaf ≤ 1
+    → half_counts device_core h ≡ behind (sent_by (caller_tick h.asker.caller).1) (last_part device_core (idled device_core (aged h)) [])
+hearing_tick h ask take =
+    rw (le-leb h.asker.deaf 1 ask, le-leb h.taker.deaf 1 take) (by_call h (caller_tick h.asker.caller).1)
+    ∙ last_behind device_core (idled device_core (aged h)) (sent_by (caller_tick h.asker.caller).1)
+
+pub packets_behind : (ms ns : List MessageOf) → all_packets (ms ++ ns) ≡ all_packets ms ++ all_packets ns
+packets_behind ms ns = flat_map-append packets_of ms ns
+
+pub ruleset node_ticks = (hearing_tick, packets_behind)

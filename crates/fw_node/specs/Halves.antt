@@ -1,0 +1,236 @@
+-- One half of a pair: what a node has for one peer. That is a core, which is the agent's session with a device or the device
+-- itself, what it asks of the peer, and what it answers the peer. What a half does is the same for both kinds of core.
+use Rattle.std.specs.Prelude.{ℕ, ◌==◌, Bool, true, false, if◌then◌else◌, List, [], ◌∷◌, ◌++◌, drop, map, Option, Some, None, Result, Ok, Err}
+use Rattle.mctp_reasm.specs.Held.{Held, held_tick}
+use Rattle.mctp_reasm.specs.Pieces.{MessageOf}
+use Rattle.pldm_base.specs.Codes.{unsupported_command}
+use Rattle.pldm_base.specs.declared.header.PldmHead.{PldmHead}
+use Rattle.fwup_wire.specs.Answers.{answer_bytes, answer_read}
+use Rattle.fwup_wire.specs.Commands.{command_bytes, command_code, command_read}
+use Rattle.fwup_wire.specs.Same.{same_command}
+use Rattle.fwup_wire.specs.Values.{AnswerOf, CommandOf}
+use Rattle.fwup_wire.specs.declared.answer.Malformed.{Malformed}
+use Rattle.pldm_exch.specs.Caller.{CallerState, Heard, Open, abandoned, begun, caller_tick, is_quiet, may_begin}
+use Rattle.pldm_exch.specs.Ends.{AnsweringOf, AskerOf, TakerOf, asker_new, taker_new}
+use Rattle.pldm_exch.specs.Kept.{answerer_tick, kept_with}
+use Rattle.pldm_exch.specs.Requests.{RequestOf, reply_message}
+use Rattle.pldm_exch.specs.Sides.{AskerRow, AskerTick, BroughtOf, TakerRow, asker_counts, asker_row, brought_in, requests_in, taker_counts, taker_row}
+
+-- what a core makes of a command
+pub record TakenBy (C : Type 0) : Type 0 where
+  pub core : C
+  pub answer : AnswerOf
+
+-- What a core does: the command that it wishes to ask; whether commands of a code are its to answer; what it makes of one,
+-- where a device is told whether it is quiet, and `works` says whether the one call of its bank succeeds; what it learns
+-- from an answer, or from a malformed one; that its request was given up; its idle tick; and a restart.
+pub record CoreOf (C : Type 0) : Type 0 where
+  pub wish : C → Option CommandOf
+  pub serves : ℕ → Bool
+  pub take : C → CommandOf → (quiet works : Bool) → TakenBy C
+  pub learn : C → Result AnswerOf Malformed → (works : Bool) → C
+  pub silent : C → C
+  pub ticked : C → C
+  pub restarted : C → C
+
+-- a half: the node's own endpoint and the peer's, the core, and both ends
+pub record HalfOf (C : Type 0) : Type 0 where
+  pub own : ℕ
+  pub peer : ℕ
+  pub core : C
+  pub asker : AskerOf
+  pub taker : TakerOf
+
+-- a half after a tick, and the messages that it sends
+pub record Ticked (C : Type 0) : Type 0 where
+  pub half : HalfOf C
+  pub sent : List MessageOf
+
+-- the command is the one that is wished
+abbrev pub is_wished : CommandOf → Option CommandOf → Bool
+is_wished c None = false
+is_wished c (Some d) = same_command c d
+
+-- what was read is the command that is wished
+abbrev pub wished_read : Option CommandOf → Result CommandOf ℕ → Bool
+wished_read wish (Ok c) = is_wished c wish
+wished_read wish (Err e) = false
+
+-- the open request is of this command
+abbrev pub still_wished : Option CommandOf → Open → Bool
+still_wished wish o = wished_read wish (command_read o.command (drop 4 o.message.bytes))
+
+-- no request is open, or it is of this command
+abbrev pub wished_or : Option CommandOf → Option Open → Bool
+wished_or wish None = true
+wished_or wish (Some o) = still_wished wish o
+
+-- the requests, which go on where that holds, and else are given up
+abbrev pub kept_if : Bool → CallerState → CallerState
+kept_if true c = c
+kept_if false c = abandoned c
+
+abbrev pub unwished_for : Option CommandOf → CallerState → Option Open → CallerState
+unwished_for wish c None = c
+unwished_for wish c (Some o) = kept_if (still_wished wish o) c
+
+-- an open request that is no longer wished is given up
+abbrev pub unwished_abandoned : Option CommandOf → CallerState → CallerState
+unwished_abandoned wish c = unwished_for wish c c.asked
+
+abbrev pub with_caller : {C : Type 0} → HalfOf C → CallerState → HalfOf C
+with_caller h c = record h { asker = record h.asker { caller = c } }
+
+abbrev pub begins_if : {C : Type 0} → Bool → HalfOf C → CommandOf → List MessageOf → Ticked C
+begins_if true h c sent = record {
+  half = with_caller h (begun h.asker.caller 5 (command_code c) (command_bytes c)).0;
+  sent = sent ++ (begun h.asker.caller 5 (command_code c) (command_bytes c)).1 ∷ [];
+}
+begins_if false h c sent = record { half = h; sent = sent }
+
+abbrev pub begins_wish : {C : Type 0} → Option CommandOf → HalfOf C → List MessageOf → Ticked C
+begins_wish None h sent = record { half = h; sent = sent }
+begins_wish (Some c) h sent = begins_if (may_begin h.asker.caller) h c sent
+
+-- the last part of a tick: what isn't wished is given up, and what is wished begins
+abbrev pub last_part : {C : Type 0} → CoreOf C → HalfOf C → List MessageOf → Ticked C
+last_part core h sent = begins_wish (core.wish h.core) (with_caller h (unwished_abandoned (core.wish h.core) h.asker.caller)) sent
+
+abbrev pub hears_if : {C : Type 0} → Bool → CoreOf C → HalfOf C → List MessageOf → Ticked C
+hears_if true core h sent = last_part core (record h { core = core.ticked h.core }) sent
+hears_if false core h sent = record { half = h; sent = sent }
+
+abbrev pub goes_on : {C : Type 0} → CoreOf C → HalfOf C → List MessageOf → Ticked C
+goes_on core h sent = hears_if (h.asker.deaf == 0) core h sent
+
+abbrev pub called : {C : Type 0} → CoreOf C → HalfOf C → AskerTick → Ticked C
+called core h (AskerTick.Waits a) = goes_on core (record h { asker = a }) []
+called core h (AskerTick.Resends a m) = goes_on core (record h { asker = a }) (m ∷ [])
+called core h (AskerTick.GivesUp a) = goes_on core (record h { asker = a; core = core.silent h.core }) []
+
+-- a tick that the half counts
+abbrev pub half_counts : {C : Type 0} → CoreOf C → HalfOf C → Ticked C
+half_counts core h = called core (record h { taker = taker_counts h.taker }) (asker_counts h.asker)
+
+abbrev pub half_ticks : {C : Type 0} → CoreOf C → Bool → HalfOf C → Ticked C
+half_ticks core true h = half_counts core h
+half_ticks core false h = record { half = h; sent = [] }
+
+-- a half that hears, after its assemblies, its answers and its requests grew older
+abbrev pub aged : {C : Type 0} → HalfOf C → HalfOf C
+aged h = record h {
+  asker = record h.asker { deaf = 0; caller = (caller_tick h.asker.caller).0; replies = map held_tick h.asker.replies };
+  taker = record h.taker { deaf = 0; kept = answerer_tick h.taker.kept; requests = map held_tick h.taker.requests };
+}
+
+abbrev pub idled : {C : Type 0} → CoreOf C → HalfOf C → HalfOf C
+idled core h = record h { core = core.ticked h.core }
+
+-- What a packet is for a half: it went through, and these messages are sent; the core took this command, likewise; a new
+-- request of another PLDM type is to be answered; or a whole message is no PLDM request.
+pub data HalfHeard (C : Type 0) : Type 0 where
+  Went : (half : HalfOf C) → (sent : List MessageOf) → HalfHeard C
+  Took : (half : HalfOf C) → (sent : List MessageOf) → (command : CommandOf) → (answer : AnswerOf) → HalfHeard C
+  Asks : (half : HalfOf C) → (request : MessageOf) → (head : PldmHead) → (body : List ℕ) → HalfHeard C
+  Strayed : (half : HalfOf C) → (message : MessageOf) → HalfHeard C
+
+-- each call ends so: what is no longer wished is given up
+abbrev pub settled : {C : Type 0} → CoreOf C → HalfOf C → HalfOf C
+settled core h = with_caller h (unwished_abandoned (core.wish h.core) h.asker.caller)
+
+-- a half after it answered a new request
+abbrev pub answers : {C : Type 0} → HalfOf C → List (Option Held) → MessageOf → PldmHead → List ℕ → HalfOf C
+answers h requests m head reply = record h { taker = record h.taker { kept = kept_with h.taker.kept (reply_message m head reply); requests = requests } }
+
+abbrev pub takes_read : {C : Type 0} → CoreOf C → (quiet works : Bool) → HalfOf C → List (Option Held) → MessageOf → PldmHead → Result CommandOf ℕ → HalfHeard C
+takes_read core quiet works h requests m head (Ok c) =
+    HalfHeard.Took
+    (settled core (answers (record h { core = (core.take h.core c quiet works).core }) requests m head (answer_bytes (core.take h.core c quiet works).answer)))
+    (reply_message m head (answer_bytes (core.take h.core c quiet works).answer) ∷ [])
+    c
+    (core.take h.core c quiet works).answer
+takes_read core quiet works h requests m head (Err code) =
+    HalfHeard.Went (settled core (answers h requests m head (code ∷ []))) (reply_message m head (code ∷ []) ∷ [])
+
+-- what request data say to a core: commands that the other kind of core answers aren't read
+abbrev pub read_by : {C : Type 0} → CoreOf C → ℕ → List ℕ → Result CommandOf ℕ
+read_by core command body = if core.serves command then command_read command body else Err unsupported_command
+
+abbrev pub takes_if : {C : Type 0} → Bool → CoreOf C → (works : Bool) → HalfOf C → List (Option Held) → MessageOf → PldmHead → List ℕ → HalfHeard C
+takes_if true core works h requests m head body =
+    takes_read core (is_quiet h.asker.caller) works h requests m head (read_by core head.command body)
+takes_if false core works h requests m head body = HalfHeard.Asks (record h { taker = record h.taker { requests = requests } }) m head body
+
+abbrev pub half_takes : {C : Type 0} → CoreOf C → (works : Bool) → HalfOf C → TakerRow → HalfHeard C
+half_takes core works h (TakerRow.Silent requests) = HalfHeard.Went (record h { taker = record h.taker { requests = requests } }) []
+half_takes core works h (TakerRow.Repeats requests answer) = HalfHeard.Went (record h { taker = record h.taker { requests = requests } }) (answer ∷ [])
+half_takes core works h (TakerRow.TakesUp requests m head body) = takes_if (head.pldm_type == 5) core works h requests m head body
+half_takes core works h (TakerRow.Strays requests m) = HalfHeard.Strayed (record h { taker = record h.taker { requests = requests } }) m
+
+-- a packet, by the rows of both ends: it is for one of them at most
+abbrev pub half_hears_by : {C : Type 0} → CoreOf C → (works : Bool) → HalfOf C → AskerRow → TakerRow → HalfHeard C
+half_hears_by core works h (AskerRow.Ignores replies) row = half_takes core works (record h { asker = record h.asker { replies = replies } }) row
+half_hears_by core works h (AskerRow.Learns replies caller heard) row =
+    HalfHeard.Went
+    (settled core (record h {
+      core = core.learn h.core (answer_read heard.command heard.reply) works;
+      asker = record h.asker { caller = caller; replies = replies };
+    }))
+    []
+
+abbrev pub half_hears : {C : Type 0} → CoreOf C → (works : Bool) → HalfOf C → List ℕ → HalfHeard C
+half_hears core works h bytes = half_hears_by core works h (asker_row h.own h.peer h.asker bytes) (taker_row h.own h.peer h.taker bytes)
+
+-- A local call leaves this core; a request that is no longer wished is given up.
+abbrev pub recast : {C : Type 0} → CoreOf C → HalfOf C → C → HalfOf C
+recast core h c = settled core (record h { core = c })
+
+-- A node starts anew, and is deaf for 40 ticks.
+abbrev pub half_restarts : {C : Type 0} → CoreOf C → HalfOf C → HalfOf C
+half_restarts core h =
+    record h { core = core.restarted h.core; asker = asker_new h.own h.peer 40; taker = taker_new 40 }
+
+-- What a whole message or a packet of one brings to a half that hears: nothing, the answer to its open request, a request
+-- again, a new request, or a stray.
+pub data IncomingOf : Type 0 where
+  Nothing : IncomingOf
+  Learnt : (heard : Heard) → IncomingOf
+  Again : (answer : MessageOf) → IncomingOf
+  New : (request : RequestOf) → IncomingOf
+  Strays : (message : MessageOf) → IncomingOf
+
+abbrev pub brought_as : BroughtOf → IncomingOf
+brought_as BroughtOf.Nothing = IncomingOf.Nothing
+brought_as (BroughtOf.Again answer) = IncomingOf.Again answer
+brought_as (BroughtOf.New request) = IncomingOf.New request
+brought_as (BroughtOf.Strays message) = IncomingOf.Strays message
+
+-- by the rows of both ends
+abbrev pub incoming : AskerRow → TakerRow → IncomingOf
+incoming (AskerRow.Ignores replies) row = brought_as (brought_in row)
+incoming (AskerRow.Learns replies caller heard) row = IncomingOf.Learnt heard
+
+-- what the node that answers holds then
+abbrev pub answering_after : AskerRow → AnsweringOf → TakerRow → AnsweringOf
+answering_after (AskerRow.Ignores replies) t row = record t { requests = requests_in row }
+answering_after (AskerRow.Learns replies caller heard) t row = t
+
+-- what a core makes of what was read, and the reply
+pub record RepliedBy (C : Type 0) : Type 0 where
+  pub core : C
+  pub reply : List ℕ
+
+abbrev pub reply_read : {C : Type 0} → CoreOf C → (quiet works : Bool) → C → Result CommandOf ℕ → RepliedBy C
+reply_read core quiet works c (Ok command) =
+    record { core = (core.take c command quiet works).core; reply = answer_bytes (core.take c command quiet works).answer }
+reply_read core quiet works c (Err code) = record { core = c; reply = code ∷ [] }
+
+-- What each of these is for the half.
+abbrev pub half_brings : {C : Type 0} → CoreOf C → (works : Bool) → HalfOf C → IncomingOf → HalfHeard C
+half_brings core works h IncomingOf.Nothing = HalfHeard.Went h []
+half_brings core works h (IncomingOf.Learnt heard) =
+    HalfHeard.Went (settled core (record h { core = core.learn h.core (answer_read heard.command heard.reply) works })) []
+half_brings core works h (IncomingOf.Again answer) = HalfHeard.Went h (answer ∷ [])
+half_brings core works h (IncomingOf.New r) =
+    takes_if (r.head.pldm_type == 5) core works h h.taker.requests r.message r.head r.body
+half_brings core works h (IncomingOf.Strays m) = HalfHeard.Strayed h m

@@ -1,0 +1,6 @@
+pub mod BothEnds
+pub mod Brings
+pub mod Cores
+pub mod Halves
+pub mod Nodes
+pub mod Packets

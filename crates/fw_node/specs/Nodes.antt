@@ -1,0 +1,131 @@
+-- The nodes: what is finished by the node itself, and the device node. A node answers control and base requests for all its
+-- halves; what a half makes of packets and ticks is in `Halves`.
+use Rattle.std.specs.Prelude.{ℕ, ◌≡◌, ◌≤◌, ◌<◌, ◌⊎◌, ◌-◌, ◌^◌, ◌==◌, Bool, false, true, if◌then◌else◌, List, [], ◌∷◌, is_some, length, Option, Some, None, Result, Ok, Err}
+use Rattle.mctp_ctl.specs.Control.{answer_of}
+use Rattle.mctp_ctl.specs.declared.answers.Endpoint.{Endpoint}
+use Rattle.mctp_reasm.specs.Pieces.{MessageOf}
+use Rattle.pldm_base.specs.Base.{base_reply, tid_after}
+use Rattle.pldm_base.specs.Codes.{invalid_pldm_type}
+use Rattle.pldm_base.specs.declared.header.PldmHead.{PldmHead}
+use Rattle.pldm_base.specs.declared.terminus.Role.{Role}
+use Rattle.pldm_base.specs.declared.terminus.Role.TheVariants as roles
+use Rattle.pldm_exch.specs.Ends.{asker_of, taker_of}
+use Rattle.pldm_exch.specs.Kept.{kept_with}
+use Rattle.pldm_exch.specs.Requests.{reply_message}
+use Rattle.fwup_wire.specs.Answers.{answer_bytes, answer_in}
+use Rattle.fwup_wire.specs.Commands.{command_code}
+use Rattle.fwup_wire.specs.Values.{AnswerOf, CommandOf}
+use Rattle.fd_core.specs.States.{DeviceOf}
+use Rattle.fd_core.specs.Steps.{device_verdict, verdict_after}
+use Rattle.fd_core.specs.declared.states.Verdict.{Verdict}
+use Rattle.fw_node.specs.BothEnds.{EndsOf, ends_new}
+use Rattle.fw_node.specs.Cores.{TimedDevice, device_core, timed}
+use Rattle.fw_node.specs.Packets.{all_packets}
+use Rattle.fw_node.specs.Halves.{CoreOf, HalfHeard, HalfOf, half_hears, half_restarts, recast}
+
+-- a half of a node that is deaf for so long
+abbrev pub half_of : {C : Type 0} → (deaf : ℕ) → C → EndsOf → HalfOf C
+half_of deaf core e =
+    record { own = e.asking.own; peer = e.asking.peer; core = core; asker = asker_of deaf e.asking; taker = taker_of deaf e.answering }
+
+-- a half after a packet, the node's terminus identifier, and the messages that are sent
+pub record NodeHeard (C : Type 0) : Type 0 where
+  pub half : HalfOf C
+  pub tid : ℕ
+  pub sent : List MessageOf
+
+-- The reply to a PLDM request of another type than firmware update: a base command's, or a refusal of the type.
+abbrev pub other_reply : Role → ℕ → PldmHead → List ℕ → List ℕ
+other_reply role tid head body =
+    if head.pldm_type == 0 then base_reply role tid head.command body else invalid_pldm_type ∷ []
+
+-- the terminus identifier after it
+abbrev pub other_tid : ℕ → PldmHead → List ℕ → ℕ
+other_tid tid head body = if head.pldm_type == 0 then tid_after tid head.command body else tid
+
+-- such a request is answered, and the answer is kept
+abbrev pub replied : {C : Type 0} → HalfOf C → MessageOf → HalfOf C
+replied h answer = record h { taker = record h.taker { kept = kept_with h.taker.kept answer } }
+
+-- The answer to a control message, which is sent back and not kept.
+abbrev pub control_message : MessageOf → List ℕ → MessageOf
+control_message m bytes = record { dest = m.source; source = m.dest; to = false; tag = m.tag; bytes = bytes }
+
+abbrev pub control_sent : MessageOf → Option (List ℕ) → List MessageOf
+control_sent m None = []
+control_sent m (Some []) = []
+control_sent m (Some (byte ∷ bytes)) = control_message m (byte ∷ bytes) ∷ []
+
+-- What the node does with what a packet is for a half.
+abbrev pub finished : {C : Type 0} → Role → Endpoint → (tid : ℕ) → HalfHeard C → NodeHeard C
+finished role endpoint tid (HalfHeard.Went half sent) = record { half = half; tid = tid; sent = sent }
+finished role endpoint tid (HalfHeard.Took half sent command answer) = record { half = half; tid = tid; sent = sent }
+finished role endpoint tid (HalfHeard.Asks half m head body) =
+    record {
+      half = replied half (reply_message m head (other_reply role tid head body));
+      tid = other_tid tid head body;
+      sent = reply_message m head (other_reply role tid head body) ∷ [];
+    }
+finished role endpoint tid (HalfHeard.Strayed half m) =
+    record { half = half; tid = tid; sent = control_sent m (answer_of endpoint m.bytes) }
+
+-- an answer to a command can be read again, and fits a message
+pub record IsHeardAgain (command : CommandOf) (answer : AnswerOf) : Type 0 where
+  pub reads : answer_in (command_code command) (answer_bytes answer) ≡ Some answer
+  pub fits : length (answer_bytes answer) ≤ 252
+
+-- The answer of a core that took a command is such a one.
+abbrev pub IsTold : {C : Type 0} → HalfHeard C → Type 0
+IsTold (HalfHeard.Took half sent command answer) = IsHeardAgain command answer
+IsTold heard = Unit {0}
+
+-- the same of what a core makes of what was read
+abbrev pub IsAnswered : {C : Type 0} → CoreOf C → (quiet works : Bool) → C → Result CommandOf ℕ → Type 0
+IsAnswered core quiet works c (Ok command) = IsHeardAgain command (core.take c command quiet works).answer
+IsAnswered core quiet works c (Err code) = Unit {0}
+
+-- A device node: its endpoint, its terminus identifier, its half for the agent, and its bank's count of failures.
+pub record DeviceNodeOf : Type 0 where
+  pub endpoint : Endpoint
+  pub tid : ℕ
+  pub half : HalfOf TimedDevice
+  pub faults : ℕ
+
+-- what a packet is for a device node
+abbrev pub device_hears : (works : Bool) → DeviceNodeOf → List ℕ → NodeHeard TimedDevice
+device_hears works n bytes = finished roles.Device n.endpoint n.tid (half_hears device_core works n.half bytes)
+
+-- a device node after a verdict that counts
+abbrev pub device_judges : (works : Bool) → DeviceNodeOf → Verdict → HalfOf TimedDevice
+device_judges works n verdict =
+    recast device_core n.half (record { device = verdict_after n.half.core.device verdict works; idle = 0 })
+
+-- a device node after a restart
+abbrev pub device_restarts : DeviceNodeOf → DeviceNodeOf
+device_restarts n = record n { tid = 0; half = half_restarts device_core n.half }
+
+-- a device node as it is made
+abbrev pub new_device_node : Endpoint → (agent : ℕ) → DeviceOf → DeviceNodeOf
+new_device_node endpoint agent d =
+    record { endpoint = endpoint; tid = 0; half = half_of 0 (timed d) (ends_new endpoint.eid agent); faults = d.faults }
+
+-- a bank's count of failures rose, or stands at its last value
+abbrev pub FaultsRose : (old new : ℕ) → Type 0
+FaultsRose old new = (old < new) ⊎ (new ≡ 2 ^ 64 - 1)
+
+-- What a packet makes of a device node, and what is sent: `works` says whether its bank's one call succeeded, and a call
+-- fails only where its bank's count of failures tells so.
+pub record HearsIt (old : DeviceNodeOf) (bytes : List ℕ) (new : DeviceNodeOf) (sent : List (List ℕ)) : Type 0 where
+  pub works : Bool
+  pub half : new.half ≡ (device_hears works old bytes).half
+  pub tid : new.tid ≡ (device_hears works old bytes).tid
+  pub packets : sent ≡ all_packets (device_hears works old bytes).sent
+  pub failed : works ≡ false → FaultsRose old.faults new.faults
+  pub told : IsTold (half_hears device_core works old.half bytes)
+
+-- What a verdict that counts makes of a device node.
+pub record JudgesIt (old : DeviceNodeOf) (verdict : Verdict) (new : DeviceNodeOf) : Type 0 where
+  pub works : Bool
+  pub counts : is_some (device_verdict old.half.core.device verdict works) ≡ true
+  pub half : new.half ≡ device_judges works old verdict
+  pub failed : works ≡ false → FaultsRose old.faults new.faults

@@ -1,0 +1,18 @@
+-- The packets that a node sends.
+use Rattle.std.specs.Prelude.{ℕ, List, [], ◌∷◌, flat_map, map, Option, Some, None}
+use Rattle.mctp_reasm.specs.Pieces.{MessageOf, pieces, spelled}
+use Rattle.pldm_exch.specs.declared.caller.CallTick.{CallTick}
+use Rattle.pldm_exch.specs.declared.caller.CallTick.TheVariants as ticks
+
+-- the packets of a message, and of several
+abbrev pub packets_of : MessageOf → List (List ℕ)
+packets_of m = map spelled (pieces m)
+
+abbrev pub all_packets : List MessageOf → List (List ℕ)
+all_packets ms = flat_map packets_of ms
+
+-- what a tick of its requests has a node send again
+abbrev pub sent_by : CallTick → List MessageOf
+sent_by ticks.Nothing = []
+sent_by (ticks.Send m) = m ∷ []
+sent_by ticks.GaveUp = []

@@ -1,0 +1,146 @@
+//! Both directions of exchanges of a node with one peer.
+
+ghost use Rattle.std.specs.Prelude.{◌≡◌, ◌≤◌, length, option_map, true};
+ghost use Rattle.fwup_wire.specs.Commands.{IsWritable, command_bytes, command_code};
+ghost use Rattle.fwup_wire.specs.Lent.{command_of};
+ghost use Rattle.pldm_exch.specs.Caller.{begun, caller_tick, is_quiet, may_begin};
+ghost use Rattle.pldm_exch.specs.Requests.{reply_message};
+ghost use Rattle.pldm_exch.specs.Sides.{answered_with, answering_row, asking_after, asking_row};
+ghost use Rattle.fw_node.specs.BothEnds.{ends_new, ends_older};
+ghost use Rattle.fw_node.specs.Halves.{answering_after, incoming, unwished_abandoned, wished_or};
+ghost use Rattle.fw_node.specs.Brings.{incoming_of};
+
+use crate::incoming::Incoming;
+use fwup_wire::Command;
+use mctp_reasm::Message;
+use pldm_exch::{Asker, Brought, CallTick, Request, Taker};
+use std::marker::Model;
+
+/// What a node has to ask a peer, and to answer it.
+#[derive(Debug, Drop)]
+pub(crate) struct Ends {
+    asker: Asker,
+    taker: Taker,
+}
+
+impl Model for Ends {
+    ghost use Rattle.std.specs.Prelude.{◌≡◌};
+    ghost use Rattle.fw_node.specs.BothEnds.{EndsOf};
+
+    ghost Value = { EndsOf };
+
+    ghost view = { λ e. record { asking = e.asker; answering = e.taker } };
+
+    ghost invariant = { λ e. (e.taker.own ≡ e.asker.own) × (e.taker.peer ≡ e.asker.peer) };
+}
+
+impl Ends {
+    /// The ends of the node `own` for the node `peer`, before the first request and the first answer.
+    pub(crate) fn new(own: u8, peer: u8) -> Ends
+        ensures { result ≡ ends_new own peer }
+    {
+        Ends {
+            asker: Asker::new(own, peer),
+            taker: Taker::new(own, peer),
+        }
+    }
+
+    /// The node's own endpoint identifier.
+    pub(crate) fn own(&self) -> u8
+        ensures { result ≡ self.now.asking.own }
+    {
+        self.asker.own()
+    }
+
+    /// The peer's endpoint identifier.
+    pub(crate) fn peer(&self) -> u8
+        ensures { result ≡ self.now.asking.peer }
+    {
+        self.asker.peer()
+    }
+
+    /// Whether nothing of the last request can come any more.
+    pub(crate) fn is_quiet(&self) -> bool
+        ensures { result ≡ is_quiet self.now.asking.caller }
+    {
+        self.asker.is_quiet()
+    }
+
+    /// Gives the open request up, unless it is of this command.
+    pub(crate) fn abandon_unless(&mut self, wish: &Option<Command<'_>>)
+        ensures { self.new ≡ record self.old { asking = record self.old.asking { caller = unwished_abandoned (option_map command_of wish.now) self.old.asking.caller } } }
+    {
+        if !self.is_wished(wish) {
+            self.asker.abandon();
+        }
+    }
+
+    /// Whether no request is open that isn't of this command.
+    fn is_wished(&self, wish: &Option<Command<'_>>) -> bool
+        ensures { result ≡ wished_or (option_map command_of wish.now) self.now.asking.caller.asked }
+    {
+        let Some((command, body)) = self.asker.open_request() else {
+            return true;
+        };
+        let (Ok(asked), Some(wish)) = (fwup_wire::read(command, body), wish) else {
+            return false;
+        };
+        asked.is_same(wish)
+    }
+
+    /// Whether a request may begin.
+    pub(crate) fn can_begin(&self) -> bool
+        ensures { result ≡ may_begin self.now.asking.caller }
+    {
+        self.asker.can_begin()
+    }
+
+    /// Begins a request of this command, and gives out the message to send.
+    pub(crate) fn begin(&mut self, command: &Command<'_>) -> Message
+        requires may { may_begin self.old.asking.caller ≡ true }
+        requires fits { IsWritable (command_of command.now) }
+        ensures request { result ≡ (begun self.old.asking.caller 5 (command_code (command_of command.now)) (command_bytes (command_of command.now))).1 }
+        ensures after { self.new ≡ record self.old { asking = record self.old.asking { caller = (begun self.old.asking.caller 5 (command_code (command_of command.now)) (command_bytes (command_of command.now))).0 } } }
+    {
+        let body = fwup_wire::write(command);
+        self.asker.begin(command.code(), body.as_slice())
+    }
+
+    /// Hears the bytes of a packet.
+    #[tactic(auto, using(crate::proofs::Rows::rows))]
+    pub(crate) fn hear(&mut self, bytes: &[u8]) -> Incoming
+        ensures incoming { incoming_of result ≡ incoming (asking_row self.old.asking bytes.now) (answering_row self.old.answering bytes.now) }
+        ensures asking { self.new.asking ≡ asking_after self.old.asking (asking_row self.old.asking bytes.now) }
+        ensures stays { (self.new.asking.own ≡ self.old.asking.own) × (self.new.asking.peer ≡ self.old.asking.peer) }
+        ensures lawful { (self.old.answering.own ≡ self.old.asking.own) × (self.old.answering.peer ≡ self.old.asking.peer) }
+        ensures answering { self.new.answering ≡ answering_after (asking_row self.old.asking bytes.now) self.old.answering (answering_row self.old.answering bytes.now) }
+    {
+        if let Some(heard) = self.asker.hear(bytes) {
+            return Incoming::Learnt(heard);
+        }
+        match self.taker.hear(bytes) {
+            Brought::Nothing => Incoming::Nothing,
+            Brought::Again(answer) => Incoming::Again(answer),
+            Brought::New(request) => Incoming::New(request),
+            Brought::Strays(message) => Incoming::Strays(message),
+        }
+    }
+
+    /// Answers a new request with a completion code and fields: the message to send, which is kept.
+    pub(crate) fn answer(&mut self, request: &Request, reply: &[u8]) -> Message
+        requires { length reply.now ≤ 252 }
+        ensures answer { result ≡ reply_message request.now.message request.now.head reply.now }
+        ensures after { self.new ≡ record self.old { answering = answered_with self.old.answering request.now reply.now } }
+    {
+        self.taker.answer(request, reply)
+    }
+
+    /// A tick passes: what is held and kept grows older, and the open request is sent again or given up.
+    pub(crate) fn tick(&mut self) -> CallTick
+        ensures answer { result ≡ (caller_tick self.old.asking.caller).1 }
+        ensures after { self.new ≡ ends_older self.old }
+    {
+        self.taker.tick();
+        self.asker.tick()
+    }
+}

@@ -1,0 +1,89 @@
+//! What a node sends in a call.
+
+ghost use Rattle.std.specs.Prelude.{◌≡◌, ◌≤◌, ◌+◌, ◌++◌, ◌==◌, ◌∷◌, [], IfOk, List, ℕ, length, map, option_map, slice_get, drop};
+ghost use Rattle.fw_node.specs.Packets.{packets_of};
+
+use circular_buffer::HeapCircularBuffer;
+use mctp_reasm::{Message, split};
+use mctp_wire::RawPacket;
+use std::alloc::{AllocError, Global};
+use std::marker::Model;
+
+/// The most packets that a node sends in a call: one message of four packets for each of 16 peers.
+const CAPACITY: usize = 64;
+
+/// The packets that a node sends in a call, in the order of sending. It is handed in empty, and is made once with its
+/// memory.
+#[derive(Drop)]
+pub struct Outbox {
+    packets: HeapCircularBuffer<RawPacket>,
+}
+
+impl Model for Outbox {
+    ghost use Rattle.std.specs.Prelude.{◌≡◌, ◌≤◌, List, length, map, ℕ};
+
+    ghost Value = { List (List ℕ) };
+
+    ghost view = { λ o. map (λ p. p.items) o.packets.items };
+
+    ghost invariant = { λ o. (o.packets.capacity ≡ 64) × (length o.packets.items ≤ 64) };
+}
+
+impl Outbox {
+    /// An outbox without packets, with room for 64.
+    ///
+    /// # Errors
+    /// `AllocError` where that memory is refused.
+    pub fn new(alloc: Global) -> Result<Outbox, AllocError>
+        ensures { IfOk result (λ o. o ≡ []) }
+    {
+        let packets = HeapCircularBuffer::with_capacity(alloc, CAPACITY)?;
+        Ok(Outbox { packets })
+    }
+
+    /// Whether there is nothing to send.
+    pub fn is_empty(&self) -> bool
+        ensures { result ≡ (length self.now == 0) }
+    {
+        self.packets.is_empty()
+    }
+
+    /// Takes the first packet out.
+    pub fn pop(&mut self) -> Option<RawPacket>
+        ensures packet { option_map (λ p. p.items) result ≡ slice_get self.old 0 }
+        ensures rest { self.new ≡ drop 1 self.old }
+    {
+        self.packets.pop_front()
+    }
+
+    /// Puts the packets of a message behind those that are there.
+    pub fn send(&mut self, message: &Message)
+        requires { length self.old ≤ 60 }
+        ensures packets { self.new ≡ self.old ++ packets_of message.now }
+        ensures few { length self.new ≤ length self.old + 4 }
+    {
+        let packets = split(message);
+        push_all(&mut self.packets, packets.as_slice());
+    }
+}
+
+/// Puts packets behind others.
+fn push_all(out: &mut HeapCircularBuffer<RawPacket>, packets: &[RawPacket])
+    requires { length out.old.items + length packets.now ≤ out.old.capacity }
+    ensures count { length out.new.items ≡ length out.old.items + length packets.now }
+    ensures packets { map (λ p. p.items) out.new.items ≡ map (λ p. p.items) out.old.items ++ map (λ p. p.items) packets.now }
+    ensures capacity { out.new.capacity ≡ out.old.capacity }
+{
+    for packet in packets {
+        let _ = out.push_back(copy_of(packet));
+    }
+}
+
+/// The same bytes once more.
+fn copy_of(bytes: &RawPacket) -> RawPacket
+    ensures { result.items ≡ bytes.now.items }
+{
+    let mut out = RawPacket::new();
+    let _ = out.try_extend_from_slice(bytes.as_slice());
+    out
+}

@@ -1,0 +1,66 @@
+//! What both kinds of node send by themselves.
+
+ghost use Rattle.std.specs.Prelude.{◌≡◌, ◌≤◌, ◌+◌, ◌++◌, ◌∷◌, [], length};
+ghost use Rattle.mctp_ctl.specs.Control.{answer_of};
+ghost use Rattle.fw_node.specs.Nodes.{control_sent, other_reply, other_tid};
+ghost use Rattle.fw_node.specs.Packets.{all_packets, sent_by};
+
+use crate::outbox::Outbox;
+use mctp_ctl::Endpoint;
+use mctp_reasm::Message;
+use pldm_base::completion::ERROR_INVALID_PLDM_TYPE;
+use pldm_base::{Reply, Role, TYPE_BASE, Tid};
+use pldm_exch::{CallTick, Request};
+
+/// A reply of a completion code and nothing else.
+pub(crate) fn code_alone(code: u8) -> Reply
+    ensures { result.items ≡ code ∷ [] }
+{
+    let mut reply = Reply::new();
+    reply.push(code);
+    reply
+}
+
+/// The reply to a PLDM request of another type than firmware update.
+pub(crate) fn reply_to_other(tid: &mut Tid, role: Role, request: &Request) -> Reply
+    ensures reply { result.items ≡ other_reply role tid.old request.now.head request.now.body }
+    ensures tid { tid.new ≡ other_tid tid.old request.now.head request.now.body }
+{
+    let head = request.head();
+    if head.pldm_type == TYPE_BASE {
+        return pldm_base::answer_base(tid, role, head.command, request.body());
+    }
+    code_alone(ERROR_INVALID_PLDM_TYPE)
+}
+
+/// Sends what a tick asks to be sent again.
+pub(crate) fn send_again(outbox: &mut Outbox, call: &CallTick)
+    requires { length outbox.old ≤ 60 }
+    ensures sent { outbox.new ≡ outbox.old ++ all_packets (sent_by call.now) }
+    ensures few { length outbox.new ≤ length outbox.old + 4 }
+{
+    if let CallTick::Send(message) = call {
+        outbox.send(message);
+    }
+}
+
+/// Sends the answer to a control message, if one is due.
+#[tactic(auto, using(crate::proofs::Controls::controls))]
+pub(crate) fn send_control(endpoint: &Endpoint, message: &Message, outbox: &mut Outbox)
+    requires { outbox.old ≡ [] }
+    ensures { outbox.new ≡ all_packets (control_sent message.now (answer_of endpoint.now message.now.bytes)) }
+{
+    let Some(bytes) = mctp_ctl::answer(endpoint, message.bytes()) else {
+        return;
+    };
+    let Ok(answer) = Message::new(
+        message.source(),
+        message.dest(),
+        false,
+        message.tag(),
+        bytes.as_slice(),
+    ) else {
+        return;
+    };
+    outbox.send(&answer);
+}
