@@ -2,6 +2,3 @@ mod CallerLaws
 mod Callers
 mod Keeping
 mod Resting
-mod Rows
-mod SingleRows
-mod Values

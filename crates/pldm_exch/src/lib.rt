@@ -3,14 +3,11 @@
 #![tactic(auto)]
 
 mod answerer;
-#[cfg(test)]
-mod answerer_tests;
 mod caller;
-#[cfg(test)]
-mod caller_tests;
-mod dated;
 mod laws;
 mod rests;
+#[cfg(test)]
+mod tests;
 mod times;
 
 pub use answerer::{Answerer, Asked};
@@ -19,4 +16,5 @@ pub use laws::{
     answers_are_kept, answers_stay_lawful, callers_stay_lawful, eight_requests_rest, kept_change,
     open_requests_repeat, repeats_answer_the_request, rests_change, rests_outlast_sendings,
 };
+pub use rests::TAGS;
 pub use times::{GIVEN_UP, HOLD, RETIRE, RETRY};
