@@ -2,25 +2,39 @@
 
 use super::answer_to;
 use crate::{Answerer, Asked, Caller};
+use mctp_reasm::Message;
 use std::test::Fail;
+
+/// Begins a request, where one may begin.
+fn begun(caller: &mut Caller) -> Option<Message> {
+    if !caller.can_begin() {
+        return None;
+    }
+    Some(caller.begin(5, 0x1B, &[]))
+}
+
+/// Whether a request is new to an answerer.
+fn is_new(answerer: &Answerer, request: &Message) -> bool {
+    match answerer.on_request(request) {
+        Asked::New => true,
+        Asked::Again(_) => false,
+    }
+}
+
+/// Whether a caller hears an answer.
+fn hears(caller: &mut Caller, answer: &Message) -> bool {
+    caller.on_answer(answer).is_some()
+}
 
 /// A request begins, is taken once and comes again once, and its answer is heard. Whether all of this was so.
 fn exchange(caller: &mut Caller, answerer: &mut Answerer, field: u8) -> Result<bool, Fail> {
-    if !caller.can_begin() {
+    let Some(request) = begun(caller) else {
         return Ok(false);
-    }
-    let request = caller.begin(5, 0x1B, &[]);
-    let is_new = match answerer.on_request(&request) {
-        Asked::New => true,
-        Asked::Again(_) => false,
     };
+    let was_new = is_new(answerer, &request);
     let answer = answer_to(&request, field)?;
     answerer.keep(&answer);
-    let is_again = match answerer.on_request(&request) {
-        Asked::New => false,
-        Asked::Again(again) => again.bytes() == answer.bytes(),
-    };
-    Ok(is_new && is_again && caller.on_answer(&answer).is_some())
+    Ok(was_new && !is_new(answerer, &request) && hears(caller, &answer))
 }
 
 #[test]
