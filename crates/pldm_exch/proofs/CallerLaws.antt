@@ -11,7 +11,8 @@ use Rattle.pldm_exch.specs.Laws.{AreAnswered, CallerStep, CallersStayLawful, Eig
 use Rattle.pldm_exch.specs.Laws.{Abandon, Begin, Hear, Tick}
 use Rattle.pldm_exch.specs.declared.caller.CallTick.{CallTick}
 use Rattle.pldm_exch.specs.declared.caller.CallTick.TheVariants.{Send}
-use Rattle.pldm_exch.proofs.Callers.{abandoned_is, begun_is, below_8, bool_cases, fresh_is, heard_is, rest_fallen, rest_set, rests_fall, tick_is}
+use Rattle.pldm_exch.proofs.Callers.{abandoned_is, begun_is, below_8, bool_cases, fresh_is, heard_is, tick_is}
+use Rattle.pldm_exch.proofs.Resting.{rest_fallen, rest_set, rests_fall}
 
 -- lawful callers
 after_is : (c : CallerState) (s : CallerStep) → IsCaller c → IsCaller (caller_after c s)

@@ -1,42 +1,10 @@
 -- What is true of each caller stays true.
-use Rattle.std.proofs.Common.{◌≡◌, ◌≢◌, ◌∙◌, ◌+◌, ◌-◌, ◌%◌, ◌≤◌, ◌<◌, ℕ, zero, suc, Bool, true, false, List, [], ◌∷◌, Option, Some, None, IfSome, length, drop, get_or, slice_set, ◌⊎◌, inl, inr, true≢false, refl, sym, ap, arith}
-use Rattle.std.specs.List.{AllByRecursion}
+use Rattle.std.proofs.Common.{◌≡◌, ◌≢◌, ◌∙◌, ◌+◌, ◌%◌, ◌≤◌, ◌<◌, ℕ, Bool, true, false, List, Option, Some, None, IfSome, drop, length, slice_set, ◌⊎◌, inl, inr, true≢false, refl, sym, ap, arith}
 use Rattle.std.proofs.lemmas.Bool.Decides.{eqb_tells}
-use Rattle.std.proofs.lemmas.List.{get_or-map, get_or-set_same}
 use Rattle.mctp_reasm.specs.Pieces.{MessageOf}
-use Rattle.pldm_exch.specs.Rests.{AreRests, fallen}
+use Rattle.pldm_exch.specs.Rests.{fallen}
+use Rattle.pldm_exch.proofs.Resting.{none_rest, rest_fallen, rest_set, rests_fall, rests_set}
 use Rattle.pldm_exch.specs.Caller.{CallerState, IsCaller, IsOpen, Open, abandoned, answer_body, answer_heard, begun, caller_tick, closed_by, fresh, heard_as, older, request_message, sends_at, ticked}
-
--- rests
-length_fallen : (rests : List ℕ) → length (fallen rests) ≡ length rests
-length_fallen [] = refl
-length_fallen (r ∷ rs) = ap suc (length_fallen rs)
-
-all_fallen : (rests : List ℕ) → AllByRecursion (λ rest. rest ≤ 40) rests → AllByRecursion (λ rest. rest ≤ 40) (fallen rests)
-all_fallen [] h = tt
-all_fallen (r ∷ rs) h = let most = h.0 in (omega arith, all_fallen rs h.1)
-
-pub rests_fall : (rests : List ℕ) → AreRests rests → AreRests (fallen rests)
-rests_fall rests h = (length_fallen rests ∙ h.0, all_fallen rests h.1)
-
-length_set : (rests : List ℕ) (t x : ℕ) → length (slice_set rests t x) ≡ length rests
-length_set [] t x = refl
-length_set (r ∷ rs) zero x = refl
-length_set (r ∷ rs) (suc t) x = ap suc (length_set rs t x)
-
-all_set : (rests : List ℕ) (t : ℕ) → AllByRecursion (λ rest. rest ≤ 40) rests → AllByRecursion (λ rest. rest ≤ 40) (slice_set rests t 40)
-all_set [] t h = tt
-all_set (r ∷ rs) zero h = (omega arith, h.1)
-all_set (r ∷ rs) (suc t) h = (h.0, all_set rs t h.1)
-
-pub rests_set : (rests : List ℕ) (t : ℕ) → AreRests rests → AreRests (slice_set rests t 40)
-rests_set rests t h = (length_set rests t 40 ∙ h.0, all_set rests t h.1)
-
-pub rest_set : (rests : List ℕ) (t : ℕ) → t < 8 → AreRests rests → get_or (slice_set rests t 40) t 0 ≡ 40
-rest_set rests t lt h = let long : t < length rests = omega (arith, h.0, lt) in get_or-set_same rests t 40 0 long
-
-pub rest_fallen : (rests : List ℕ) (t : ℕ) → t < 8 → AreRests rests → get_or (fallen rests) t 0 ≡ get_or rests t 0 - 1
-rest_fallen rests t lt h = let long : t < length rests = omega (arith, h.0, lt) in get_or-map (λ rest. rest - 1) rests t 0 0 long
 
 -- numbers
 last_of : (n : ℕ) → n ≤ 31 → ((n + 1) % 32 + 31) % 32 ≡ n
@@ -49,7 +17,7 @@ pub below_8 : (n : ℕ) → n % 8 < 8
 below_8 n = omega arith
 
 pub fresh_is : (own peer : ℕ) → IsCaller (fresh own peer)
-fresh_is own peer = record { number = omega arith; rests = (refl, (omega arith, (omega arith, (omega arith, (omega arith, (omega arith, (omega arith, (omega arith, (omega arith, tt))))))))); asked = tt }
+fresh_is own peer = record { number = omega arith; rests = none_rest; asked = tt }
 
 pub begun_is : (c : CallerState) (pldm_type command : ℕ) (body : List ℕ) → IsCaller c → IsCaller (begun c pldm_type command body).0
 begun_is c pldm_type command body h = record {

@@ -1,36 +1,13 @@
 -- Lemmas on kept answers.
-use Rattle.std.proofs.Common.{◌≡◌, ◌∙◌, ◌+◌, ◌<◌, ℕ, zero, suc, List, [], ◌∷◌, Option, Some, None, IfSome, length, map, get_or, slice_set, if◌then◌else◌, nat_le, inl, inr, refl, sym, ap, arith}
+use Rattle.std.proofs.Common.{◌≡◌, ◌∙◌, ◌+◌, ◌<◌, ℕ, zero, suc, List, [], ◌∷◌, Option, Some, None, IfSome, length, get_or, slice_set, if◌then◌else◌, nat_le, inl, inr, refl, sym, ap, arith}
 use Rattle.std.proofs.lemmas.Bool.{cases_lt, lt-ltb, le-ltb, le-leb, lt-leb}
 use Rattle.std.proofs.lemmas.Bool.Decides.{eqb_tells}
-use Rattle.std.proofs.lemmas.List.{map-set, get_or-set_same, get_or-set_other}
+use Rattle.std.proofs.lemmas.List.{get_or-set_same, get_or-set_other}
 use Rattle.mctp_reasm.specs.Pieces.{MessageOf}
-use Rattle.pldm_exch.specs.Fields.{kept_in}
 use Rattle.pldm_exch.specs.Kept.{AreKept, AreKeptFrom, IsKept, Kept, answerer_tick, asked_as, identifier_of, kept_as, kept_at, kept_tick, kept_with, none_kept}
 use Rattle.pldm_exch.specs.Laws.{AnswersAreKept, AnswersStayLawful, KeptChange, RepeatsAnswerTheRequest, kept_after}
 use Rattle.pldm_exch.specs.declared.answerer.Asked.{Asked}
 use Rattle.pldm_exch.specs.declared.answerer.Asked.TheVariants.{Again, New}
-use Rattle.pldm_exch.specs.Places.{Aged, aged_tick}
-use Rattle.pldm_exch.specs.declared.answerer.Answer.{Answer}
-
--- what stands under the tags, as kept answers
-pub keeping_put : (places : List (Option (Aged Answer))) (t : ℕ) (a : Aged Answer) → map kept_in (slice_set places t (Some a)) ≡ slice_set (map kept_in places) t (kept_in (Some a))
-keeping_put places t a = map-set kept_in places t (Some a)
-
-kept_older : (place : Option (Aged Answer)) → kept_in (aged_tick 25 place) ≡ kept_tick (kept_in place)
-kept_older None = refl
-kept_older (Some a) = elim (cases_lt a.age 24) [
-  | inl lt ↦ rw (lt-ltb a.age 24 lt, lt-ltb (a.age + 1) 25 (omega (arith, lt))) refl
-  | inr le ↦ rw (le-ltb a.age 24 le, le-ltb (a.age + 1) 25 (omega (arith, le))) refl
-]
-
-pub keeping_tick : (places : List (Option (Aged Answer))) → map kept_in (map (aged_tick 25) places) ≡ answerer_tick (map kept_in places)
-keeping_tick [] = refl
-keeping_tick (p ∷ ps) = rw (kept_older p, keeping_tick ps) refl
-
-pub keeping_at : (places : List (Option (Aged Answer))) (t : ℕ) → get_or (map kept_in places) t None ≡ kept_in (get_or places t None)
-keeping_at [] t = refl
-keeping_at (p ∷ ps) zero = refl
-keeping_at (p ∷ ps) (suc t) = keeping_at ps t
 
 -- what is true of all kept answers stays true
 pub none_are : AreKept none_kept
@@ -144,4 +121,4 @@ change = record {
   tick = tick_at;
 }
 
-pub ruleset keeping = (keeping_put, keeping_tick, keeping_at, none_are, tick_are, keep_are)
+pub ruleset keeping = (none_are, tick_are, keep_are)

@@ -2,7 +2,4 @@ mod CallerLaws
 mod Callers
 mod Keeping
 mod Resting
-mod Rows
 mod SideRows
-mod SingleRows
-mod Values

@@ -1,54 +1,40 @@
--- Lemmas on rests.
-use Rattle.std.proofs.Common.{◌≡◌, ◌∙◌, ◌+◌, ◌-◌, ◌==◌, ◌≤◌, ◌<◌, ℕ, zero, suc, List, [], ◌∷◌, Option, Some, None, IfSome, is_none, length, map, get_or, slice_set, inl, inr, refl, sym, ap, arith}
-use Rattle.std.specs.Option.{option_map}
+-- Rests stay eight, and at most 40.
+use Rattle.std.proofs.Common.{◌≡◌, ◌∙◌, ◌-◌, ◌≤◌, ◌<◌, ℕ, zero, suc, List, [], ◌∷◌, length, get_or, slice_set, refl, ap, arith}
 use Rattle.std.specs.List.{AllByRecursion}
-use Rattle.std.proofs.lemmas.Bool.{cases_lt, lt-ltb, le-ltb, ne_eqb}
-use Rattle.std.proofs.lemmas.List.{map-set, get_or-map}
-use Rattle.pldm_exch.specs.Places.{Aged, ArePlaces, aged_tick}
-use Rattle.pldm_exch.specs.Rests.{AreRests, fallen, rest_of}
+use Rattle.std.proofs.lemmas.List.{get_or-map, get_or-set_same}
+use Rattle.pldm_exch.specs.Rests.{AreRests, fallen, no_rests}
 
--- a tag is used
-pub rests_start : (places : List (Option (Aged (Unit {0})))) (t : ℕ) → map rest_of (slice_set places t (Some (record { value = tt; age = 0 }))) ≡ slice_set (map rest_of places) t 40
-rests_start places t = map-set rest_of places t (Some (record { value = tt; age = 0 }))
+pub none_rest : AreRests no_rests
+none_rest = (refl, (omega arith, (omega arith, (omega arith, (omega arith, (omega arith, (omega arith, (omega arith, (omega arith, tt)))))))))
 
--- a tick
-rest_tick : (place : Option (Aged (Unit {0}))) → rest_of (aged_tick 40 place) ≡ rest_of place - 1
-rest_tick None = refl
-rest_tick (Some a) = elim (cases_lt (a.age + 1) 40) [
-  | inl lt ↦ rw (lt-ltb (a.age + 1) 40 lt) (omega (arith, lt))
-  | inr le ↦ rw (le-ltb (a.age + 1) 40 le) (omega (arith, le))
-]
+length_fallen : (rests : List ℕ) → length (fallen rests) ≡ length rests
+length_fallen [] = refl
+length_fallen (r ∷ rs) = ap suc (length_fallen rs)
 
-pub rests_tick : (places : List (Option (Aged (Unit {0})))) → map rest_of (map (aged_tick 40) places) ≡ fallen (map rest_of places)
-rests_tick [] = refl
-rests_tick (p ∷ ps) = rw (rest_tick p, rests_tick ps) refl
+all_fallen : (rests : List ℕ) → AllByRecursion (λ rest. rest ≤ 40) rests → AllByRecursion (λ rest. rest ≤ 40) (fallen rests)
+all_fallen [] h = tt
+all_fallen (r ∷ rs) h = let most = h.0 in (omega arith, all_fallen rs h.1)
 
--- a tag may be used where it wasn't in the last 40 ticks
-rested : (place : Option (Aged (Unit {0}))) → IfSome place (λ a. a.age < 40) → is_none (option_map (λ a. a.value) place) ≡ (rest_of place == 0)
-rested None h = refl
-rested (Some a) h = rw (ne_eqb (40 - a.age) 0 (λ e. absurd (omega (arith, e, h)))) refl
+pub rests_fall : (rests : List ℕ) → AreRests rests → AreRests (fallen rests)
+rests_fall rests h = (length_fallen rests ∙ h.0, all_fallen rests h.1)
 
-place_young : (limit t : ℕ) (places : List (Option (Aged (Unit {0})))) → AllByRecursion (λ place. IfSome place (λ a. a.age < limit)) places → IfSome (get_or places t None) (λ a. a.age < limit)
-place_young limit t [] h = tt
-place_young limit zero (p ∷ ps) h = h.0
-place_young limit (suc t) (p ∷ ps) h = place_young limit t ps h.1
+length_set : (rests : List ℕ) (t x : ℕ) → length (slice_set rests t x) ≡ length rests
+length_set [] t x = refl
+length_set (r ∷ rs) zero x = refl
+length_set (r ∷ rs) (suc t) x = ap suc (length_set rs t x)
 
-pub rested_at : (places : List (Option (Aged (Unit {0})))) (t : ℕ) → t < 8 → ArePlaces 40 places
-    → is_none (option_map (λ a. a.value) (get_or places t None)) ≡ (get_or (map rest_of places) t 0 == 0)
-rested_at places t lt h =
-    let long : t < length places = omega (arith, h.0, lt) in
-    rested (get_or places t None) (place_young 40 t places h.1) ∙ ap (λ rest. rest == 0) (sym (get_or-map rest_of places t None 0 long))
+all_set : (rests : List ℕ) (t : ℕ) → AllByRecursion (λ rest. rest ≤ 40) rests → AllByRecursion (λ rest. rest ≤ 40) (slice_set rests t 40)
+all_set [] t h = tt
+all_set (r ∷ rs) zero h = (omega arith, h.1)
+all_set (r ∷ rs) (suc t) h = (h.0, all_set rs t h.1)
 
-all_rests : (places : List (Option (Aged (Unit {0})))) → AllByRecursion (λ rest. rest ≤ 40) (map rest_of places)
-all_rests [] = tt
-all_rests (None ∷ ps) = (omega arith, all_rests ps)
-all_rests (Some a ∷ ps) = (omega arith, all_rests ps)
+pub rests_set : (rests : List ℕ) (t : ℕ) → AreRests rests → AreRests (slice_set rests t 40)
+rests_set rests t h = (length_set rests t 40 ∙ h.0, all_set rests t h.1)
 
-length_rests : (places : List (Option (Aged (Unit {0})))) → length (map rest_of places) ≡ length places
-length_rests [] = refl
-length_rests (p ∷ ps) = ap suc (length_rests ps)
+pub rest_set : (rests : List ℕ) (t : ℕ) → t < 8 → AreRests rests → get_or (slice_set rests t 40) t 0 ≡ 40
+rest_set rests t lt h = let long : t < length rests = omega (arith, h.0, lt) in get_or-set_same rests t 40 0 long
 
-pub rests_lawful : (places : List (Option (Aged (Unit {0})))) → ArePlaces 40 places → AreRests (map rest_of places)
-rests_lawful places h = (length_rests places ∙ h.0, all_rests places)
+pub rest_fallen : (rests : List ℕ) (t : ℕ) → t < 8 → AreRests rests → get_or (fallen rests) t 0 ≡ get_or rests t 0 - 1
+rest_fallen rests t lt h = let long : t < length rests = omega (arith, h.0, lt) in get_or-map (λ rest. rest - 1) rests t 0 0 long
 
-pub ruleset rests = (rests_start, rests_tick, rested_at, rests_lawful)
+pub ruleset rests = (none_rest, rests_fall, rests_set)

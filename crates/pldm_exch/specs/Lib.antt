@@ -3,8 +3,6 @@ pub mod Ends
 pub mod Fields
 pub mod Kept
 pub mod Laws
-pub mod Places
 pub mod Requests
 pub mod Rests
-pub mod Rows
 pub mod Sides

@@ -1,7 +1,6 @@
 -- The rests of the eight tags: so many ticks until each may be used again.
-use Rattle.std.specs.Prelude.{◌≡◌, ◌≤◌, ℕ, ◌-◌, List, length, map, replicate, Option, Some, None}
+use Rattle.std.specs.Prelude.{◌≡◌, ◌≤◌, ℕ, ◌-◌, List, length, map, replicate}
 use Rattle.std.specs.List.{AllByRecursion}
-use Rattle.pldm_exch.specs.Places.{Aged}
 
 -- all tags may be used
 abbrev pub no_rests : List ℕ
@@ -10,11 +9,6 @@ no_rests = replicate 8 0
 -- a tick: each rest falls by one, until it is 0
 abbrev pub fallen : List ℕ → List ℕ
 fallen rests = map (λ rest. rest - 1) rests
-
--- a tag that was used some ticks ago rests 40 ticks less those
-abbrev pub rest_of : Option (Aged (Unit {0})) → ℕ
-rest_of None = 0
-rest_of (Some a) = 40 - a.age
 
 -- eight rests of at most 40
 abbrev pub AreRests : List ℕ → Type 0

@@ -1,34 +1,27 @@
 //! Answers that are kept for requests that come again.
 
-ghost use Rattle.std.specs.Prelude.{◌≡◌, ◌<◌, Some, slice_set};
-ghost use Rattle.pldm_exch.specs.Kept.{AreKept, answerer_tick, kept_with, none_kept, request_heard};
+ghost use Rattle.std.specs.Prelude.{◌≡◌};
+ghost use Rattle.pldm_exch.specs.Kept.{AreKept, answerer_tick, kept_tick, kept_with, none_kept, request_heard};
 
-use crate::dated::{Dated, Row, drop_tag};
+use crate::rests::TAGS;
 use crate::times::HOLD;
 use mctp_reasm::Message;
 use std::marker::Model;
 
-/// The age at which an answer is forgotten: one tick more than it is kept.
-const FORGOTTEN: u16 = HOLD + 1;
-
-/// An answer and the identifier of its request.
+/// An answer, the identifier of its request, and the ticks since it was kept.
 #[derive(Debug, Drop)]
-pub(crate) struct Answer {
+struct Answer {
     identifier: u8,
     reply: Message,
+    age: u8,
 }
 
-impl Default for Answer {
-    /// The blank of a place that a list doesn't use.
-    fn default() -> Answer {
-        let Ok(reply) = Message::new(0, 0, false, 0, &[0]) else {
-            unreachable!()
-        };
-        Answer {
-            identifier: 0,
-            reply,
-        }
-    }
+impl Model for Answer {
+    ghost use Rattle.pldm_exch.specs.Kept.{Kept};
+
+    ghost Value = { Kept };
+
+    ghost view = { λ a. record { identifier = a.identifier; reply = a.reply; age = a.age } };
 }
 
 /// What a request asks for.
@@ -43,31 +36,18 @@ pub enum Asked {
 /// The kept answers of one direction: at most one a tag, each for 24 ticks.
 #[derive(Debug, Drop)]
 pub struct Answerer {
-    answers: Dated<Answer, FORGOTTEN>,
+    places: [Option<Answer>; TAGS],
 }
 
 impl Model for Answerer {
-    ghost use Rattle.std.specs.Prelude.{List, Option, map};
-    ghost use Rattle.pldm_exch.specs.Fields.{kept_in};
+    ghost use Rattle.std.specs.Prelude.{List, Option};
     ghost use Rattle.pldm_exch.specs.Kept.{AreKept, Kept};
 
     ghost Value = { List (Option Kept) };
 
-    ghost view = { λ a. map kept_in a.answers };
+    ghost view = { λ a. a.places };
 
-    ghost invariant = { λ a. AreKept (map kept_in a.answers) };
-}
-
-impl Dated<Answer, FORGOTTEN> {
-    /// Keeps an answer under a tag.
-    fn keep(&mut self, tag: u8, value: Answer)
-        requires tag { tag < 8 }
-        ensures { self.new ≡ slice_set self.old tag (Some (record { value = value; age = 0 })) }
-    {
-        drop_tag(&mut self.rows, tag);
-        let date = self.count;
-        self.rows.push(Row { tag, date, value });
-    }
+    ghost invariant = { λ a. AreKept a.places };
 }
 
 impl Answerer {
@@ -77,7 +57,7 @@ impl Answerer {
         ensures { result ≡ none_kept }
     {
         Answerer {
-            answers: Dated::new(),
+            places: [None, None, None, None, None, None, None, None],
         }
     }
 
@@ -88,7 +68,7 @@ impl Answerer {
         ensures value { result ≡ request_heard self.now request.now }
         ensures lawful { AreKept self.now }
     {
-        let Some(answer) = self.answers.get(request.tag()) else {
+        let Some(answer) = &self.places[request.tag() as usize] else {
             return Asked::New;
         };
         let Ok((head, _)) = pldm_base::decode(request.bytes()) else {
@@ -109,11 +89,11 @@ impl Answerer {
         let Ok((head, _)) = pldm_base::decode(answer.bytes()) else {
             return;
         };
-        let kept = Answer {
+        self.places[answer.tag() as usize] = Some(Answer {
             identifier: head.instance,
             reply: answer.again(),
-        };
-        self.answers.keep(answer.tag(), kept);
+            age: 0,
+        });
     }
 
     /// A tick passes. An answer is forgotten in the 25th tick after it was kept.
@@ -121,6 +101,28 @@ impl Answerer {
     pub fn tick(&mut self)
         ensures { self.new ≡ answerer_tick self.old }
     {
-        self.answers.tick();
+        age_all(self.places.as_mut_slice());
+    }
+}
+
+/// A tick passes for each of these places.
+fn age_all(places: &mut [Option<Answer>])
+    ensures { places.new ≡ answerer_tick places.old }
+{
+    for place in places.iter_mut() {
+        age(place);
+    }
+}
+
+/// A tick passes for a place: what it keeps grows older, or is forgotten.
+fn age(place: &mut Option<Answer>)
+    ensures { place.new ≡ kept_tick place.old }
+{
+    if let Some(answer) = place {
+        if answer.age < HOLD {
+            answer.age += 1;
+        } else {
+            *place = None;
+        }
     }
 }

@@ -1,10 +1,10 @@
 //! One direction's requests.
 
-ghost use Rattle.std.specs.Prelude.{◌≡◌, ◌≤◌, length, List, ℕ, IfSome, IsSome, IsSomeAnd, option_map, is_some, true};
+ghost use Rattle.std.specs.Prelude.{◌≡◌, ◌≤◌, ◌%◌, length, List, ℕ, IfSome, IsSome, IsSomeAnd, option_map, is_some, true};
 ghost use Rattle.pldm_exch.specs.Caller.{IsAnswerTo, IsCaller, abandoned, answer_body, answer_heard, asking, begun, caller_tick, fresh, is_answer_head, is_quiet, may_begin, sends_at};
 ghost use Rattle.pldm_exch.specs.Fields.{open_of};
 
-use crate::rests::Rests;
+use crate::rests::{Rests, TAGS};
 use crate::times::{GIVEN_UP, RETRY};
 use mctp_reasm::Message;
 use pldm_base::{PldmHead, Reply};
@@ -13,8 +13,12 @@ use std::marker::Model;
 /// Requests of a direction are numbered modulo this: an instance identifier has five bits (DSP0240).
 const IDENTIFIERS: u8 = 32;
 
-/// Tags of a direction: the tag of a message has three bits (DSP0236).
-const TAGS: u8 = 8;
+/// The tag of the request that has this identifier.
+fn tag_of(identifier: u8) -> u8
+    ensures { result ≡ identifier % 8 }
+{
+    identifier % TAGS as u8
+}
 
 /// A request that waits for its answer, and the ticks since it began.
 #[derive(Debug, Drop)]
@@ -151,7 +155,15 @@ impl Caller {
         ensures lawful { IsCaller self.now }
     {
         let last = (self.number + (IDENTIFIERS - 1)) % IDENTIFIERS;
-        self.asked.is_none() && (self.answered || self.rests.is_rested(last % TAGS))
+        self.asked.is_none() && (self.answered || self.rests.is_rested(tag_of(last)))
+    }
+
+    /// The ticks until each of the eight tags may be used again.
+    pub fn rests(&self) -> &[u8; TAGS]
+        ensures value { result.now ≡ self.now.rests }
+        ensures lawful { IsCaller self.now }
+    {
+        self.rests.row()
     }
 
     /// Whether a request may begin: it is quiet, and the next tag has rested.
@@ -159,7 +171,7 @@ impl Caller {
         ensures value { result ≡ may_begin self.now }
         ensures lawful { IsCaller self.now }
     {
-        self.quiet() && self.rests.is_rested(self.number % TAGS)
+        self.quiet() && self.rests.is_rested(tag_of(self.number))
     }
 
     /// Begins a request of a PLDM type and a command, and gives out the message to send: request n (from 0) carries tag
@@ -173,7 +185,7 @@ impl Caller {
         ensures request { result ≡ (begun self.old pldm_type command body.now).1 }
         ensures after { self.new ≡ (begun self.old pldm_type command body.now).0 }
     {
-        let tag = self.number % TAGS;
+        let tag = tag_of(self.number);
         let head = PldmHead {
             rq: true,
             instance: self.number,

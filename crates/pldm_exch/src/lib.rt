@@ -3,17 +3,14 @@
 #![tactic(auto)]
 
 mod answerer;
-#[cfg(test)]
-mod answerer_tests;
 mod asker;
 mod caller;
-#[cfg(test)]
-mod caller_tests;
-mod dated;
 mod laws;
 mod request;
 mod rests;
 mod taker;
+#[cfg(test)]
+mod tests;
 mod times;
 
 pub use answerer::{Answerer, Asked};
@@ -24,5 +21,6 @@ pub use laws::{
     open_requests_repeat, repeats_answer_the_request, rests_change, rests_outlast_sendings,
 };
 pub use request::{Brought, Request};
+pub use rests::TAGS;
 pub use taker::Taker;
 pub use times::{DEAF, GIVEN_UP, HOLD, LIFE, RETIRE, RETRY};

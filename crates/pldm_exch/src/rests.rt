@@ -1,52 +1,46 @@
 //! Rests of tags.
 
-ghost use Rattle.std.specs.Prelude.{◌≡◌, ◌<◌, ◌≤◌, ◌==◌, Some, get_or, slice_set};
+ghost use Rattle.std.specs.Prelude.{◌≡◌, ◌<◌, ◌==◌, get_or, slice_set};
 ghost use Rattle.pldm_exch.specs.Rests.{AreRests, fallen, no_rests};
 
-use crate::dated::{Dated, Row, drop_tag};
 use crate::times::RETIRE;
 use std::marker::Model;
+
+/// Tags of a direction: the tag of a message has three bits (DSP0236).
+pub const TAGS: usize = 8;
 
 /// The ticks until each of the eight tags may be used again: 0 to 40.
 #[derive(Debug, Drop)]
 pub struct Rests {
-    sendings: Dated<(), RETIRE>,
+    row: [u8; TAGS],
 }
 
 impl Model for Rests {
-    ghost use Rattle.std.specs.Prelude.{List, ℕ, map};
-    ghost use Rattle.pldm_exch.specs.Rests.{rest_of};
+    ghost use Rattle.std.specs.Prelude.{List, ℕ};
+    ghost use Rattle.pldm_exch.specs.Rests.{AreRests};
 
     ghost Value = { List ℕ };
 
-    ghost view = { λ r. map rest_of r.sendings };
-}
+    ghost view = { λ r. r.row };
 
-impl Dated<(), RETIRE> {
-    /// The tag is used now.
-    #[tactic(auto, using(crate::proofs::Rows::dated))]
-    fn put(&mut self, tag: u8)
-        requires tag { tag < 8 }
-        ensures { self.new ≡ slice_set self.old tag (Some (record { value = tt; age = 0 })) }
-    {
-        drop_tag(&mut self.rows, tag);
-        let date = self.count;
-        self.rows.push(Row {
-            tag,
-            date,
-            value: (),
-        });
-    }
+    ghost invariant = { λ r. AreRests r.row };
 }
 
 impl Rests {
     /// All tags may be used.
+    #[tactic(auto, using(crate::proofs::Resting::rests))]
     pub fn new() -> Rests
         ensures { result ≡ no_rests }
     {
-        Rests {
-            sendings: Dated::new(),
-        }
+        Rests { row: [0; TAGS] }
+    }
+
+    /// The row of the rests, one a tag.
+    pub fn row(&self) -> &[u8; TAGS]
+        ensures value { result.now ≡ self.now }
+        ensures lawful { AreRests self.now }
+    {
+        &self.row
     }
 
     /// A tag is used now.
@@ -55,7 +49,7 @@ impl Rests {
         requires tag { tag < 8 }
         ensures { self.new ≡ slice_set self.old tag 40 }
     {
-        self.sendings.put(tag);
+        self.row[tag as usize] = RETIRE;
     }
 
     /// A tick passes.
@@ -63,16 +57,23 @@ impl Rests {
     pub fn tick(&mut self)
         ensures { self.new ≡ fallen self.old }
     {
-        self.sendings.tick();
+        fall(self.row.as_mut_slice());
     }
 
     /// Whether a tag may be used.
-    #[tactic(auto, using(crate::proofs::Resting::rests))]
     pub fn is_rested(&self, tag: u8) -> bool
         requires tag { tag < 8 }
         ensures value { result ≡ (get_or self.now tag 0 == 0) }
-        ensures lawful { AreRests self.now }
     {
-        self.sendings.get(tag).is_none()
+        self.row[tag as usize] == 0
+    }
+}
+
+/// Each of these rests falls by one, until it is 0.
+fn fall(rests: &mut [u8])
+    ensures { rests.new ≡ fallen rests.old }
+{
+    for rest in rests.iter_mut() {
+        *rest = rest.saturating_sub(1);
     }
 }

@@ -10,12 +10,12 @@ pub const GIVEN_UP: u8 = 3 * RETRY;
 
 /// An answer is kept so many ticks. No copy of its request arrives more than 20 ticks after that began, and so none more
 /// than 20 after the answer was given: each meets the kept answer.
-pub const HOLD: u16 = 24;
+pub const HOLD: u8 = 24;
 
 /// A tag rests so many ticks after the last sending of a request under it. By then nothing of that request is left: a
 /// copy of it arrives within 8 ticks, an assembly of copies ends within 17, the answer arrives within 16, an assembly of
 /// answers ends within 25, and the answer is kept for at most 33.
-pub const RETIRE: u16 = 40;
+pub const RETIRE: u8 = 40;
 
 /// A packet may arrive while no more than so many ticks have passed since its sending.
 pub const LIFE: u32 = 8;
