@@ -1,0 +1,176 @@
+-- The agent's node: a half for each device that it updates, in configured order, and the event log.
+use Rattle.std.specs.Prelude.{ℕ, ◌-◌, ◌+◌, ◌==◌, nat_le, Bool, true, false, if◌then◌else◌, List, [], ◌∷◌, ◌++◌, flat_map, map, slice_get, slice_set, Option, Some, None, Result, Ok, Err}
+use Rattle.mctp_ctl.specs.declared.answers.Endpoint.{Endpoint}
+use Rattle.mctp_reasm.specs.Pieces.{MessageOf}
+use Rattle.mctp_wire.specs.Packet as wire
+use Rattle.mctp_wire.specs.declared.fault.WireFault.{WireFault}
+use Rattle.mctp_wire.specs.declared.layout.Head.{Head}
+use Rattle.pldm_base.specs.declared.terminus.Role.TheVariants as roles
+use Rattle.pldm_exch.specs.Caller.{caller_tick}
+use Rattle.pldm_exch.specs.declared.caller.CallTick.{CallTick}
+use Rattle.pldm_exch.specs.declared.caller.CallTick.TheVariants as ticks
+use Rattle.fw_package.specs.Package.{PackageText}
+use Rattle.sel_core.specs.Log.{LogOf, new_log, sel_after, sel_reply, sel_restart}
+use Rattle.ua_core.specs.Calls.{agent_activated, agent_cancelled, agent_started, may_cancel, new_session}
+use Rattle.ua_core.specs.Session.{SessionOf, TimedOf}
+use Rattle.fw_node.specs.BothEnds.{EndsOf, ends_new}
+use Rattle.fw_node.specs.Cores.{session_core}
+use Rattle.fw_node.specs.Halves.{CoreOf, HalfOf, aged, half_hears, half_restarts, half_ticks, idled, last_part, recast}
+use Rattle.fw_node.specs.Nodes.{NodeHeard, finished, half_of}
+use Rattle.fw_node.specs.Notes.{noted}
+use Rattle.fw_node.specs.Packets.{all_packets, sent_by}
+
+-- the agent's part for a device, as the code has it: both ends, and the session
+pub record PartOf : Type 0 where
+  pub ends : EndsOf
+  pub session : TimedOf
+
+-- the agent's half for a device, of a node that is deaf for so long
+abbrev pub half_in : (deaf : ℕ) → PartOf → HalfOf TimedOf
+half_in deaf p = half_of deaf p.session p.ends
+
+-- The agent: its endpoint, its terminus identifier, the ticks that it is still deaf, its halves, and the event log.
+pub record AgentOf : Type 0 where
+  pub endpoint : Endpoint
+  pub tid : ℕ
+  pub deaf : ℕ
+  pub halves : List (HalfOf TimedOf)
+  pub log : LogOf
+
+-- an agent as it is made, for the devices with these endpoint identifiers
+abbrev pub new_half : (own device : ℕ) → HalfOf TimedOf
+new_half own device = half_of 0 new_session (ends_new own device)
+
+abbrev pub new_agent : Endpoint → List ℕ → AgentOf
+new_agent endpoint devices =
+    record { endpoint = endpoint; tid = 0; deaf = 0; halves = map (new_half endpoint.eid) devices; log = new_log }
+
+-- the place of a device among the agent's halves, counted from a number on
+abbrev pub place_from : ℕ → List (HalfOf TimedOf) → ℕ → Option ℕ
+place_from n [] eid = None
+place_from n (h ∷ hs) eid = if h.peer == eid then Some n else place_from (n + 1) hs eid
+
+abbrev pub place_of : List (HalfOf TimedOf) → ℕ → Option ℕ
+place_of hs eid = place_from 0 hs eid
+
+-- the half at a place, if there is one
+abbrev pub half_at : List (HalfOf TimedOf) → Option ℕ → Option (HalfOf TimedOf)
+half_at hs None = None
+half_at hs (Some place) = slice_get hs place
+
+-- the half for a device
+abbrev pub half_for : AgentOf → ℕ → Option (HalfOf TimedOf)
+half_for n eid = half_at n.halves (place_of n.halves eid)
+
+-- an agent whose half at a place is this one now; what happened to its session is noted
+abbrev pub half_becomes : AgentOf → (now place : ℕ) → (before after : HalfOf TimedOf) → AgentOf
+half_becomes n now place before after =
+    record n { halves = slice_set n.halves place after; log = noted n.log now before.peer before.core after.core }
+
+-- an agent after a call, and the messages that it sends
+pub record AgentHeard : Type 0 where
+  pub agent : AgentOf
+  pub sent : List MessageOf
+
+abbrev pub agent_unmoved : AgentOf → AgentHeard
+agent_unmoved n = record { agent = n; sent = [] }
+
+abbrev pub half_heard : AgentOf → (now place : ℕ) → HalfOf TimedOf → NodeHeard TimedOf → AgentHeard
+half_heard n now place h heard =
+    record { agent = record (half_becomes n now place h heard.half) { tid = heard.tid }; sent = heard.sent }
+
+abbrev pub hears_at : List PackageText → AgentOf → List ℕ → (now : ℕ) → Option ℕ → Option (HalfOf TimedOf) → AgentHeard
+hears_at packages n bytes now (Some place) (Some h) =
+    half_heard n now place h (finished roles.Agent n.endpoint n.tid (half_hears (session_core packages) true h bytes))
+hears_at packages n bytes now place h = agent_unmoved n
+
+-- the place of the half that hears a packet: that of the device that sent it
+abbrev pub place_heard : List (HalfOf TimedOf) → Result (Head × List ℕ) WireFault → Option ℕ
+place_heard hs (Ok p) = place_of hs p.0.source
+place_heard hs (Err fault) = None
+
+-- What a packet is for the agent: the half of the device that sent it hears it; a deaf agent drops every packet.
+abbrev pub agent_hears : List PackageText → AgentOf → List ℕ → (now : ℕ) → AgentHeard
+agent_hears packages n bytes now =
+    if n.deaf == 0 then
+    hears_at packages n bytes now (place_heard n.halves (wire.packet_of bytes)) (half_at n.halves (place_heard n.halves (wire.packet_of bytes)))
+    else agent_unmoved n
+
+-- A tick's parts of a half that hears. First what is held and kept grows older, and the open request is sent again or given
+-- up; then the session's idle tick; at last what isn't wished is given up, and what is wished begins.
+abbrev pub silent_by : CallTick → TimedOf → List PackageText → TimedOf
+silent_by ticks.GaveUp s packages = (session_core packages).silent s
+silent_by call s packages = s
+
+abbrev pub grown : List PackageText → HalfOf TimedOf → HalfOf TimedOf
+grown packages h = record (aged h) { core = silent_by (caller_tick h.asker.caller).1 h.core packages }
+
+abbrev pub waited : List PackageText → HalfOf TimedOf → HalfOf TimedOf
+waited packages h = idled (session_core packages) h
+
+abbrev pub asked_last : List PackageText → HalfOf TimedOf → HalfOf TimedOf
+asked_last packages h = (last_part (session_core packages) h []).half
+
+-- the packets of each part
+abbrev pub again_packets : HalfOf TimedOf → List (List ℕ)
+again_packets h = all_packets (sent_by (caller_tick h.asker.caller).1)
+
+abbrev pub asked_packets : List PackageText → HalfOf TimedOf → List (List ℕ)
+asked_packets packages h = all_packets (last_part (session_core packages) h []).sent
+
+-- The log after a part of a tick, which is done for all halves in order: what happened to each session is noted.
+abbrev pub notes : (HalfOf TimedOf → HalfOf TimedOf) → (now : ℕ) → LogOf → List (HalfOf TimedOf) → LogOf
+notes part now log [] = log
+notes part now log (h ∷ hs) = notes part now (noted log now h.peer h.core (part h).core) hs
+
+-- the halves after the first part, and after the second
+abbrev pub all_grown : List PackageText → AgentOf → List (HalfOf TimedOf)
+all_grown packages n = map (grown packages) n.halves
+
+abbrev pub all_waited : List PackageText → AgentOf → List (HalfOf TimedOf)
+all_waited packages n = map (waited packages) (all_grown packages n)
+
+-- An agent after a tick: each part is done for all halves before the next begins.
+abbrev pub agent_ticks : List PackageText → (now : ℕ) → AgentOf → AgentOf
+agent_ticks packages now n =
+    if nat_le n.deaf 1 then
+    record n {
+      deaf = 0;
+      halves = map (asked_last packages) (all_waited packages n);
+      log = notes (waited packages) now (notes (grown packages) now n.log n.halves) (all_grown packages n);
+    }
+    else record n { deaf = n.deaf - 1; halves = map (λ h. (half_ticks (session_core packages) true h).half) n.halves }
+
+-- the packets that it sends in it
+abbrev pub agent_tick_sends : List PackageText → AgentOf → List (List ℕ)
+agent_tick_sends packages n =
+    if nat_le n.deaf 1 then flat_map again_packets n.halves ++ flat_map (asked_packets packages) (all_waited packages n)
+    else []
+
+-- An agent after a restart: it is deaf for 40 ticks, the records of its sessions stay, and so do those of its log.
+abbrev pub agent_restarts : List PackageText → AgentOf → AgentOf
+agent_restarts packages n =
+    record n { tid = 0; deaf = 40; halves = map (half_restarts (session_core packages)) n.halves; log = sel_restart n.log }
+
+-- The operator's calls, of the session for one device: each ends by giving up what is no longer wished.
+abbrev pub starts : List PackageText → HalfOf TimedOf → (number : ℕ) → HalfOf TimedOf
+starts packages h number =
+    recast (session_core packages) h (record { session = agent_started h.core.session number; idle = 0 })
+
+abbrev pub cancels : List PackageText → HalfOf TimedOf → HalfOf TimedOf
+cancels packages h =
+    recast
+    (session_core packages)
+    h
+    (record { session = agent_cancelled h.core.session; idle = if may_cancel h.core.session.stage then 0 else h.core.idle })
+
+abbrev pub activates : List PackageText → HalfOf TimedOf → SessionOf → HalfOf TimedOf
+activates packages h s = recast (session_core packages) h (record { session = s; idle = 0 })
+
+abbrev pub becomes_at : AgentOf → (now : ℕ) → (HalfOf TimedOf → HalfOf TimedOf) → Option ℕ → Option (HalfOf TimedOf) → AgentOf
+becomes_at n now call (Some place) (Some h) = half_becomes n now place h (call h)
+becomes_at n now call place h = n
+
+-- An agent after a call that leaves this half for a device.
+abbrev pub agent_becomes : AgentOf → (now eid : ℕ) → (HalfOf TimedOf → HalfOf TimedOf) → AgentOf
+agent_becomes n now eid call = becomes_at n now call (place_of n.halves eid) (half_for n eid)
