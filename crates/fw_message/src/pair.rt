@@ -104,7 +104,7 @@ impl<'a, B: Bank> Pair<'a, B> {
 }
 
 /// The package of this number, from 1 on, as a session is lent it.
-pub fn lent<'a>(packages: &'a [Package], number: usize) -> Lent<'a>
+pub fn lent<'a>(packages: &'a [Package<'a>], number: usize) -> Lent<'a>
     ensures { result ≡ package_at packages.now number }
 {
     let Some(index) = number.checked_sub(1) else {
