@@ -133,11 +133,11 @@ fn failures(world: &Small<'_>) -> u64 {
 /// Holds whichever single allocation is refused.
 #[test]
 fn refused_memory_leaves_the_world(rt: HostRuntime) -> Result<(), Fail> {
-    let package = match package(rt.alloc(), ONE) {
-        Ok(package) => package,
-        Err(_) => package(rt.alloc(), ONE)?,
+    let bytes = match file(rt.alloc(), ONE) {
+        Ok(bytes) => bytes,
+        Err(_) => file(rt.alloc(), ONE)?,
     };
-    let packages = [package];
+    let packages = [Package::read(&bytes)?];
     let steps = match worked_update(rt.alloc(), DEVICE) {
         Ok(steps) => steps,
         Err(_) => worked_update(rt.alloc(), DEVICE)?,

@@ -155,7 +155,7 @@ const CALLS: [Row<'static>; 15] = [
 /// What a replay answers that goes on behind a step, and whether the world is then the one before that step.
 fn refused(
     alloc: Global,
-    packages: &[Package],
+    packages: &[Package<'_>],
     row: Row<'_>,
 ) -> Result<(usize, Result<(), (usize, MessageStepFault)>, bool), Fail> {
     let (_, count, then, step) = row;

@@ -1,9 +1,9 @@
 //! The user's calls, time and restarts.
 
 use crate::tests::packages::file;
-use fw_package::Package;
 use crate::tests::situations::{ONE, go_on, session_after};
 use crate::{Cause, Happening, Lent, Mark, NotReady, Session, SessionState, StartFault, happened};
+use fw_package::Package;
 use std::alloc::Global;
 use std::test::Fail;
 
@@ -262,10 +262,11 @@ fn causes_are_numbered_from_1(rt: HostRuntime) {
 /// that stand.
 #[test]
 fn refused_memory_starts_nothing(rt: HostRuntime) -> Result<(), Fail> {
-    let worked = match package(rt.alloc(), ONE) {
-        Ok(worked) => worked,
-        Err(_) => package(rt.alloc(), ONE)?,
+    let bytes = match file(rt.alloc(), ONE) {
+        Ok(bytes) => bytes,
+        Err(_) => file(rt.alloc(), ONE)?,
     };
+    let worked = Package::read(&bytes)?;
     let lent = Lent::some(&worked);
     let mut session = Session::new(rt.alloc());
     for number in 1..4usize {

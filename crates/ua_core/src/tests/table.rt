@@ -1,9 +1,9 @@
 //! The device's commands in every state, and the data that it is served.
 
 use crate::tests::packages::{Draft, Item, file};
-use fw_package::Package;
 use crate::tests::situations::{ITEM, ONE, TWO, session_after, session_in};
 use crate::{Cause, Lent, Session, SessionState};
+use fw_package::Package;
 use fwup_wire::Command;
 use std::alloc::Global;
 use std::test::Fail;

@@ -1,11 +1,11 @@
 //! Whole updates, what is wished on the way, and how updates fail.
 
 use crate::tests::packages::{Draft, Item, file};
-use fw_package::Package;
 use crate::tests::situations::{
     ITEM, ONE, TWO, go_on, learn, learn_descriptors, learn_offer, learn_response, session_after,
 };
 use crate::{Cause, Lent, Recorded, Session, SessionState};
+use fw_package::Package;
 use fwup_wire::{Answer, Command, Malformed, TransferFlag, write};
 use std::alloc::Global;
 use std::test::Fail;
@@ -325,7 +325,8 @@ fn the_package_must_name_something_for_the_device(rt: HostRuntime) -> Result<(),
         ),
     ];
     for (situation, set_text, items, bytes, after) in rows {
-        let package = package(rt.alloc(), Draft { set_text, items })?;
+        let bytes = file(rt.alloc(), Draft { set_text, items })?;
+        let package = Package::read(&bytes)?;
         let lent = Lent::some(&package);
         let mut session = session_after(rt.alloc(), &lent, 0);
         learn_descriptors(&mut session, &lent, &bytes);
