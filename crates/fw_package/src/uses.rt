@@ -1,7 +1,7 @@
 //! The components that a record uses, lent from its bitmap.
 
 ghost use Rattle.std.specs.Iterator.{YieldsFirst, item_count};
-ghost use Rattle.std.specs.Prelude.{◌≡◌, ◌+◌, ◌-◌, ◌<◌, ◌∷◌, [], MatchOption};
+ghost use Rattle.std.specs.Prelude.{◌≡◌, ◌+◌, ◌-◌, ◌<◌, ◌∷◌, ◌↔◌, [], length, IsTrue, MatchOption};
 ghost use Rattle.fw_package.specs.Records.{is_named, named};
 ghost use Rattle.fw_package.specs.Views.{named_from};
 
@@ -38,6 +38,13 @@ impl<'a> Uses<'a> {
             number: 0,
             count,
         }
+    }
+
+    /// Whether no component is left.
+    pub fn is_empty(&self) -> bool
+        ensures { IsTrue result ↔ (length self.now ≡ 0) }
+    {
+        first_named(self.bitmap, self.number, self.count).is_none()
     }
 
     /// The same again.

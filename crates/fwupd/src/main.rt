@@ -12,7 +12,7 @@ mod tests;
 mod text;
 
 use command_line::Job;
-use fw_package::PackageFault;
+use inspection::InspectFault;
 use mctp_ctl::Endpoint;
 use std::fs;
 use std::io::{self, BufReader, BufWriter, Write};
@@ -75,8 +75,8 @@ fn run_inspect(rt: &HostRuntime, path: &str) -> io::Result<ExitCode> {
             }
             Ok(ExitCode::SUCCESS)
         }
-        Err(PackageFault::Memory) => failed(rt, "memory"),
-        Err(fault) => {
+        Err(InspectFault::Memory) => failed(rt, "memory"),
+        Err(InspectFault::Package(fault)) => {
             eprintln!(rt; "fwupd: package: {fault}")?;
             Ok(ExitCode::FAILURE)
         }

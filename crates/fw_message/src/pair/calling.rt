@@ -17,7 +17,11 @@ impl<'a, B: Bank> Pair<'a, B> {
     ///
     /// # Errors
     /// `Refused` while an update is under way, or without such a package; else `Memory` where memory for the records is refused.
-    pub fn start(&mut self, packages: &'a [Package<'a>], number: usize) -> Result<(), MessageStepFault>
+    pub fn start(
+        &mut self,
+        packages: &'a [Package<'a>],
+        number: usize,
+    ) -> Result<(), MessageStepFault>
         ensures step { OnOk result (step_of packages.now self.old.node.pair (StepOf.Start number) ≡ Some (quietly self.new.node.pair)) }
         ensures refused { IfErr result (λ e. ((e ≡ MessageStepFault.Memory) × (is_some (step_of packages.now self.old.node.pair (StepOf.Start number)) ≡ true))
             ⊎ ((e ≡ MessageStepFault.Refused) × (step_of packages.now self.old.node.pair (StepOf.Start number) ≡ None))) }

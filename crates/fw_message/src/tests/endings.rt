@@ -1,7 +1,6 @@
 //! How updates end before their time: cancels, time-outs and bad verdicts.
 
 use crate::tests::packages::file;
-use fw_package::Package;
 use crate::tests::seeing::{Note, cell_of, has_worked_images, images_of, notes, states};
 use crate::tests::setup::{KEY, ONE, world};
 use crate::tests::steps::{
@@ -11,6 +10,7 @@ use crate::tests::steps::{
 };
 use crate::{MessageStep, Way};
 use fd_core::{State, Verdict};
+use fw_package::Package;
 use fwup_wire::code::command::APPLY_COMPLETE;
 use fwup_wire::code::completion::COMMAND_NOT_EXPECTED;
 use std::test::Fail;

@@ -1,7 +1,6 @@
 //! What is lost: commands and answers that nobody waits for any longer, and memory.
 
 use crate::tests::packages::file;
-use fw_package::Package;
 use crate::tests::seeing::{
     Note, cell_of, has_worked_images, images_of, is_worked_image, notes, states,
 };
@@ -12,6 +11,7 @@ use crate::tests::steps::{
 };
 use crate::{MessageStep, MessageStepFault, MessageWorld, Way};
 use fd_core::{Bank, State};
+use fw_package::Package;
 use std::test::Fail;
 use ua_core::{Cause, SessionState};
 

@@ -1,7 +1,6 @@
 //! Restarts in the middle of an update.
 
 use crate::tests::packages::file;
-use fw_package::Package;
 use crate::tests::seeing::{
     Note, cell_of, has_worked_images, images_of, is_worked_image, notes, states,
 };
@@ -12,6 +11,7 @@ use crate::tests::steps::{
 };
 use crate::{MessageStep, Way};
 use fd_core::State;
+use fw_package::Package;
 use fwup_wire::code::command::{CANCEL_UPDATE, QUERY_DEVICE_IDENTIFIERS, REQUEST_FIRMWARE_DATA};
 use std::test::Fail;
 use ua_core::{Recorded, Session, SessionState};

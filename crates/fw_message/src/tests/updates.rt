@@ -2,13 +2,13 @@
 
 use crate::Way;
 use crate::tests::packages::file;
-use fw_package::Package;
 use crate::tests::seeing::{
     Note, has_worked_images, images_of, is_worked_image, notes, seen, states,
 };
 use crate::tests::setup::{KEY, ONE, OTHER, world};
 use crate::tests::steps::{DATA_ANSWERED, DEVICE, replay, worked_then, worked_update};
 use fd_core::State;
+use fw_package::Package;
 use fwup_wire::{Answer, Command};
 use std::test::Fail;
 use ua_core::{Recorded, Session, SessionState};
