@@ -325,8 +325,8 @@ fn the_package_must_name_something_for_the_device(rt: HostRuntime) -> Result<(),
         ),
     ];
     for (situation, set_text, items, bytes, after) in rows {
-        let bytes = file(rt.alloc(), Draft { set_text, items })?;
-        let package = Package::read(&bytes)?;
+        let whole = file(rt.alloc(), Draft { set_text, items })?;
+        let package = Package::read(&whole)?;
         let lent = Lent::some(&package);
         let mut session = session_after(rt.alloc(), &lent, 0);
         learn_descriptors(&mut session, &lent, &bytes);
