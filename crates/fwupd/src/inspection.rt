@@ -9,7 +9,9 @@ ghost use Rattle.fw_package.specs.Reading.{package_of};
 ghost use Rattle.fwupd.specs.Inspection.{Adds, component_line, components_text, descriptor_line, inspect_of, package_line, record_line, records_text, record_text, use_text, uses_text};
 
 use crate::printing::{push_data, push_eight, push_four, push_number, push_quoted, push_words};
-use fw_package::{Component, Components, Descriptor, Descriptors, Package, PackageFault, Record, Records, Uses};
+use fw_package::{
+    Component, Components, Descriptor, Descriptors, Package, PackageFault, Record, Records, Uses,
+};
 use std::alloc::{AllocError, Global};
 
 /// Appends the package's line.
@@ -132,7 +134,11 @@ fn push_record(
 
 /// Appends the lines of all records.
 #[tactic(auto, using(crate::proofs::Chains::telling))]
-fn push_records(alloc: Global, text: &mut Vec<u8>, mut records: Records<'_>) -> Result<(), AllocError>
+fn push_records(
+    alloc: Global,
+    text: &mut Vec<u8>,
+    mut records: Records<'_>,
+) -> Result<(), AllocError>
     ensures { OnOk result (Adds text.old.items text.new.items (records_text 1 records.entry)) }
 {
     for number in 0..records.len() {

@@ -7,5 +7,5 @@ unfolding component_line
 returns c =
     let key = adds_more (adds_more c.in_ok-push_number.ensures (rw c.from.ensures at c.in_ok-push_number-2.ensures)) (rw c.from-2.ensures at c.in_ok-push_number-3.ensures) in
     let options = adds_more (adds_more key c.in_ok-push_eight.ensures) c.in_ok-push_four.ensures in
-    let place = adds_more (adds_more options c.in_ok-push_number-4.ensures) (rw c.len.ensures at c.in_ok-push_number-5.ensures) in
+    let place = adds_more (adds_more options c.in_ok-push_number-4.ensures) c.in_ok-push_number-5.ensures in
     adds_more (adds_more place c.in_ok-push_quoted.ensures) c.in_ok-push_words.ensures
