@@ -9,6 +9,7 @@ should need its own size of memory more than a small one.
 """
 
 import os
+import resource
 import struct
 import subprocess
 import sys
@@ -35,18 +36,30 @@ def package(records, components, image):
 
 
 def measure(program, path, turns):
-    """The least seconds and the most bytes of memory of so many runs."""
-    seconds, memory = float("inf"), 0
+    """The least seconds of so many runs."""
+    seconds = float("inf")
     for _ in range(turns):
         begun = time.perf_counter()
-        child = subprocess.Popen([program, "inspect", path], stdout=subprocess.DEVNULL)
-        _, status, used = os.wait4(child.pid, 0)
-        child.returncode = os.waitstatus_to_exitcode(status)
-        if child.returncode != 0:
-            sys.exit(f"inspect ended with status {child.returncode}")
+        subprocess.run([program, "inspect", path], stdout=subprocess.DEVNULL, check=True)
         seconds = min(seconds, time.perf_counter() - begun)
-        memory = max(memory, used.ru_maxrss * 1024)
-    return seconds, memory
+    return seconds
+
+
+def needs(program, path):
+    """The least address space with which a run ends well, to 64 KiB."""
+
+    def runs(limit):
+        def limited():
+            resource.setrlimit(resource.RLIMIT_AS, (limit, limit))
+
+        child = subprocess.run([program, "inspect", path], preexec_fn=limited, stdout=subprocess.DEVNULL, stderr=subprocess.DEVNULL)
+        return child.returncode == 0
+
+    low, high = 0, 256 * MEBIBYTE
+    while high - low > 65536:
+        middle = (low + high) // 2
+        low, high = (low, middle) if runs(middle) else (middle, high)
+    return high
 
 
 def main():
@@ -65,10 +78,10 @@ def main():
         for name, (records, components, image) in rows.items():
             with open(path, "wb") as file:
                 file.write(package(records, components, image))
-            found[name] = measure(program, path, 7)
-            seconds, memory = found[name]
+            seconds, memory = measure(program, path, 60), needs(program, path)
+            found[name] = seconds, memory
             print(f"{name}: {1000 * seconds:.1f} ms, {memory / MEBIBYTE:.1f} MiB")
-    small, large = found["one record of 1 use"], found["80 records of 1,800 uses"]
+    small = found["one record of 1 use"]
     spent = {name: seconds - small[0] for name, (seconds, _) in found.items()}
     print(f"twice the records: {spent['80 records of 1,800 uses'] / spent['40 records of 1,800 uses']:.2f} times the time")
     print(f"twice the components: {spent['80 records of 1,800 uses'] / spent['80 records of 900 uses']:.2f} times the time")
