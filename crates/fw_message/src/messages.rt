@@ -23,7 +23,7 @@ use ua_core::Session;
 pub struct MessageWorld<'a, B: Bank + Drop> {
     alloc: Global,
     agent: u8,
-    packages: &'a [Package],
+    packages: &'a [Package<'a>],
     pairs: Vec<Pair<'a, B>>,
     history: Vec<Entry>,
 }
@@ -49,7 +49,7 @@ impl<'a, B: Bank + Drop> Model for MessageWorld<'a, B> {
 impl<'a, B: Bank + Drop> MessageWorld<'a, B> {
     /// An agent with this endpoint identifier and these packages, numbered from 1 on, without devices. Later calls take
     /// their memory from `alloc`.
-    pub fn new(alloc: Global, agent: u8, packages: &'a [Package]) -> MessageWorld<'a, B>
+    pub fn new(alloc: Global, agent: u8, packages: &'a [Package<'a>]) -> MessageWorld<'a, B>
         ensures world { result.world ≡ record { agent = agent; packages = packages.now; nodes = []; history = [] } }
         ensures faults { result.faults ≡ [] }
         ensures opens { IsOpeningWorld result.world }
@@ -173,14 +173,14 @@ fn pair_of<'p, 'a, B: Bank>(pairs: &'p [Pair<'a, B>], eid: u8) -> Option<&'p Pai
 }
 
 /// The agent restarts, and with it each of its sessions.
-fn restart_each<'a, B: Bank>(pairs: &mut Vec<Pair<'a, B>>, packages: &'a [Package])
+fn restart_each<'a, B: Bank>(pairs: &mut Vec<Pair<'a, B>>, packages: &'a [Package<'a>])
     ensures { pairs.new.items ≡ map (counted_restarted packages.now) pairs.old.items }
 {
     restart_all(pairs.as_mut_slice(), packages);
 }
 
 /// The same over a slice.
-fn restart_all<'a, B: Bank>(pairs: &mut [Pair<'a, B>], packages: &'a [Package])
+fn restart_all<'a, B: Bank>(pairs: &mut [Pair<'a, B>], packages: &'a [Package<'a>])
     ensures { pairs.new ≡ map (counted_restarted packages.now) pairs.old }
 {
     for pair in pairs.iter_mut() {

@@ -1,11 +1,12 @@
 mod Built
 mod ByteSteps
 mod Chosen
-mod Images
 mod Lists
 mod OnePackage
 mod Parts
 mod ReadWhole
-mod Uses
+mod Rows
+mod Using
+mod Walked
 mod Walks
 mod WholeBuilt

@@ -1,107 +1,115 @@
--- Lists that are read one after the other.
-use Rattle.std.proofs.Common.{◌≡◌, ℕ, zero, suc, ◌+◌, ◌-◌, ◌<◌, ◌≤◌, ◌∙◌, Bool, true, false, List, [], ◌∷◌, ◌++◌, Result, Ok, Err, take, drop, refl, sym, ap, arith, append_assoc, append-nil, add-one, if◌then◌else◌}
+-- Descriptors that are read one after the other, and the components that a bitmap names.
+use Rattle.std.proofs.Common.{◌≡◌, ◌≢◌, ℕ, zero, suc, ◌+◌, ◌-◌, ◌<◌, ◌≤◌, ◌∙◌, Bool, true, false, List, [], ◌∷◌, Result, Ok, Err, IsOk, length, refl, sym, ap, subst, arith, if◌then◌else◌}
 use Rattle.std.specs.Prelude.{filter}
 use Rattle.std.specs.List.{range_with_len}
-use Rattle.std.proofs.lemmas.List.Elements.{filter-append}
-use Rattle.fw_package.specs.Package.{DescriptorOf, RecordOf}
-use Rattle.fw_package.specs.Records.{◌>>=◌, descriptor_split, descriptors_split, is_named, named, record_of, records_of}
-use Rattle.fw_package.proofs.Walks.{record_there}
-use Rattle.byteorder.specs.Endian.{little_number}
+use Rattle.fw_package.specs.Package.{DescriptorOf}
+use Rattle.fw_package.specs.Records.{◌>>=◌, descriptor_split, descriptors_split, is_named}
+use Rattle.fw_package.specs.Views.{front_of, named_from}
 use Rattle.fw_package.specs.declared.fault.PackageFault.{PackageFault}
 
--- a list that was read, after these that were read before it
-abbrev pub after_these : {A B : Type 0} → List A → Result (List A × B) PackageFault → Result (List A × B) PackageFault
-after_these xs (Ok p) = Ok (xs ++ p.0, p.1)
-after_these xs (Err e) = Err e
+-- what stands after a list that was read
+abbrev pub back_of : {A B : Type 0} → Result (A × B) PackageFault → Result B PackageFault
+back_of (Ok p) = Ok p.1
+back_of (Err e) = Err e
 
-after_one : {A B : Type 0} (xs : List A) (x : A) (r : Result (List A × B) PackageFault) → after_these xs (r >>= (λ p. Ok (x ∷ p.0, p.1))) ≡ after_these (xs ++ x ∷ []) r
-after_one xs x (Ok p) = ap (λ ys. Ok (ys, p.1)) (sym (append_assoc xs (x ∷ []) p.0))
-after_one xs x (Err e) = refl
+after_one : {A B : Type 0} (x : A) (r : Result (List A × B) PackageFault) → back_of (r >>= (λ p. Ok (x ∷ p.0, p.1))) ≡ back_of r
+after_one x (Ok p) = refl
+after_one x (Err e) = refl
 
-pub descriptors_step : (count i : ℕ) (bytes rest : List ℕ) (xs : List DescriptorOf) (d : DescriptorOf) → descriptor_split bytes ≡ Ok (d, rest) → i < count
-    → after_these xs (descriptors_split (count - i) bytes) ≡ after_these (xs ++ d ∷ []) (descriptors_split (count - (i + 1)) rest)
+pub descriptors_step : (count i : ℕ) (bytes rest : List ℕ) (d : DescriptorOf) → descriptor_split bytes ≡ Ok (d, rest) → i < count
+    → back_of (descriptors_split (count - i) bytes) ≡ back_of (descriptors_split (count - (i + 1)) rest)
 unfolding descriptors_split
-descriptors_step count i bytes rest xs d e lt =
+descriptors_step count i bytes rest d e lt =
     let left : count - i ≡ suc (count - (i + 1)) = omega arith in
-    rw (left, e) (after_one xs d (descriptors_split (count - (i + 1)) rest))
+    rw (left, e) (after_one d (descriptors_split (count - (i + 1)) rest))
 
-pub descriptors_stop : (count i : ℕ) (bytes : List ℕ) (xs : List DescriptorOf) (e : PackageFault) → descriptor_split bytes ≡ Err e → i < count
-    → after_these xs (descriptors_split (count - i) bytes) ≡ Err e
+pub descriptors_stop : (count i : ℕ) (bytes : List ℕ) (e : PackageFault) → descriptor_split bytes ≡ Err e → i < count
+    → back_of (descriptors_split (count - i) bytes) ≡ Err e
 unfolding descriptors_split
-descriptors_stop count i bytes xs e h lt =
+descriptors_stop count i bytes e h lt =
     let left : count - i ≡ suc (count - (i + 1)) = omega arith in
     rw (left, h) refl
 
-pub descriptors_end : (count i : ℕ) (bytes : List ℕ) (xs : List DescriptorOf) → count ≤ i → after_these xs (descriptors_split (count - i) bytes) ≡ Ok (xs, bytes)
+pub descriptors_end : (count i : ℕ) (bytes : List ℕ) → count ≤ i → back_of (descriptors_split (count - i) bytes) ≡ Ok bytes
 unfolding descriptors_split
-descriptors_end count i bytes xs le = let none : count - i ≡ 0 = omega arith in rw (none, append-nil xs) refl
+descriptors_end count i bytes le = let none : count - i ≡ 0 = omega arith in rw none refl
 
-pub descriptors_begin : (count : ℕ) (bytes : List ℕ) → after_these [] (descriptors_split count bytes) ≡ descriptors_split count bytes
-descriptors_begin count bytes = same (descriptors_split count bytes) where
-  same : (r : Result (List DescriptorOf × List ℕ) PackageFault) → after_these [] r ≡ r
-  same (Ok p) = refl
-  same (Err e) = refl
+whole_from : {A B : Type 0} (r : Result (List A × B) PackageFault) (b : B) → back_of r ≡ Ok b → r ≡ Ok (front_of r, b)
+whole_from (Ok p) b h = let same : p.1 ≡ b = cc in rw same refl
+whole_from (Err e) b h = absurd (cc)
 
-pub named_none : (bitmap : List ℕ) → named bitmap 0 ≡ []
-unfolding named
-named_none bitmap = refl
+refused_from : {A B : Type 0} (r : Result (List A × B) PackageFault) (e : PackageFault) → back_of r ≡ Err e → r ≡ Err e
+refused_from (Ok p) e h = absurd (cc)
+refused_from (Err x) e h = cc
 
-range_more : (a n : ℕ) → range_with_len a (suc n) ≡ range_with_len a n ++ (a + n) ∷ []
-range_more a zero = let sum : a + 0 ≡ a = omega arith in rw sum refl
-range_more a (suc n) = let sum : a + 1 + n ≡ a + suc n = omega arith in ap (λ xs. a ∷ xs) (range_more (a + 1) n ∙ (rw sum refl))
+pub descriptors_whole : (count : ℕ) (bytes rest : List ℕ) → back_of (descriptors_split count bytes) ≡ Ok rest
+    → descriptors_split count bytes ≡ Ok (front_of (descriptors_split count bytes), rest)
+descriptors_whole count bytes rest h = whole_from (descriptors_split count bytes) rest h
 
-named_last : (b : Bool) (bitmap : List ℕ) (k : ℕ) → is_named bitmap k ≡ b → filter (is_named bitmap) (k ∷ []) ≡ (if b then k ∷ [] else [])
-named_last true bitmap k e = rw e refl
-named_last false bitmap k e = rw e refl
+pub descriptors_refused : (count : ℕ) (bytes : List ℕ) (e : PackageFault) → back_of (descriptors_split count bytes) ≡ Err e → descriptors_split count bytes ≡ Err e
+descriptors_refused count bytes e h = refused_from (descriptors_split count bytes) e h
 
-named_next : (b : Bool) (bitmap : List ℕ) (k : ℕ) → is_named bitmap k ≡ b → named bitmap (suc k) ≡ named bitmap k ++ (if b then k ∷ [] else [])
-unfolding named
-named_next b bitmap k e =
-    let sum : 0 + k ≡ k = omega arith in
-    ap (filter (is_named bitmap)) (range_more 0 k) ∙ filter-append (is_named bitmap) (range_with_len 0 k) ((0 + k) ∷ []) ∙ ap (λ xs. filter (is_named bitmap) (range_with_len 0 k) ++ xs) (rw sum (named_last b bitmap k e))
+-- the first of those that are left, and the others
+pub record AreLeft (first : DescriptorOf) (count : ℕ) (bytes rest : List ℕ) : Type 0 where
+  pub list : front_of (descriptors_split count bytes) ≡ first ∷ front_of (descriptors_split (count - 1) rest)
+  pub others : IsOk (descriptors_split (count - 1) rest)
 
-pub named_more : (bitmap : List ℕ) (k : ℕ) → is_named bitmap k ≡ true → named bitmap (k + 1) ≡ named bitmap k ++ k ∷ []
-named_more bitmap k e = ap (named bitmap) (add-one k) ∙ named_next true bitmap k e
+-- one before a list that was read
+abbrev with_one : {A B : Type 0} → A → Result (List A × B) PackageFault → Result (List A × B) PackageFault
+with_one x r = r >>= (λ p. Ok (x ∷ p.0, p.1))
 
-pub named_same : (bitmap : List ℕ) (k : ℕ) → is_named bitmap k ≡ false → named bitmap (k + 1) ≡ named bitmap k
-named_same bitmap k e = ap (named bitmap) (add-one k) ∙ named_next false bitmap k e ∙ append-nil (named bitmap k)
+split_left : {A B : Type 0} (x : A) (r : Result (List A × B) PackageFault) → IsOk (with_one x r) → (front_of (with_one x r) ≡ x ∷ front_of r) × IsOk r
+split_left x (Ok p) h = (refl, h)
+split_left x (Err e) h = absurd (cc)
 
--- a list that was read alone, after these that were read before it
-abbrev pub alone_after : {A : Type 0} → List A → Result (List A) PackageFault → Result (List A) PackageFault
-alone_after xs (Ok ys) = Ok (xs ++ ys)
-alone_after xs (Err e) = Err e
+pub descriptors_left : (count : ℕ) (bytes rest : List ℕ) (d : DescriptorOf) → IsOk (descriptors_split count bytes) → count ≢ 0 → descriptor_split bytes ≡ Ok (d, rest)
+    → AreLeft d count bytes rest
+unfolding descriptors_split
+descriptors_left zero bytes rest d h there e = absurd (omega (arith, there))
+descriptors_left (suc n) bytes rest d h there e =
+    let less : suc n - 1 ≡ n = omega arith in
+    let both = split_left d (descriptors_split n rest) (rw e at h) in
+    record { list = rw (less, e) both.0; others = rw less both.1 }
 
-pub one_alone : {A : Type 0} (xs : List A) (x : A) (r : Result (List A) PackageFault) → alone_after xs (r >>= (λ ys. Ok (x ∷ ys))) ≡ alone_after (xs ++ x ∷ []) r
-one_alone xs x (Ok ys) = ap (λ zs. Ok zs) (sym (append_assoc xs (x ∷ []) ys))
-one_alone xs x (Err e) = refl
+pub descriptors_none : (count : ℕ) (bytes : List ℕ) → count ≡ 0 → front_of (descriptors_split count bytes) ≡ []
+unfolding descriptors_split
+descriptors_none count bytes e = rw e refl
 
-pub begin_alone : {A : Type 0} (r : Result (List A) PackageFault) → alone_after [] r ≡ r
-begin_alone (Ok p) = refl
-begin_alone (Err e) = refl
+pub descriptors_there : (count : ℕ) (bytes : List ℕ) (e : PackageFault) → IsOk (descriptors_split count bytes) → count ≢ 0 → descriptor_split bytes ≡ Err e → ⊥
+unfolding descriptors_split
+descriptors_there zero bytes e h there refused = omega (arith, there)
+descriptors_there (suc n) bytes e h there refused = let never = rw refused at h in absurd (cc)
 
-pub records_begin : (size components count : ℕ) (bytes : List ℕ) → alone_after [] (records_of size components count bytes) ≡ records_of size components count bytes
-records_begin size components count bytes = begin_alone (records_of size components count bytes)
+count_one : {A B : Type 0} (x : A) (r : Result (List A × B) PackageFault) (n : ℕ) → (IsOk r → length (front_of r) ≡ n) → IsOk (with_one x r) → length (front_of (with_one x r)) ≡ suc n
+count_one x (Ok p) n h ok = ap suc (h refl)
+count_one x (Err e) n h ok = absurd (cc)
 
-pub records_next : (size components count i : ℕ) (bytes : List ℕ) (xs : List RecordOf) (r : RecordOf) → record_of size components (take (little_number 2 bytes) bytes) ≡ Ok r → i < count
-    → alone_after xs (records_of size components (count - i) bytes) ≡ alone_after (xs ++ r ∷ []) (records_of size components (count - (i + 1)) (drop (little_number 2 bytes) bytes))
-unfolding records_of
-records_next size components count i bytes xs r e lt =
-    let left : count - i ≡ suc (count - (i + 1)) = omega arith in
-    rw (left, e) (one_alone xs r (records_of size components (count - (i + 1)) (drop (little_number 2 bytes) bytes)))
+count_first : {A B : Type 0} (f : Result (A × B) PackageFault) (g : B → Result (List A × B) PackageFault) (n : ℕ) → ((b : B) → IsOk (g b) → length (front_of (g b)) ≡ n)
+    → IsOk (f >>= (λ x. with_one x.0 (g x.1))) → length (front_of (f >>= (λ x. with_one x.0 (g x.1)))) ≡ suc n
+count_first (Ok x) g n h ok = count_one x.0 (g x.1) n (h x.1) ok
+count_first (Err e) g n h ok = absurd (cc)
 
-pub records_stop : (size components count i : ℕ) (bytes : List ℕ) (xs : List RecordOf) (e : PackageFault) → record_of size components (take (little_number 2 bytes) bytes) ≡ Err e → i < count
-    → alone_after xs (records_of size components (count - i) bytes) ≡ Err e
-unfolding records_of
-records_stop size components count i bytes xs e h lt =
-    let left : count - i ≡ suc (count - (i + 1)) = omega arith in
-    rw (left, h) refl
+pub descriptors_count : (count : ℕ) (bytes : List ℕ) → IsOk (descriptors_split count bytes) → length (front_of (descriptors_split count bytes)) ≡ count
+unfolding descriptors_split
+descriptors_count zero bytes ok = refl
+descriptors_count (suc n) bytes ok = count_first (descriptor_split bytes) (descriptors_split n) n (λ b. descriptors_count n b) ok
 
-pub records_done : (size components count i : ℕ) (bytes : List ℕ) (xs : List RecordOf) → count ≤ i → alone_after xs (records_of size components (count - i) bytes) ≡ Ok xs
-unfolding records_of
-records_done size components count i bytes xs le = let none : count - i ≡ 0 = omega arith in rw (none, append-nil xs) refl
+pub ruleset describing = (descriptors_step, descriptors_stop, descriptors_end, descriptors_whole, descriptors_refused)
 
-pub ruleset recording = (records_begin, records_next, records_stop, records_done, record_there)
+pub ruleset descriptors_next = (descriptors_left, descriptors_none, descriptors_there)
 
-pub ruleset naming = (named_none, named_more, named_same)
+-- the first component from here on is named, or isn't
+pub named_here : (bitmap : List ℕ) (count k : ℕ) → k < count → is_named bitmap k ≡ true → named_from bitmap k (count - k) ≡ k ∷ named_from bitmap (k + 1) (count - (k + 1))
+named_here bitmap count k lt e =
+    let left : count - k ≡ suc (count - (k + 1)) = omega arith in
+    rw (left, e) refl
 
-pub ruleset describing = (descriptors_begin, descriptors_step, descriptors_stop, descriptors_end)
+pub named_later : (bitmap : List ℕ) (count k : ℕ) → k < count → is_named bitmap k ≡ false → named_from bitmap k (count - k) ≡ named_from bitmap (k + 1) (count - (k + 1))
+named_later bitmap count k lt e =
+    let left : count - k ≡ suc (count - (k + 1)) = omega arith in
+    rw (left, e) refl
+
+pub named_none : (bitmap : List ℕ) (count k : ℕ) → count ≤ k → named_from bitmap k (count - k) ≡ []
+named_none bitmap count k le = let none : count - k ≡ 0 = omega arith in rw none refl
+
+pub ruleset naming = (named_here, named_later, named_none)

@@ -1,5 +1,5 @@
 -- A component, read from its bytes (DSP0267 1.0, component image information area).
-use Rattle.std.specs.Prelude.{ℕ, zero, suc, ◌+◌, ◌≤◌, nat_lt, if◌then◌else◌, List, [], ◌∷◌, Result, Ok, Err, length, take, drop, slice_index}
+use Rattle.std.specs.Prelude.{ℕ, zero, suc, ◌+◌, nat_lt, if◌then◌else◌, List, [], ◌∷◌, Result, Ok, Err, length, take, drop, slice_index}
 use Rattle.byteorder.specs.Endian.{little_number}
 use Rattle.fw_package.specs.Layout.{text_size_of}
 use Rattle.fw_package.specs.Package.{ComponentOf, TextOf}
@@ -16,10 +16,6 @@ pub record PlaceOf : Type 0 where
   pub offset : ℕ
   pub size : ℕ
   pub text : TextOf
-
--- the image is a part of the file
-abbrev pub IsWithin : List ℕ → PlaceOf → Type 0
-IsWithin file c = c.offset + c.size ≤ length file
 
 -- the same with the image itself
 abbrev pub placed : List ℕ → PlaceOf → ComponentOf

@@ -4,6 +4,8 @@ pub mod Crc
 pub mod Grammar
 pub mod Laws
 pub mod Layout
+pub mod Lent
 pub mod Package
 pub mod Reading
 pub mod Records
+pub mod Views

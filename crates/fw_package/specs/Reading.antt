@@ -3,7 +3,7 @@ use Rattle.std.specs.Prelude.{ℕ, ◌-◌, ◌/◌, ◌%◌, ◌==◌, ◌<◌,
 use Rattle.std.specs.List.{starts_with}
 use Rattle.std.specs.List.Sorted.{IsStrictlyIncreasing}
 use Rattle.byteorder.specs.Endian.{little_number}
-use Rattle.fw_package.specs.Components.{IsWithin, PlaceOf, components_of}
+use Rattle.fw_package.specs.Components.{components_of}
 use Rattle.fw_package.specs.Crc.{crc_of}
 use Rattle.fw_package.specs.Layout.{LayoutOf, layout_of}
 use Rattle.fw_package.specs.Package.{PackageText, RecordOf}
@@ -54,8 +54,3 @@ package_of bytes = do
 pub record IsUsing (count : ℕ) (r : RecordOf) : Type 0 where
   pub rising : IsStrictlyIncreasing r.uses
   pub there : All (λ k. k < count) r.uses
-
--- images are parts of the file, and records use components that are there
-pub record IsStored (file : List ℕ) (records : List RecordOf) (places : List PlaceOf) : Type 0 where
-  pub within : All (IsWithin file) places
-  pub using : All (IsUsing (length places)) records

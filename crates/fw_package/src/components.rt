@@ -1,15 +1,16 @@
 //! A component: what an image is, and where it stands.
 
-ghost use Rattle.std.specs.Prelude.{◌≡◌, ◌≢◌, ◌+◌, ◌<◌, ◌≤◌, All, map, length, IfOk, IfErr, IsSome, Ok, Err};
-ghost use Rattle.fw_package.specs.Components.{IsWithin, component_of, components_of, placed};
+ghost use Rattle.std.specs.Iterator.{YieldsFirstBy, item_count};
+ghost use Rattle.std.specs.Prelude.{◌≡◌, ◌+◌, ◌<◌, ◌≤◌, length, drop, IsSome};
+ghost use Rattle.std.specs.Result.{result_map_both};
+ghost use Rattle.fw_package.specs.Components.{component_of, components_of};
 ghost use Rattle.fw_package.specs.Layout.{after_component, after_components, text_size_of};
-ghost use Rattle.fw_package.specs.Package.{text_of};
+ghost use Rattle.fw_package.specs.Lent.{component_seen};
 
 use crate::fault::PackageFault;
-use crate::layout::{COMPONENT_SIZE, COMPONENT_TEXT_LENGTH};
-use crate::texts::{OwnText, Text};
+use crate::layout::{COMPONENT_SIZE, COMPONENT_TEXT_LENGTH, skip_components};
+use crate::texts::Text;
 use byteorder::{ByteOrder, LittleEndian};
-use std::alloc::Global;
 use std::marker::Model;
 
 /// The place of the component identifier, after the classification.
@@ -30,135 +31,160 @@ const IMAGE_SIZE: usize = 16;
 /// The place of the version text's type.
 const TEXT_TYPE: usize = 20;
 
-/// A component, without its image.
-#[derive(Debug, Drop)]
-pub struct Component {
-    classification: u16,
-    identifier: u16,
-    stamp: u32,
-    options: u16,
-    offset: usize,
-    size: usize,
-    text: OwnText,
+/// A component and its image, lent from its package's file.
+#[derive(Clone, Copy, Debug)]
+pub struct Component<'a> {
+    /// The classification, the first part of the key.
+    pub classification: u16,
+    /// The identifier, the second part of the key.
+    pub identifier: u16,
+    /// The comparison stamp.
+    pub stamp: u32,
+    /// The options: bit 0 forces the update, bit 1 uses the stamp.
+    pub options: u16,
+    /// Where the image stands, in bytes from the file's start.
+    pub offset: usize,
+    /// The version text.
+    pub text: Text<'a>,
+    /// The image.
+    pub image: &'a [u8],
 }
 
-impl Model for Component {
-    ghost use Rattle.fw_package.specs.Components.{PlaceOf};
-
-    ghost Value = { PlaceOf };
-
-    ghost view = { λ c. record { classification = c.classification; identifier = c.identifier; stamp = c.stamp; options = c.options; offset = c.offset; size = c.size; text = c.text } };
-}
-
-impl Component {
+impl<'a> Component<'a> {
     /// Reads the component with which these bytes of a header begin.
     ///
     /// # Errors
-    /// `ImageRange` where its image goes past the file's end, and `Memory`.
+    /// `ImageRange` where its image goes past the file's end.
     #[tactic(auto, unfolding(crate::specs::Components::component_of))]
-    pub fn read(alloc: Global, file: &[u8], bytes: &[u8]) -> Result<Component, PackageFault>
+    fn read(file: &'a [u8], bytes: &'a [u8]) -> Result<Component<'a>, PackageFault>
         requires { IsSome (after_component bytes.now) }
-        ensures ok { IfOk result (λ c. component_of file.now bytes.now ≡ Ok (placed file.now c)) }
-        ensures within { IfOk result (λ c. IsWithin file.now c) }
-        ensures err { IfErr result (λ e. e ≢ PackageFault.Memory → component_of file.now bytes.now ≡ Err e) }
+        ensures { result_map_both component_seen (λ e. e) result ≡ component_of file.now bytes.now }
     {
         let offset = LittleEndian::read_u32(&bytes[OFFSET..]) as usize;
         let size = LittleEndian::read_u32(&bytes[IMAGE_SIZE..]) as usize;
         if offset + size > file.len() {
             return Err(PackageFault::ImageRange);
         }
-        let text = Text {
-            kind: bytes[TEXT_TYPE],
-            bytes: &bytes[COMPONENT_SIZE..component_size(bytes)],
-        };
         Ok(Component {
             classification: LittleEndian::read_u16(bytes),
             identifier: LittleEndian::read_u16(&bytes[IDENTIFIER..]),
             stamp: LittleEndian::read_u32(&bytes[STAMP..]),
             options: LittleEndian::read_u16(&bytes[OPTIONS..]),
             offset,
-            size,
-            text: OwnText::copy(alloc, text)?,
+            text: Text {
+                kind: bytes[TEXT_TYPE],
+                bytes: &bytes[COMPONENT_SIZE..component_size(bytes)],
+            },
+            image: &file[offset..offset + size],
         })
-    }
-
-    /// The classification, the first part of the key.
-    pub fn classification(&self) -> u16
-        ensures { result ≡ self.now.classification }
-    {
-        self.classification
-    }
-
-    /// The identifier, the second part of the key.
-    pub fn identifier(&self) -> u16
-        ensures { result ≡ self.now.identifier }
-    {
-        self.identifier
-    }
-
-    /// The comparison stamp.
-    pub fn stamp(&self) -> u32
-        ensures { result ≡ self.now.stamp }
-    {
-        self.stamp
-    }
-
-    /// The options: bit 0 forces the update, bit 1 uses the stamp.
-    pub fn options(&self) -> u16
-        ensures { result ≡ self.now.options }
-    {
-        self.options
-    }
-
-    /// Where the image stands, in bytes from the file's start.
-    pub fn offset(&self) -> usize
-        ensures { result ≡ self.now.offset }
-    {
-        self.offset
-    }
-
-    /// The bytes of the image.
-    pub fn size(&self) -> usize
-        ensures { result ≡ self.now.size }
-    {
-        self.size
-    }
-
-    /// The version text.
-    pub fn text(&self) -> Text<'_>
-        ensures { text_of result ≡ self.now.text }
-    {
-        self.text.lend()
     }
 }
 
-/// Reads so many components, one after the other.
-///
-/// # Errors
-/// `ImageRange` where an image goes past the file's end, and `Memory`.
-#[tactic(auto, using(crate::proofs::Images::components))]
-pub fn read_components(
-    alloc: Global,
-    file: &[u8],
-    bytes: &[u8],
+/// The components of a package, one after the other. It is also an iterator over them.
+#[derive(Debug, Drop)]
+pub struct Components<'a> {
+    file: &'a [u8],
     count: usize,
-) -> Result<Vec<Component>, PackageFault>
-    requires { IsSome (after_components count bytes.now) }
-    ensures ok { IfOk result (λ v. components_of file.now count bytes.now ≡ Ok (map (placed file.now) v.items)) }
-    ensures within { IfOk result (λ v. All (IsWithin file.now) v.items) }
-    ensures err { IfErr result (λ e. e ≢ PackageFault.Memory → components_of file.now count bytes.now ≡ Err e) }
-{
-    let mut read = Vec::new(alloc);
-    let mut rest = bytes;
-    for _component in 0..count {
-        let (_, after) = rest.split_at(component_size(rest));
-        let component = Component::read(alloc, file, rest)?;
-        let Ok(()) = read.push(component) else {
-            return Err(PackageFault::Memory);
-        };
-        rest = after;
+    rest: &'a [u8],
+}
+
+impl<'a> Model for Components<'a> {
+    ghost use Rattle.std.specs.Prelude.{List};
+    ghost use Rattle.fw_package.specs.Components.{components_of};
+    ghost use Rattle.fw_package.specs.Package.{ComponentOf};
+    ghost use Rattle.fw_package.specs.Views.{AreComponents, listed};
+
+    ghost Value = { List ComponentOf };
+
+    ghost view = { λ c. listed (components_of c.file.now c.count c.rest.now) };
+
+    ghost invariant = { λ c. AreComponents c.file.now c.count c.rest.now };
+}
+
+impl<'a> Components<'a> {
+    /// So many components, the first of which these bytes of the file's header begin with.
+    ///
+    /// # Errors
+    /// `ImageRange` where an image goes past the file's end.
+    #[tactic(auto, using(crate::proofs::Rows::composing))]
+    pub(crate) fn read(
+        file: &'a [u8],
+        bytes: &'a [u8],
+        count: usize,
+    ) -> Result<Components<'a>, PackageFault>
+        requires { IsSome (after_components count bytes.now) }
+        ensures { result ≡ components_of file.now count bytes.now }
+    {
+        let mut rest = bytes;
+        for _component in 0..count {
+            let _ = Component::read(file, rest)?;
+            rest = others(rest);
+        }
+        Ok(Components {
+            file,
+            count,
+            rest: bytes,
+        })
     }
-    Ok(read)
+
+    /// How many components are left.
+    #[tactic(auto, using(crate::proofs::Rows::components_count))]
+    pub fn len(&self) -> usize
+        ensures { result ≡ length self.now }
+    {
+        self.count
+    }
+
+    /// The same again.
+    pub fn iter(&self) -> Components<'a>
+        ensures { result ≡ self.now }
+    {
+        Components {
+            file: self.file,
+            count: self.count,
+            rest: self.rest,
+        }
+    }
+
+    /// The components from this number on. Those before it are passed by their lengths, unread.
+    #[tactic(auto, using(crate::proofs::Rows::components_starting))]
+    pub(crate) fn from(&self, number: usize) -> Components<'a>
+        requires { number ≤ length self.now }
+        ensures { result ≡ drop number self.now }
+    {
+        let Some(rest) = skip_components(self.rest, number) else {
+            unreachable!()
+        };
+        Components {
+            file: self.file,
+            count: self.count - number,
+            rest,
+        }
+    }
+}
+
+impl<'a> Iterator for Components<'a> {
+    type Item = Component<'a>;
+
+    ghost next_gives = { YieldsFirstBy component_seen (λ left. left) };
+
+    ghost remaining = { item_count (λ left. left) };
+
+    #[tactic(auto, using(crate::proofs::Rows::components_next))]
+    fn next(&mut self) -> Option<Component<'a>> {
+        if self.count == 0 {
+            return None;
+        }
+        let Ok(component) = Component::read(self.file, self.rest) else {
+            unreachable!()
+        };
+        *self = Components {
+            file: self.file,
+            count: self.count - 1,
+            rest: others(self.rest),
+        };
+        Some(component)
+    }
 }
 
 /// The bytes of the component with which these begin: its fixed part and its version text.
@@ -168,4 +194,13 @@ fn component_size(bytes: &[u8]) -> usize
     ensures within { result ≤ length bytes.now }
 {
     COMPONENT_SIZE + usize::from(bytes[COMPONENT_TEXT_LENGTH])
+}
+
+/// What stands after the component with which these bytes begin.
+fn others(bytes: &[u8]) -> &[u8]
+    requires { IsSome (after_component bytes.now) }
+    ensures { result.now ≡ drop (COMPONENT_SIZE + text_size_of 21 bytes.now) bytes.now }
+{
+    let (_, others) = bytes.split_at(component_size(bytes));
+    others
 }

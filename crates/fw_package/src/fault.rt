@@ -1,8 +1,5 @@
 //! Why bytes are no package, and why a record can't be planned.
 
-ghost use Rattle.std.specs.Prelude.{◌≡◌};
-
-use std::alloc::AllocError;
 use thiserror::Error;
 
 /// Why bytes are no package: the first of these, in this order, that holds.
@@ -32,19 +29,6 @@ pub enum PackageFault {
     /// A component's image goes past the file's end.
     #[error("ImageRange")]
     ImageRange,
-    /// Memory was refused.
-    #[error("Memory")]
-    Memory,
-}
-
-impl From<AllocError> for PackageFault {
-    ghost use Rattle.fw_package.specs.declared.fault.PackageFault.TheVariants.{Memory};
-
-    ghost from_gives = { λ _ fault. fault ≡ Memory };
-
-    fn from(_: AllocError) -> PackageFault {
-        PackageFault::Memory
-    }
 }
 
 /// Why a record can't be planned: the first of these, in this order, that holds.

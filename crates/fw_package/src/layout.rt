@@ -113,7 +113,7 @@ fn skip_record(bytes: &[u8]) -> Option<&[u8]>
 
 /// What stands after so many records.
 #[tactic(auto, using(crate::proofs::Walks::record_walk))]
-fn skip_records(bytes: &[u8], count: usize) -> Option<&[u8]>
+pub fn skip_records(bytes: &[u8], count: usize) -> Option<&[u8]>
     ensures { option_map (λ rest. rest.now) result ≡ after_records count bytes.now }
 {
     let mut rest = bytes;
@@ -135,7 +135,7 @@ fn skip_component(bytes: &[u8]) -> Option<&[u8]>
 
 /// What stands after so many components.
 #[tactic(auto, using(crate::proofs::Walks::component_walk))]
-fn skip_components(bytes: &[u8], count: usize) -> Option<&[u8]>
+pub fn skip_components(bytes: &[u8], count: usize) -> Option<&[u8]>
     ensures { option_map (λ rest. rest.now) result ≡ after_components count bytes.now }
 {
     let mut rest = bytes;

@@ -4,6 +4,7 @@
 mod components;
 mod crc;
 mod crc_table;
+mod descriptors;
 mod fault;
 mod laws;
 mod layout;
@@ -12,9 +13,15 @@ mod plans;
 mod reading;
 mod records;
 mod texts;
+mod used;
+mod uses;
 
+pub use components::{Component, Components};
+pub use descriptors::Descriptors;
 pub use fault::{PackageFault, PlanFault};
 pub use laws::{chooses_first, one_package, plans_named_images};
 pub use packages::Package;
 pub use plans::{PLAN_LIMIT, Plan};
+pub use records::{Record, Records};
 pub use texts::{Descriptor, Text};
+pub use uses::Uses;

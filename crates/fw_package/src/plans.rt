@@ -1,7 +1,8 @@
 //! A plan: the components that a device is offered.
 
-ghost use Rattle.std.specs.Prelude.{◌≡◌, ◌≤◌, ◌↔◌, length, IsTrue};
+ghost use Rattle.std.specs.Prelude.{◌≡◌, ◌≤◌, ◌↔◌, length, nat_lt, if◌then◌else◌, None, Some, IsTrue};
 
+use crate::uses::Uses;
 use arrayvec::ArrayVec;
 use std::marker::Model;
 
@@ -11,7 +12,7 @@ pub const PLAN_LIMIT: usize = 8;
 /// The numbers of the components that a device is offered, at most eight, rising.
 #[derive(Debug, Drop)]
 pub struct Plan {
-    numbers: ArrayVec<usize, 8>,
+    numbers: ArrayVec<usize, PLAN_LIMIT>,
 }
 
 impl Model for Plan {
@@ -25,14 +26,18 @@ impl Model for Plan {
 }
 
 impl Plan {
-    /// A plan of these components.
-    pub(crate) fn new(uses: &[u16]) -> Plan
-        requires { length uses.now ≤ 8 }
-        ensures { result ≡ uses.now }
+    /// A plan of these components, if it has room for them.
+    pub(crate) fn new(uses: Uses<'_>) -> Option<Plan>
+        ensures { result ≡ (if nat_lt PLAN_LIMIT (length uses.entry) then None else Some uses.entry) }
     {
-        Plan {
-            numbers: numbers(uses),
+        let mut numbers = ArrayVec::new();
+        for number in uses {
+            if numbers.is_full() {
+                return None;
+            }
+            numbers.push(usize::from(number));
         }
+        Some(Plan { numbers })
     }
 
     /// The numbers, counted from 0.
@@ -57,16 +62,4 @@ impl Plan {
     {
         self.numbers.is_empty()
     }
-}
-
-/// These numbers, each as an index.
-fn numbers(uses: &[u16]) -> ArrayVec<usize, 8>
-    requires { length uses.now ≤ 8 }
-    ensures { result.items ≡ uses.now }
-{
-    let mut numbers = ArrayVec::new();
-    for number in uses {
-        numbers.push(usize::from(*number));
-    }
-    numbers
 }

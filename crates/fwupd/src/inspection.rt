@@ -1,19 +1,21 @@
 //! The text of `fwupd inspect`.
 
-ghost use Rattle.std.specs.Prelude.{◌≡◌, ◌≢◌, ◌++◌, ◌+◌, ◌^◌, ◌<◌, length, slice_index_or, IfErr, IfOk, OnOk};
+ghost use Rattle.std.specs.Prelude.{◌≡◌, ◌≢◌, ◌++◌, ◌+◌, IfErr, IfOk, OnOk};
 ghost use Rattle.std.specs.List.{flat_map};
 ghost use Rattle.std.specs.Result.{result_map_both};
-ghost use Rattle.fw_package.specs.Choice.{component_at, no_descriptor, record_at};
+ghost use Rattle.fw_package.specs.Lent.{component_seen, record_seen};
 ghost use Rattle.fw_package.specs.Package.{descriptor_of};
 ghost use Rattle.fw_package.specs.Reading.{package_of};
 ghost use Rattle.fwupd.specs.Inspection.{Adds, component_line, components_text, descriptor_line, inspect_of, package_line, record_line, records_text, record_text, use_text, uses_text};
 
 use crate::printing::{push_data, push_eight, push_four, push_number, push_quoted, push_words};
-use fw_package::{Descriptor, Package, PackageFault};
+use fw_package::{
+    Component, Components, Descriptor, Descriptors, Package, PackageFault, Record, Records, Uses,
+};
 use std::alloc::{AllocError, Global};
 
 /// Appends the package's line.
-fn push_package(alloc: Global, text: &mut Vec<u8>, contents: &Package) -> Result<(), AllocError>
+fn push_package(alloc: Global, text: &mut Vec<u8>, contents: &Package<'_>) -> Result<(), AllocError>
     ensures { OnOk result (Adds text.old.items text.new.items (package_line contents.now)) }
 {
     push_number(alloc, text, "package header ", contents.header_size())?;
@@ -39,40 +41,26 @@ fn push_descriptor(
 }
 
 /// Appends the number of each component that a record uses.
-fn push_each_use(
-    alloc: Global,
-    text: &mut Vec<u8>,
-    contents: &Package,
-    number: usize,
-) -> Result<(), AllocError>
-    requires there { number < length contents.now.records }
-    ensures { OnOk result (Adds text.old.items text.new.items (flat_map use_text (record_at contents.now number).uses)) }
+#[tactic(auto, using(crate::proofs::Chains::telling))]
+fn push_each_use(alloc: Global, text: &mut Vec<u8>, uses: Uses<'_>) -> Result<(), AllocError>
+    ensures { OnOk result (Adds text.old.items text.new.items (flat_map use_text uses.entry)) }
 {
-    let components = contents.component_count();
-    for place in 0..contents.use_count(number) {
-        let component = contents.use_at(number, place);
-        prove!(component < components);
-        push_number(alloc, text, " ", component + 1)?;
+    for component in uses {
+        push_number(alloc, text, " ", usize::from(component) + 1)?;
     }
     Ok(())
 }
 
 /// Appends the numbers of the components that a record uses, or a dash.
 #[tactic(auto, using(crate::proofs::Chains::uses_none, crate::proofs::Chains::uses_some))]
-fn push_uses(
-    alloc: Global,
-    text: &mut Vec<u8>,
-    contents: &Package,
-    number: usize,
-) -> Result<(), AllocError>
-    requires there { number < length contents.now.records }
-    ensures { OnOk result (Adds text.old.items text.new.items (uses_text (record_at contents.now number).uses)) }
+fn push_uses(alloc: Global, text: &mut Vec<u8>, uses: Uses<'_>) -> Result<(), AllocError>
+    ensures { OnOk result (Adds text.old.items text.new.items (uses_text uses.entry)) }
 {
-    if contents.use_count(number) == 0 {
+    if uses.is_empty() {
         push_words(text, " -")?;
         return Ok(());
     }
-    push_each_use(alloc, text, contents, number)?;
+    push_each_use(alloc, text, uses)?;
     Ok(())
 }
 
@@ -80,18 +68,16 @@ fn push_uses(
 fn push_record_line(
     alloc: Global,
     text: &mut Vec<u8>,
-    contents: &Package,
     number: usize,
+    contents: &Record<'_>,
 ) -> Result<(), AllocError>
-    requires there { number < length contents.now.records }
-    requires room { number + 1 < 2 ^ 64 }
-    ensures { OnOk result (Adds text.old.items text.new.items (record_line (number + 1) (record_at contents.now number))) }
+    ensures { OnOk result (Adds text.old.items text.new.items (record_line number (record_seen contents.now))) }
 {
-    push_number(alloc, text, "record ", number + 1)?;
-    push_eight(alloc, text, " flags ", contents.flags(number))?;
-    push_quoted(alloc, text, " set ", contents.set_text(number).bytes)?;
+    push_number(alloc, text, "record ", number)?;
+    push_eight(alloc, text, " flags ", contents.flags)?;
+    push_quoted(alloc, text, " set ", contents.set_text.bytes)?;
     push_words(text, " uses")?;
-    push_uses(alloc, text, contents, number)?;
+    push_uses(alloc, text, contents.uses.iter())?;
     push_words(text, "\n")?;
     Ok(())
 }
@@ -100,47 +86,34 @@ fn push_record_line(
 fn push_component(
     alloc: Global,
     text: &mut Vec<u8>,
-    contents: &Package,
-    component: usize,
+    number: usize,
+    contents: Component<'_>,
 ) -> Result<(), AllocError>
-    requires there { component < length contents.now.components }
-    requires room { component + 1 < 2 ^ 64 }
-    ensures { OnOk result (Adds text.old.items text.new.items (component_line (component + 1) (component_at contents.now component))) }
+    ensures { OnOk result (Adds text.old.items text.new.items (component_line number (component_seen contents.entry))) }
 {
-    push_number(alloc, text, "component ", component + 1)?;
-    push_number(
-        alloc,
-        text,
-        " class ",
-        usize::from(contents.classification(component)),
-    )?;
-    push_number(
-        alloc,
-        text,
-        " ident ",
-        usize::from(contents.identifier(component)),
-    )?;
-    push_eight(alloc, text, " stamp ", contents.stamp(component))?;
-    push_four(alloc, text, " options ", contents.options(component))?;
-    push_number(alloc, text, " offset ", contents.offset(component))?;
-    push_number(alloc, text, " size ", contents.size(component))?;
-    push_quoted(alloc, text, " version ", contents.text(component).bytes)?;
+    push_number(alloc, text, "component ", number)?;
+    push_number(alloc, text, " class ", usize::from(contents.classification))?;
+    push_number(alloc, text, " ident ", usize::from(contents.identifier))?;
+    push_eight(alloc, text, " stamp ", contents.stamp)?;
+    push_four(alloc, text, " options ", contents.options)?;
+    push_number(alloc, text, " offset ", contents.offset)?;
+    push_number(alloc, text, " size ", contents.image.len())?;
+    push_quoted(alloc, text, " version ", contents.text.bytes)?;
     push_words(text, "\n")?;
     Ok(())
 }
 
 /// Appends the lines of a record's descriptors.
+#[tactic(auto, using(crate::proofs::Chains::telling))]
 fn push_descriptors(
     alloc: Global,
     text: &mut Vec<u8>,
-    contents: &Package,
-    number: usize,
+    descriptors: Descriptors<'_>,
 ) -> Result<(), AllocError>
-    requires there { number < length contents.now.records }
-    ensures { OnOk result (Adds text.old.items text.new.items (flat_map descriptor_line (record_at contents.now number).descriptors)) }
+    ensures { OnOk result (Adds text.old.items text.new.items (flat_map descriptor_line descriptors.entry)) }
 {
-    for place in 0..contents.descriptor_count(number) {
-        push_descriptor(alloc, text, contents.descriptor(number, place))?;
+    for descriptor in descriptors {
+        push_descriptor(alloc, text, descriptor)?;
     }
     Ok(())
 }
@@ -149,34 +122,48 @@ fn push_descriptors(
 fn push_record(
     alloc: Global,
     text: &mut Vec<u8>,
-    contents: &Package,
     number: usize,
+    contents: Record<'_>,
 ) -> Result<(), AllocError>
-    requires there { number < length contents.now.records }
-    requires room { number + 1 < 2 ^ 64 }
-    ensures { OnOk result (Adds text.old.items text.new.items (record_text (number + 1) (record_at contents.now number))) }
+    ensures { OnOk result (Adds text.old.items text.new.items (record_text number (record_seen contents.entry))) }
 {
-    push_record_line(alloc, text, contents, number)?;
-    push_descriptors(alloc, text, contents, number)?;
+    push_record_line(alloc, text, number, &contents)?;
+    push_descriptors(alloc, text, contents.descriptors)?;
     Ok(())
 }
 
 /// Appends the lines of all records.
-fn push_records(alloc: Global, text: &mut Vec<u8>, contents: &Package) -> Result<(), AllocError>
-    ensures { OnOk result (Adds text.old.items text.new.items (records_text 1 contents.now.records)) }
+#[tactic(auto, using(crate::proofs::Chains::telling))]
+fn push_records(
+    alloc: Global,
+    text: &mut Vec<u8>,
+    mut records: Records<'_>,
+) -> Result<(), AllocError>
+    ensures { OnOk result (Adds text.old.items text.new.items (records_text 1 records.entry)) }
 {
-    for number in 0..contents.record_count() {
-        push_record(alloc, text, contents, number)?;
+    for number in 0..records.len() {
+        let Some(contents) = records.next() else {
+            unreachable!()
+        };
+        push_record(alloc, text, number + 1, contents)?;
     }
     Ok(())
 }
 
 /// Appends the lines of all components.
-fn push_components(alloc: Global, text: &mut Vec<u8>, contents: &Package) -> Result<(), AllocError>
-    ensures { OnOk result (Adds text.old.items text.new.items (components_text 1 contents.now.components)) }
+#[tactic(auto, using(crate::proofs::Chains::telling))]
+fn push_components(
+    alloc: Global,
+    text: &mut Vec<u8>,
+    mut components: Components<'_>,
+) -> Result<(), AllocError>
+    ensures { OnOk result (Adds text.old.items text.new.items (components_text 1 components.entry)) }
 {
-    for component in 0..contents.component_count() {
-        push_component(alloc, text, contents, component)?;
+    for number in 0..components.len() {
+        let Some(contents) = components.next() else {
+            unreachable!()
+        };
+        push_component(alloc, text, number + 1, contents)?;
     }
     Ok(())
 }
@@ -185,27 +172,39 @@ fn push_components(alloc: Global, text: &mut Vec<u8>, contents: &Package) -> Res
 ///
 /// # Errors
 /// Memory was refused.
-fn inspection(alloc: Global, contents: &Package) -> Result<Vec<u8>, AllocError>
+fn inspection(alloc: Global, contents: &Package<'_>) -> Result<Vec<u8>, AllocError>
     ensures { IfOk result (λ text. text.items ≡ inspect_of contents.now) }
 {
     let mut text = Vec::new(alloc);
     push_package(alloc, &mut text, contents)?;
-    push_records(alloc, &mut text, contents)?;
-    push_components(alloc, &mut text, contents)?;
+    push_records(alloc, &mut text, contents.records())?;
+    push_components(alloc, &mut text, contents.components())?;
     Ok(text)
+}
+
+/// Why a package isn't inspected.
+#[derive(Clone, Copy, Debug, PartialEq, Eq)]
+pub enum InspectFault {
+    /// The bytes are no package.
+    Package(PackageFault),
+    /// Memory was refused.
+    Memory,
 }
 
 /// Inspects a firmware package: what its records name, and its components, a line each.
 ///
 /// # Errors
 /// Bytes that are no package are refused by the first fault that holds; `Memory` only where memory was refused.
-pub fn inspect(alloc: Global, bytes: &[u8]) -> Result<Vec<u8>, PackageFault>
+pub fn inspect(alloc: Global, bytes: &[u8]) -> Result<Vec<u8>, InspectFault>
     ensures text { IfOk result (λ text. result_map_both inspect_of (λ e. e) (package_of bytes.now) ≡ Ok text.items) }
-    ensures fault { IfErr result (λ e. e ≢ PackageFault.Memory → package_of bytes.now ≡ Err e) }
+    ensures fault { IfErr result (λ e. e ≢ InspectFault.Memory → result_map_both (λ p. p) InspectFault.Package (package_of bytes.now) ≡ Err e) }
 {
-    let contents = Package::read(alloc, bytes)?;
+    let contents = match Package::read(bytes) {
+        Ok(contents) => contents,
+        Err(fault) => return Err(InspectFault::Package(fault)),
+    };
     let Ok(text) = inspection(alloc, &contents) else {
-        return Err(PackageFault::Memory);
+        return Err(InspectFault::Memory);
     };
     Ok(text)
 }
@@ -261,7 +260,10 @@ mod tests {
             descriptor 0002 -\n\
             component 1 class 65535 ident 2 stamp 01020304 options 0003 offset 0 size 0 \
             version \"a \\x22b\\x22 \\x5C \\x1F\\x7F\\xC3\\xA9 ~\"\n";
-        assert_eq!(rt; inspect(rt.alloc(), &package)?.as_slice(), want.as_slice());
+        match inspect(rt.alloc(), &package) {
+            Ok(text) => assert_eq!(rt; text.as_slice(), want.as_slice()),
+            Err(_) => assert!(rt; false),
+        }
         Ok(())
     }
 
@@ -277,7 +279,7 @@ mod tests {
             let cut = package.get(..size).unwrap_or(&[]);
             match inspect(rt.alloc(), cut) {
                 Ok(_) => assert!(rt; false, "{size}"),
-                Err(e) => assert_eq!(rt; e, fault, "{size}"),
+                Err(e) => assert_eq!(rt; e, InspectFault::Package(fault), "{size}"),
             }
         }
         if let Some(byte) = package.get_mut(25) {
@@ -285,7 +287,7 @@ mod tests {
         }
         match inspect(rt.alloc(), &package) {
             Ok(_) => assert!(rt; false),
-            Err(e) => assert_eq!(rt; e, PackageFault::Checksum),
+            Err(e) => assert_eq!(rt; e, InspectFault::Package(PackageFault::Checksum)),
         }
         Ok(())
     }
@@ -305,7 +307,7 @@ mod tests {
     fn refused_memory_refuses_the_inspection(rt: HostRuntime) {
         match inspect(rt.alloc(), &PACKAGE) {
             Ok(text) => assert!(rt; text.ends_with(b"version \"v\"\n")),
-            Err(fault) => assert_eq!(rt; fault, PackageFault::Memory),
+            Err(fault) => assert_eq!(rt; fault, InspectFault::Memory),
         }
     }
 }

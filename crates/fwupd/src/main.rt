@@ -12,10 +12,10 @@ mod tests;
 mod text;
 
 use command_line::Job;
-use fw_package::PackageFault;
+use inspection::InspectFault;
 use mctp_ctl::Endpoint;
-use std::fs;
-use std::io::{self, BufReader, BufWriter, Write};
+use std::fs::File;
+use std::io::{self, BufReader, BufWriter, Read, Write};
 use std::process::ExitCode;
 use stream::AnswerFault;
 
@@ -57,9 +57,22 @@ fn run_answer(rt: &HostRuntime, endpoint: Endpoint) -> io::Result<ExitCode> {
     }
 }
 
+/// The bytes of a file, read once, into room of its size where it says one.
+fn contents(rt: &HostRuntime, path: &str) -> io::Result<Vec<u8>> {
+    let mut file = File::open(rt, path)?;
+    let size = match file.metadata() {
+        Ok(found) => usize::try_from(found.len()).unwrap_or(0),
+        Err(_) => 0,
+    };
+    let mut bytes = Vec::new(rt.alloc());
+    bytes.reserve(size.saturating_add(1))?;
+    file.read_to_end(&mut bytes)?;
+    Ok(bytes)
+}
+
 /// Prints what the package in a file holds.
 fn run_inspect(rt: &HostRuntime, path: &str) -> io::Result<ExitCode> {
-    let bytes = match fs::read(rt, path) {
+    let bytes = match contents(rt, path) {
         Ok(bytes) => bytes,
         Err(error) if error.kind() == io::ErrorKind::OutOfMemory => return failed(rt, "memory"),
         Err(_) => {
@@ -75,8 +88,8 @@ fn run_inspect(rt: &HostRuntime, path: &str) -> io::Result<ExitCode> {
             }
             Ok(ExitCode::SUCCESS)
         }
-        Err(PackageFault::Memory) => failed(rt, "memory"),
-        Err(fault) => {
+        Err(InspectFault::Memory) => failed(rt, "memory"),
+        Err(InspectFault::Package(fault)) => {
             eprintln!(rt; "fwupd: package: {fault}")?;
             Ok(ExitCode::FAILURE)
         }

@@ -4,6 +4,7 @@
 ghost use Rattle.std.specs.Prelude.{◌≡◌, ◌<◌, IfSome, length, map, take};
 ghost use Rattle.std.specs.Result.{result_map_both};
 ghost use Rattle.fw_package.specs.Choice.{component_at, plan_of, record_at, record_number};
+ghost use Rattle.fw_package.specs.Lent.{component_seen};
 ghost use Rattle.fw_package.specs.Package.{descriptor_of, text_of as package_text_of};
 ghost use Rattle.fwup_wire.specs.Lent.{text_of, version_of};
 ghost use Rattle.ua_core.specs.Learn.{job_for, planned};
@@ -12,14 +13,14 @@ ghost use Rattle.ua_core.specs.Lent.{is_forced, key_of, no_package, package_at, 
 use crate::planned::Job;
 use crate::plans::unlearnt;
 use crate::state::Cause;
-use fw_package::{Descriptor, Package};
+use fw_package::{Component, Descriptor, Package};
 use fwup_wire::{Descriptors, Key, Text, Version};
 use std::marker::Model;
 
 /// The package that a session is lent, if there is one.
 #[derive(Debug, Drop)]
 pub struct Lent<'a> {
-    package: Option<&'a Package>,
+    package: Option<&'a Package<'a>>,
 }
 
 impl<'a> Model for Lent<'a> {
@@ -43,6 +44,20 @@ const NO_DESCRIPTOR: Descriptor<'static> = Descriptor {
     bytes: &[],
 };
 
+/// A component that isn't there.
+const NO_COMPONENT: Component<'static> = Component {
+    classification: 0,
+    identifier: 0,
+    stamp: 0,
+    options: 0,
+    offset: 0,
+    text: fw_package::Text {
+        kind: 0,
+        bytes: &[],
+    },
+    image: &[],
+};
+
 /// A text that isn't there.
 const NO_TEXT: Text<'static> = Text {
     text_type: 0,
@@ -51,7 +66,7 @@ const NO_TEXT: Text<'static> = Text {
 
 impl<'a> Lent<'a> {
     /// This package.
-    pub fn some(package: &'a Package) -> Lent<'a>
+    pub fn some(package: &'a Package<'a>) -> Lent<'a>
         ensures { result ≡ «package».now }
     {
         Lent {
@@ -67,7 +82,7 @@ impl<'a> Lent<'a> {
     }
 
     /// The package of this number, counted from 1; none where there is no such package.
-    pub fn of(packages: &'a [Package], number: usize) -> Lent<'a>
+    pub fn of(packages: &'a [Package<'a>], number: usize) -> Lent<'a>
         ensures { result ≡ package_at packages.now number }
     {
         let Some(index) = number.checked_sub(1) else {
@@ -92,39 +107,13 @@ impl<'a> Lent<'a> {
         planned(package, chosen)
     }
 
-    /// The key of a component.
-    pub(crate) fn key(&self, component: usize) -> Key
-        ensures { result ≡ key_of (component_at self.now component) }
+    /// A component, found in one walk over the package's header.
+    pub(crate) fn component(&self, number: usize) -> Component<'a>
+        ensures { component_seen result ≡ component_at self.now number }
     {
         match self.package {
-            Some(package) if component < package.component_count() => Key {
-                classification: package.classification(component),
-                identifier: package.identifier(component),
-            },
-            _ => Key {
-                classification: 0,
-                identifier: 0,
-            },
-        }
-    }
-
-    /// A component's version, as it is sent: its stamp only where option bit 1 says that it is used.
-    pub(crate) fn version(&self, component: usize) -> Version<'a>
-        ensures { version_of result ≡ sent_version (component_at self.now component) }
-    {
-        match self.package {
-            Some(package) if component < package.component_count() => Version {
-                stamp: if package.options(component) / 2 % 2 == 1 {
-                    package.stamp(component)
-                } else {
-                    NO_STAMP
-                },
-                text: as_sent(package.text(component)),
-            },
-            _ => Version {
-                stamp: NO_STAMP,
-                text: NO_TEXT,
-            },
+            Some(package) if number < package.component_count() => package.component_at(number),
+            _ => NO_COMPONENT,
         }
     }
 
@@ -132,29 +121,14 @@ impl<'a> Lent<'a> {
     pub(crate) fn is_forced(&self, component: usize) -> bool
         ensures { result ≡ is_forced (component_at self.now component) }
     {
-        match self.package {
-            Some(package) if component < package.component_count() => {
-                package.options(component) % 2 == 1
-            }
-            _ => false,
-        }
+        forces(self.component(component))
     }
 
     /// The image of a component.
     pub(crate) fn image(&self, component: usize) -> &'a [u8]
         ensures { result.now ≡ (component_at self.now component).image }
     {
-        match self.package {
-            Some(package) if component < package.component_count() => package.image(component),
-            _ => &[],
-        }
-    }
-
-    /// The size of a component's image in bytes, as it is sent.
-    pub(crate) fn size(&self, component: usize) -> u32
-        ensures { result ≡ sent_size (component_at self.now component) }
-    {
-        u32::try_from(self.image(component).len()).unwrap_or(u32::MAX)
+        self.component(component).image
     }
 
     /// The set text of a record.
@@ -162,14 +136,16 @@ impl<'a> Lent<'a> {
         ensures { text_of result ≡ sent_text (record_at self.now number).set_text }
     {
         match self.package {
-            Some(package) if number < package.record_count() => as_sent(package.set_text(number)),
+            Some(package) if number < package.record_count() => {
+                as_sent(package.record_at(number).set_text)
+            }
             _ => NO_TEXT,
         }
     }
 }
 
 /// The number of the first record that is for the device with these descriptors.
-fn record_for(package: &Package, descriptors: &Descriptors<'_>) -> Option<usize>
+fn record_for(package: &Package<'_>, descriptors: &Descriptors<'_>) -> Option<usize>
     ensures number { result ≡ record_number «package».now (map told_descriptor descriptors.now) }
     ensures there { IfSome result (λ n. n < length «package».now.records) }
 {
@@ -178,7 +154,7 @@ fn record_for(package: &Package, descriptors: &Descriptors<'_>) -> Option<usize>
 }
 
 /// The components of a record, if there are such that can be sent.
-fn planned(package: &Package, chosen: usize) -> Result<Job, Cause>
+fn planned(package: &Package<'_>, chosen: usize) -> Result<Job, Cause>
     requires { chosen < length «package».now.records }
     ensures { result_map_both (λ j. record { chosen = j.chosen; plan = j.plan.items }) (λ e. e) result ≡ planned chosen (plan_of «package».now chosen) }
 {
@@ -210,6 +186,44 @@ fn known<'a>(descriptors: &Descriptors<'a>) -> [Descriptor<'a>; DESCRIPTOR_LIMIT
         count += 1;
     }
     known
+}
+
+/// The key of a component.
+pub(crate) fn key(component: Component<'_>) -> Key
+    ensures { result ≡ key_of (component_seen component.entry) }
+{
+    Key {
+        classification: component.classification,
+        identifier: component.identifier,
+    }
+}
+
+/// A component's version, as it is sent: its stamp only where option bit 1 says that it is used.
+pub(crate) fn version<'a>(component: Component<'a>) -> Version<'a>
+    ensures { version_of result ≡ sent_version (component_seen component.entry) }
+{
+    Version {
+        stamp: if component.options / 2 % 2 == 1 {
+            component.stamp
+        } else {
+            NO_STAMP
+        },
+        text: as_sent(component.text),
+    }
+}
+
+/// Whether a component's update is forced: option bit 0.
+pub(crate) fn forces(component: Component<'_>) -> bool
+    ensures { result ≡ is_forced (component_seen component.entry) }
+{
+    component.options % 2 == 1
+}
+
+/// The size of a component's image in bytes, as it is sent.
+pub(crate) fn size(component: Component<'_>) -> u32
+    ensures { result ≡ sent_size (component_seen component.entry) }
+{
+    u32::try_from(component.image.len()).unwrap_or(u32::MAX)
 }
 
 /// A text of a package, as it is sent.

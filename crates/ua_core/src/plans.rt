@@ -3,7 +3,7 @@
 ghost use Rattle.std.specs.Prelude.{◌≡◌, ◌≤◌, length, map};
 ghost use Rattle.ua_core.specs.Learn.{index_of, unlearnt, with_index};
 
-use crate::lent::Lent;
+use crate::lent::{Lent, key};
 use crate::planned::{Planned, PlannedList};
 use fwup_wire::{Key, Parameters};
 
@@ -31,7 +31,7 @@ pub fn indexed(plan: &[Planned], lent: &Lent<'_>, devices: &Parameters<'_>) -> P
     for planned in plan {
         learnt.push(Planned {
             component: planned.component,
-            index: index_of(devices, lent.key(planned.component)),
+            index: index_of(devices, key(lent.component(planned.component))),
         });
     }
     learnt

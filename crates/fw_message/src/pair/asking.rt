@@ -15,7 +15,7 @@ use ua_core::Lent;
 
 impl<'a, B: Bank> Pair<'a, B> {
     /// The agent asks what the session wishes. False where nothing is wished or the cell isn't empty.
-    pub fn ask_down(&mut self, packages: &'a [Package]) -> bool
+    pub fn ask_down(&mut self, packages: &'a [Package<'a>]) -> bool
         ensures step { step_of packages.now self.old.node.pair StepOf.AskDown ≡ (if result then Some (quietly self.new.node.pair) else None) }
         ensures same { result ≡ false → self.new ≡ self.old }
         ensures eid { self.new.node.eid ≡ self.old.node.eid }
@@ -26,7 +26,7 @@ impl<'a, B: Bank> Pair<'a, B> {
     }
 
     /// The device asks what it wishes.
-    pub fn ask_up(&mut self, packages: &'a [Package]) -> bool
+    pub fn ask_up(&mut self, packages: &'a [Package<'a>]) -> bool
         ensures step { step_of packages.now self.old.node.pair StepOf.AskUp ≡ (if result then Some (quietly self.new.node.pair) else None) }
         ensures same { result ≡ false → self.new ≡ self.old }
         ensures eid { self.new.node.eid ≡ self.old.node.eid }
@@ -37,7 +37,7 @@ impl<'a, B: Bank> Pair<'a, B> {
     }
 
     /// What nobody waits for in the cell of what the agent asks is gone.
-    pub fn drop_down(&mut self, packages: &'a [Package]) -> bool
+    pub fn drop_down(&mut self, packages: &'a [Package<'a>]) -> bool
         ensures step { step_of packages.now self.old.node.pair (StepOf.Drop ways.Down) ≡ (if result then Some (quietly self.new.node.pair) else None) }
         ensures same { result ≡ false → self.new ≡ self.old }
         ensures eid { self.new.node.eid ≡ self.old.node.eid }
@@ -47,7 +47,7 @@ impl<'a, B: Bank> Pair<'a, B> {
     }
 
     /// The same of what the device asks.
-    pub fn drop_up(&mut self, packages: &'a [Package]) -> bool
+    pub fn drop_up(&mut self, packages: &'a [Package<'a>]) -> bool
         ensures step { step_of packages.now self.old.node.pair (StepOf.Drop ways.Up) ≡ (if result then Some (quietly self.new.node.pair) else None) }
         ensures same { result ≡ false → self.new ≡ self.old }
         ensures eid { self.new.node.eid ≡ self.old.node.eid }
@@ -57,7 +57,7 @@ impl<'a, B: Bank> Pair<'a, B> {
     }
 
     /// The agent waits no longer, and the session is told that there was no answer.
-    pub fn give_up_down(&mut self, packages: &'a [Package]) -> bool
+    pub fn give_up_down(&mut self, packages: &'a [Package<'a>]) -> bool
         ensures step { step_of packages.now self.old.node.pair (StepOf.GiveUp ways.Down) ≡ (if result then Some (quietly self.new.node.pair) else None) }
         ensures same { result ≡ false → self.new ≡ self.old }
         ensures eid { self.new.node.eid ≡ self.old.node.eid }
@@ -71,7 +71,7 @@ impl<'a, B: Bank> Pair<'a, B> {
     }
 
     /// The device waits no longer.
-    pub fn give_up_up(&mut self, packages: &'a [Package]) -> bool
+    pub fn give_up_up(&mut self, packages: &'a [Package<'a>]) -> bool
         ensures step { step_of packages.now self.old.node.pair (StepOf.GiveUp ways.Up) ≡ (if result then Some (quietly self.new.node.pair) else None) }
         ensures same { result ≡ false → self.new ≡ self.old }
         ensures eid { self.new.node.eid ≡ self.old.node.eid }
@@ -82,7 +82,7 @@ impl<'a, B: Bank> Pair<'a, B> {
 
     /// What is no longer wished is no longer waited for.
     #[tactic(auto, unfolding(crate::specs::Pairs::unwished_closed))]
-    pub fn close_unwished(&mut self, packages: &'a [Package])
+    pub fn close_unwished(&mut self, packages: &'a [Package<'a>])
         ensures pair { self.new.node.pair ≡ unwished_closed packages.now self.old.node.pair }
         ensures eid { self.new.node.eid ≡ self.old.node.eid }
         ensures faults { self.new.faults ≡ self.old.faults }

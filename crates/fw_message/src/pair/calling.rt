@@ -17,7 +17,11 @@ impl<'a, B: Bank> Pair<'a, B> {
     ///
     /// # Errors
     /// `Refused` while an update is under way, or without such a package; else `Memory` where memory for the records is refused.
-    pub fn start(&mut self, packages: &'a [Package], number: usize) -> Result<(), MessageStepFault>
+    pub fn start(
+        &mut self,
+        packages: &'a [Package<'a>],
+        number: usize,
+    ) -> Result<(), MessageStepFault>
         ensures step { OnOk result (step_of packages.now self.old.node.pair (StepOf.Start number) ≡ Some (quietly self.new.node.pair)) }
         ensures refused { IfErr result (λ e. ((e ≡ MessageStepFault.Memory) × (is_some (step_of packages.now self.old.node.pair (StepOf.Start number)) ≡ true))
             ⊎ ((e ≡ MessageStepFault.Refused) × (step_of packages.now self.old.node.pair (StepOf.Start number) ≡ None))) }
@@ -36,7 +40,7 @@ impl<'a, B: Bank> Pair<'a, B> {
     }
 
     /// The operator cancels.
-    pub fn cancel(&mut self, packages: &'a [Package])
+    pub fn cancel(&mut self, packages: &'a [Package<'a>])
         ensures step { step_of packages.now self.old.node.pair StepOf.Cancel ≡ Some (quietly self.new.node.pair) }
         ensures eid { self.new.node.eid ≡ self.old.node.eid }
         ensures faults { self.new.faults ≡ self.old.faults }
@@ -45,7 +49,7 @@ impl<'a, B: Bank> Pair<'a, B> {
     }
 
     /// The operator activates. False where it isn't time for it.
-    pub fn activate(&mut self, packages: &'a [Package]) -> bool
+    pub fn activate(&mut self, packages: &'a [Package<'a>]) -> bool
         ensures step { step_of packages.now self.old.node.pair StepOf.Activate ≡ (if result then Some (quietly self.new.node.pair) else None) }
         ensures same { result ≡ false → self.new ≡ self.old }
         ensures eid { self.new.node.eid ≡ self.old.node.eid }
@@ -55,7 +59,7 @@ impl<'a, B: Bank> Pair<'a, B> {
     }
 
     /// The agent restarts.
-    pub fn restart_session(&mut self, packages: &'a [Package])
+    pub fn restart_session(&mut self, packages: &'a [Package<'a>])
         ensures step { step_of packages.now self.old.node.pair (StepOf.Restart sides.Agent) ≡ Some (quietly self.new.node.pair) }
         ensures eid { self.new.node.eid ≡ self.old.node.eid }
         ensures faults { self.new.faults ≡ self.old.faults }
@@ -66,7 +70,7 @@ impl<'a, B: Bank> Pair<'a, B> {
 
     /// The agent restarts, as a step of this pair.
     #[tactic(auto, unfolding(crate::specs::Pairs::pair_after))]
-    pub fn restart(&mut self, packages: &'a [Package])
+    pub fn restart(&mut self, packages: &'a [Package<'a>])
         ensures { self.new ≡ counted_restarted packages.now self.old }
     {
         self.restart_session(packages);
@@ -75,7 +79,7 @@ impl<'a, B: Bank> Pair<'a, B> {
 
     /// The device restarts.
     #[tactic(auto, using(crate::proofs::Components::restart_components))]
-    pub fn restart_device(&mut self, packages: &'a [Package])
+    pub fn restart_device(&mut self, packages: &'a [Package<'a>])
         ensures step { step_of packages.now self.old.node.pair (StepOf.Restart sides.Device) ≡ Some (quietly self.new.node.pair) }
         ensures eid { self.new.node.eid ≡ self.old.node.eid }
         ensures faults { self.new.faults ≡ self.old.faults }

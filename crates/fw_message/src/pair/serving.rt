@@ -24,7 +24,7 @@ impl<'a, B: Bank> Pair<'a, B> {
     /// The session takes what the device asked, and answers it. None where nothing waits to be taken; else what the
     /// session recorded.
     #[tactic(auto, unfolding(crate::specs::Pairs::up_taken), using(crate::proofs::Records::recorded_behind))]
-    pub fn take_up(&mut self, packages: &'a [Package]) -> Option<Option<Recorded>>
+    pub fn take_up(&mut self, packages: &'a [Package<'a>]) -> Option<Option<Recorded>>
         ensures step { step_of packages.now self.old.node.pair StepOf.TakeUp ≡ option_map (λ r. record { after = self.new.node.pair; noted = map EntryOf.Recording (option_to_list r) }) result }
         ensures same { result ≡ None → self.new ≡ self.old }
         ensures eid { self.new.node.eid ≡ self.old.node.eid }
@@ -46,7 +46,7 @@ impl<'a, B: Bank> Pair<'a, B> {
     /// The device takes what the agent asked, and answers it. None where nothing waits to be taken, or where the device
     /// would be told that it is quiet while its own cell isn't empty; else whether its bank worked.
     #[tactic(auto, unfolding(crate::specs::Pairs::down_taken), using(crate::proofs::Components::take_components))]
-    pub fn take_down(&mut self, packages: &'a [Package], quiet: bool) -> Option<bool>
+    pub fn take_down(&mut self, packages: &'a [Package<'a>], quiet: bool) -> Option<bool>
         ensures step { IfSome result (λ works. step_of packages.now self.old.node.pair (StepOf.TakeDown quiet works) ≡ Some (record {
           after = self.new.node.pair;
           noted = map EntryOf.Activated (activated_down self.old.node.pair quiet works);
@@ -124,7 +124,7 @@ impl<'a, B: Bank> Pair<'a, B> {
 
     /// A verdict on the image that the device has written. None where it doesn't count; else whether its bank worked.
     #[tactic(auto, using(crate::proofs::Components::judge_components, crate::proofs::Working::judges_alike))]
-    pub fn judge(&mut self, packages: &'a [Package], verdict: Verdict) -> Option<bool>
+    pub fn judge(&mut self, packages: &'a [Package<'a>], verdict: Verdict) -> Option<bool>
         ensures step { IfSome result (λ works. step_of packages.now self.old.node.pair (StepOf.Judge verdict works) ≡ Some (record {
           after = self.new.node.pair;
           noted = map EntryOf.Applied (applied_by self.old.node.pair.device verdict works);
@@ -145,7 +145,7 @@ impl<'a, B: Bank> Pair<'a, B> {
     #[tactic(auto, using(crate::proofs::Sealing::applies, crate::proofs::Working::applies_nothing))]
     pub fn judge_noting(
         &mut self,
-        packages: &'a [Package],
+        packages: &'a [Package<'a>],
         verdict: Verdict,
         room: Vec<u8>,
     ) -> Option<(bool, Option<Image>)>
@@ -197,7 +197,7 @@ impl<'a, B: Bank> Pair<'a, B> {
     }
 
     /// The session learns the answer that it waits for. False where there is none.
-    pub fn learn_down(&mut self, packages: &'a [Package]) -> bool
+    pub fn learn_down(&mut self, packages: &'a [Package<'a>]) -> bool
         ensures step { step_of packages.now self.old.node.pair StepOf.LearnDown ≡ (if result then Some (quietly self.new.node.pair) else None) }
         ensures same { result ≡ false → self.new ≡ self.old }
         ensures eid { self.new.node.eid ≡ self.old.node.eid }
@@ -220,7 +220,7 @@ impl<'a, B: Bank> Pair<'a, B> {
 
     /// The device learns the answer that it waits for. None where there is none; else whether its bank worked.
     #[tactic(auto, using(crate::proofs::Components::learn_components, crate::proofs::Working::learns_failed))]
-    pub fn learn_up(&mut self, packages: &'a [Package]) -> Option<bool>
+    pub fn learn_up(&mut self, packages: &'a [Package<'a>]) -> Option<bool>
         ensures step { IfSome result (λ works. step_of packages.now self.old.node.pair (StepOf.LearnUp works) ≡ Some (quietly self.new.node.pair)) }
         ensures none { IfNone result ((works : Bool) → step_of packages.now self.old.node.pair (StepOf.LearnUp works) ≡ None) }
         ensures same { result ≡ None → self.new ≡ self.old }

@@ -13,7 +13,7 @@ use ua_core::{IDLE_LIMIT, Session};
 
 impl<'a, B: Bank> Pair<'a, B> {
     /// The session has waited too long. False where it doesn't wait.
-    pub fn time_out_session(&mut self, packages: &'a [Package]) -> bool
+    pub fn time_out_session(&mut self, packages: &'a [Package<'a>]) -> bool
         ensures step { step_of packages.now self.old.node.pair (StepOf.TimeOut sides.Agent) ≡ (if result then Some (quietly self.new.node.pair) else None) }
         ensures same { result ≡ false → self.new ≡ self.old }
         ensures eid { self.new.node.eid ≡ self.old.node.eid }
@@ -28,7 +28,7 @@ impl<'a, B: Bank> Pair<'a, B> {
 
     /// The device has waited too long. False where it is idle.
     #[tactic(auto, using(crate::proofs::Components::timeout_components))]
-    pub fn time_out_device(&mut self, packages: &'a [Package]) -> bool
+    pub fn time_out_device(&mut self, packages: &'a [Package<'a>]) -> bool
         ensures step { step_of packages.now self.old.node.pair (StepOf.TimeOut sides.Device) ≡ (if result then Some (quietly self.new.node.pair) else None) }
         ensures same { result ≡ false → self.new ≡ self.old }
         ensures eid { self.new.node.eid ≡ self.old.node.eid }

@@ -1,6 +1,6 @@
 //! How updates end before their time: cancels, time-outs and bad verdicts.
 
-use crate::tests::packages::package;
+use crate::tests::packages::file;
 use crate::tests::seeing::{Note, cell_of, has_worked_images, images_of, notes, states};
 use crate::tests::setup::{KEY, ONE, world};
 use crate::tests::steps::{
@@ -10,6 +10,7 @@ use crate::tests::steps::{
 };
 use crate::{MessageStep, Way};
 use fd_core::{State, Verdict};
+use fw_package::Package;
 use fwup_wire::code::command::APPLY_COMPLETE;
 use fwup_wire::code::completion::COMMAND_NOT_EXPECTED;
 use std::test::Fail;
@@ -26,7 +27,8 @@ const TIMED_OUT: SessionState = SessionState::Failed(Cause::TimeOut);
 
 #[test]
 fn a_stale_completion_records_nothing(rt: HostRuntime) -> Result<(), Fail> {
-    let packages = [package(rt.alloc(), ONE)?];
+    let one = file(rt.alloc(), ONE)?;
+    let packages = [Package::read(&one)?];
     // the device learns the refusal, or is cancelled before
     let rows: [&[MessageStep]; 2] = [
         &[LEARN_UP, ASK_DOWN, TAKE_BUSY, LEARN_DOWN],
@@ -174,7 +176,8 @@ const OF_THE_SESSION: [Row<'static>; 8] = [
 
 #[test]
 fn behind_a_time_out_the_next_update_ends_well(rt: HostRuntime) -> Result<(), Fail> {
-    let packages = [package(rt.alloc(), ONE)?];
+    let one = file(rt.alloc(), ONE)?;
+    let packages = [Package::read(&one)?];
     for rows in [OF_THE_DEVICE.as_slice(), &OF_THE_SESSION] {
         for (situation, count, then, device, session) in rows {
             let mut world = world(rt.alloc(), &packages, &[DEVICE])?;
@@ -204,7 +207,8 @@ fn behind_a_time_out_the_next_update_ends_well(rt: HostRuntime) -> Result<(), Fa
 
 #[test]
 fn bad_verdicts_fail_the_update(rt: HostRuntime) -> Result<(), Fail> {
-    let packages = [package(rt.alloc(), ONE)?];
+    let one = file(rt.alloc(), ONE)?;
+    let packages = [Package::read(&one)?];
     let rows = [
         (VERIFY, Verdict::VerifyFail, State::Verify, Cause::Verify),
         (APPLY, Verdict::ApplyFail, State::Apply, Cause::Apply),

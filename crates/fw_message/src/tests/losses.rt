@@ -1,6 +1,6 @@
 //! What is lost: commands and answers that nobody waits for any longer, and memory.
 
-use crate::tests::packages::package;
+use crate::tests::packages::file;
 use crate::tests::seeing::{
     Note, cell_of, has_worked_images, images_of, is_worked_image, notes, states,
 };
@@ -11,6 +11,7 @@ use crate::tests::steps::{
 };
 use crate::{MessageStep, MessageStepFault, MessageWorld, Way};
 use fd_core::{Bank, State};
+use fw_package::Package;
 use std::test::Fail;
 use ua_core::{Cause, SessionState};
 
@@ -21,7 +22,8 @@ const REQUESTS: [usize; 5] = [19, 22, 25, 29, 33];
 
 #[test]
 fn a_device_asks_again_for_what_is_lost(rt: HostRuntime) -> Result<(), Fail> {
-    let packages = [package(rt.alloc(), ONE)?];
+    let one = file(rt.alloc(), ONE)?;
+    let packages = [Package::read(&one)?];
     let worked = worked_update(rt.alloc(), DEVICE)?;
     for count in REQUESTS {
         // the request is lost, or its answer is
@@ -49,7 +51,8 @@ fn a_device_asks_again_for_what_is_lost(rt: HostRuntime) -> Result<(), Fail> {
 
 #[test]
 fn a_session_fails_when_its_asker_gives_up(rt: HostRuntime) -> Result<(), Fail> {
-    let packages = [package(rt.alloc(), ONE)?];
+    let one = file(rt.alloc(), ONE)?;
+    let packages = [Package::read(&one)?];
     // the device never takes the command, or takes it later
     let rows: [&[MessageStep]; 2] = [&[DROP_DOWN], &[TAKE_DOWN, DROP_DOWN]];
     for then in rows {
@@ -69,7 +72,9 @@ fn a_session_fails_when_its_asker_gives_up(rt: HostRuntime) -> Result<(), Fail> 
 
 #[test]
 fn a_newer_package_follows_and_the_same_one_does_not(rt: HostRuntime) -> Result<(), Fail> {
-    let packages = [package(rt.alloc(), ONE)?, package(rt.alloc(), NEWER)?];
+    let one = file(rt.alloc(), ONE)?;
+    let other = file(rt.alloc(), NEWER)?;
+    let packages = [Package::read(&one)?, Package::read(&other)?];
     let nothing = SessionState::Failed(Cause::NothingToUpdate);
     let rows = [
         (1, State::Ready, nothing, 3),
@@ -128,11 +133,11 @@ fn failures(world: &Small<'_>) -> u64 {
 /// Holds whichever single allocation is refused.
 #[test]
 fn refused_memory_leaves_the_world(rt: HostRuntime) -> Result<(), Fail> {
-    let package = match package(rt.alloc(), ONE) {
-        Ok(package) => package,
-        Err(_) => package(rt.alloc(), ONE)?,
+    let bytes = match file(rt.alloc(), ONE) {
+        Ok(bytes) => bytes,
+        Err(_) => file(rt.alloc(), ONE)?,
     };
-    let packages = [package];
+    let packages = [Package::read(&bytes)?];
     let steps = match worked_update(rt.alloc(), DEVICE) {
         Ok(steps) => steps,
         Err(_) => worked_update(rt.alloc(), DEVICE)?,

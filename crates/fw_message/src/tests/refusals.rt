@@ -1,6 +1,6 @@
 //! Steps that aren't taken.
 
-use crate::tests::packages::package;
+use crate::tests::packages::file;
 use crate::tests::seeing::seen;
 use crate::tests::setup::{AGENT, NOBODY, ONE, world};
 use crate::tests::steps::{
@@ -155,7 +155,7 @@ const CALLS: [Row<'static>; 15] = [
 /// What a replay answers that goes on behind a step, and whether the world is then the one before that step.
 fn refused(
     alloc: Global,
-    packages: &[Package],
+    packages: &[Package<'_>],
     row: Row<'_>,
 ) -> Result<(usize, Result<(), (usize, MessageStepFault)>, bool), Fail> {
     let (_, count, then, step) = row;
@@ -172,7 +172,8 @@ fn refused(
 
 #[test]
 fn steps_out_of_time_leave_the_world(rt: HostRuntime) -> Result<(), Fail> {
-    let packages = [package(rt.alloc(), ONE)?];
+    let one = file(rt.alloc(), ONE)?;
+    let packages = [Package::read(&one)?];
     for rows in [ASKS.as_slice(), &TAKES, &LEARNS, &ENDS] {
         for row in rows {
             let (number, answer, unchanged) = refused(rt.alloc(), &packages, *row)?;
@@ -186,7 +187,8 @@ fn steps_out_of_time_leave_the_world(rt: HostRuntime) -> Result<(), Fail> {
 
 #[test]
 fn refused_calls_leave_the_world(rt: HostRuntime) -> Result<(), Fail> {
-    let packages = [package(rt.alloc(), ONE)?];
+    let one = file(rt.alloc(), ONE)?;
+    let packages = [Package::read(&one)?];
     for row in &CALLS {
         let (number, answer, unchanged) = refused(rt.alloc(), &packages, *row)?;
         let fault = (number, MessageStepFault::Refused);
@@ -198,7 +200,8 @@ fn refused_calls_leave_the_world(rt: HostRuntime) -> Result<(), Fail> {
 
 #[test]
 fn verdicts_that_nobody_awaits_leave_the_world(rt: HostRuntime) -> Result<(), Fail> {
-    let packages = [package(rt.alloc(), ONE)?];
+    let one = file(rt.alloc(), ONE)?;
+    let packages = [Package::read(&one)?];
     // of the four verdicts, those that are awaited behind so many of the worked steps
     let rows: [(usize, &[Verdict]); 8] = [
         (0, &[]),
@@ -256,7 +259,8 @@ fn of_device(eid: u8) -> [MessageStep; 18] {
 
 #[test]
 fn a_step_of_no_device_is_known_before_all_else(rt: HostRuntime) -> Result<(), Fail> {
-    let packages = [package(rt.alloc(), ONE)?];
+    let one = file(rt.alloc(), ONE)?;
+    let packages = [Package::read(&one)?];
     for count in [0, ASKED, DATA_ASKED] {
         for eid in [NOBODY, AGENT] {
             for step in of_device(eid) {

@@ -1,6 +1,6 @@
 //! Restarts in the middle of an update.
 
-use crate::tests::packages::package;
+use crate::tests::packages::file;
 use crate::tests::seeing::{
     Note, cell_of, has_worked_images, images_of, is_worked_image, notes, states,
 };
@@ -11,6 +11,7 @@ use crate::tests::steps::{
 };
 use crate::{MessageStep, Way};
 use fd_core::State;
+use fw_package::Package;
 use fwup_wire::code::command::{CANCEL_UPDATE, QUERY_DEVICE_IDENTIFIERS, REQUEST_FIRMWARE_DATA};
 use std::test::Fail;
 use ua_core::{Recorded, Session, SessionState};
@@ -116,7 +117,8 @@ const FIRST: Recorded = Recorded {
 
 #[test]
 fn a_restart_leaves_records_and_what_the_other_asked(rt: HostRuntime) -> Result<(), Fail> {
-    let packages = [package(rt.alloc(), TWO)?];
+    let one = file(rt.alloc(), TWO)?;
+    let packages = [Package::read(&one)?];
     for (restarted, then, after, down, up, is_applied) in ROWS {
         let mut world = world_of_two(rt.alloc(), &packages, DEVICE)?;
         let steps = halfway_of_two(rt.alloc())?;
@@ -141,7 +143,8 @@ fn a_restart_leaves_records_and_what_the_other_asked(rt: HostRuntime) -> Result<
 
 #[test]
 fn a_new_update_behind_a_restart_ends_well(rt: HostRuntime) -> Result<(), Fail> {
-    let packages = [package(rt.alloc(), TWO)?];
+    let one = file(rt.alloc(), TWO)?;
+    let packages = [Package::read(&one)?];
     for (restarted, then, ..) in ROWS {
         let mut world = world_of_two(rt.alloc(), &packages, DEVICE)?;
         let steps = halfway_of_two(rt.alloc())?;
@@ -169,7 +172,8 @@ fn a_new_update_behind_a_restart_ends_well(rt: HostRuntime) -> Result<(), Fail> 
 
 #[test]
 fn the_agent_restarts_each_session_and_a_device_itself_alone(rt: HostRuntime) -> Result<(), Fail> {
-    let packages = [package(rt.alloc(), ONE)?];
+    let one = file(rt.alloc(), ONE)?;
+    let packages = [Package::read(&one)?];
     let open = Some((QUERY_DEVICE_IDENTIFIERS, None, true));
     let closed = Some((QUERY_DEVICE_IDENTIFIERS, None, false));
     // whether the sessions of both devices are restarted
@@ -201,7 +205,8 @@ fn the_agent_restarts_each_session_and_a_device_itself_alone(rt: HostRuntime) ->
 
 #[test]
 fn a_restarted_device_forgets_its_update_and_no_other_does(rt: HostRuntime) -> Result<(), Fail> {
-    let packages = [package(rt.alloc(), ONE)?];
+    let one = file(rt.alloc(), ONE)?;
+    let packages = [Package::read(&one)?];
     for (node, other) in [(DEVICE, OTHER), (OTHER, DEVICE)] {
         let mut world = world(rt.alloc(), &packages, &[DEVICE, OTHER])?;
         for eid in [DEVICE, OTHER] {

@@ -137,7 +137,7 @@ fn add(world: &mut Small<'_>, eid: u8, device: Device<MemBank>) -> Result<(), Me
 /// The agent, and worked devices of these identifiers.
 pub fn world<'a>(
     alloc: Global,
-    packages: &'a [Package],
+    packages: &'a [Package<'a>],
     devices: &[u8],
 ) -> Result<Small<'a>, MessageStepFault> {
     let mut world = MessageWorld::new(alloc, AGENT, packages);
@@ -150,7 +150,7 @@ pub fn world<'a>(
 /// The agent, and one device with two components.
 pub fn world_of_two<'a>(
     alloc: Global,
-    packages: &'a [Package],
+    packages: &'a [Package<'a>],
     eid: u8,
 ) -> Result<Small<'a>, MessageStepFault> {
     let mut world = MessageWorld::new(alloc, AGENT, packages);

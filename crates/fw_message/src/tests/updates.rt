@@ -1,20 +1,22 @@
 //! Whole updates.
 
 use crate::Way;
-use crate::tests::packages::package;
+use crate::tests::packages::file;
 use crate::tests::seeing::{
     Note, has_worked_images, images_of, is_worked_image, notes, seen, states,
 };
 use crate::tests::setup::{KEY, ONE, OTHER, world};
 use crate::tests::steps::{DATA_ANSWERED, DEVICE, replay, worked_then, worked_update};
 use fd_core::State;
+use fw_package::Package;
 use fwup_wire::{Answer, Command};
 use std::test::Fail;
 use ua_core::{Recorded, Session, SessionState};
 
 #[test]
 fn the_worked_update_takes_its_forty_steps(rt: HostRuntime) -> Result<(), Fail> {
-    let packages = [package(rt.alloc(), ONE)?];
+    let one = file(rt.alloc(), ONE)?;
+    let packages = [Package::read(&one)?];
     let mut world = world(rt.alloc(), &packages, &[DEVICE])?;
     let steps = worked_update(rt.alloc(), DEVICE)?;
     assert_eq!(rt; steps.len(), 40);
@@ -51,7 +53,8 @@ fn the_worked_update_takes_its_forty_steps(rt: HostRuntime) -> Result<(), Fail> 
 
 #[test]
 fn the_image_goes_up_in_two_pieces(rt: HostRuntime) -> Result<(), Fail> {
-    let packages = [package(rt.alloc(), ONE)?];
+    let one = file(rt.alloc(), ONE)?;
+    let packages = [Package::read(&one)?];
     let mut first = [0u8; 240];
     for (byte, number) in first.iter_mut().zip(0u8..240) {
         *byte = number;
@@ -80,7 +83,8 @@ fn the_image_goes_up_in_two_pieces(rt: HostRuntime) -> Result<(), Fail> {
 
 #[test]
 fn devices_side_by_side_do_as_each_alone(rt: HostRuntime) -> Result<(), Fail> {
-    let packages = [package(rt.alloc(), ONE)?];
+    let one = file(rt.alloc(), ONE)?;
+    let packages = [Package::read(&one)?];
     let mut both = world(rt.alloc(), &packages, &[DEVICE, OTHER])?;
     let steps = worked_update(rt.alloc(), DEVICE)?;
     let others = worked_update(rt.alloc(), OTHER)?;

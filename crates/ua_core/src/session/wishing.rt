@@ -7,7 +7,7 @@ ghost use Rattle.fwup_wire.specs.Values.{CommandOf};
 ghost use Rattle.ua_core.specs.Lent.{key_of, sent_version};
 ghost use Rattle.ua_core.specs.Wish.{agent_wish, flag_at, offer_wish};
 
-use crate::lent::Lent;
+use crate::lent::{Lent, forces, key, size, version};
 use crate::piece::MAX_PIECE;
 use crate::planned::Planned;
 use crate::session::Session;
@@ -64,11 +64,12 @@ fn flag_at(left: usize, count: usize) -> TransferFlag
 fn entry<'a>(lent: &Lent<'a>, planned: Planned, flag: TransferFlag) -> TableEntry<'a>
     ensures { entry_of result ≡ record { flag = flag; key = key_of (component_at lent.now planned.component); index = planned.index; version = sent_version (component_at lent.now planned.component) } }
 {
+    let component = lent.component(planned.component);
     TableEntry {
         flag,
-        key: lent.key(planned.component),
+        key: key(component),
         index: planned.index,
-        version: lent.version(planned.component),
+        version: version(component),
     }
 }
 
@@ -76,11 +77,12 @@ fn entry<'a>(lent: &Lent<'a>, planned: Planned, flag: TransferFlag) -> TableEntr
 fn offer<'a>(lent: &Lent<'a>, planned: Planned) -> ComponentOffer<'a>
     ensures { CommandOf.UpdateComponent (offer_of result) ≡ offer_wish lent.now planned }
 {
+    let component = lent.component(planned.component);
     ComponentOffer {
-        key: lent.key(planned.component),
+        key: key(component),
         index: planned.index,
-        version: lent.version(planned.component),
-        size: lent.size(planned.component),
-        force: lent.is_forced(planned.component),
+        version: version(component),
+        size: size(component),
+        force: forces(component),
     }
 }

@@ -1,8 +1,9 @@
 //! The user's calls, time and restarts.
 
-use crate::tests::packages::package;
+use crate::tests::packages::file;
 use crate::tests::situations::{ONE, go_on, session_after};
 use crate::{Cause, Happening, Lent, Mark, NotReady, Session, SessionState, StartFault, happened};
+use fw_package::Package;
 use std::alloc::Global;
 use std::test::Fail;
 
@@ -33,7 +34,8 @@ fn a_new_session_is_idle(rt: HostRuntime) {
 
 #[test]
 fn each_call_in_each_state(rt: HostRuntime) -> Result<(), Fail> {
-    let package = package(rt.alloc(), ONE)?;
+    let bytes = file(rt.alloc(), ONE)?;
+    let package = Package::read(&bytes)?;
     let lent = Lent::some(&package);
     for (turns, state) in PATH.iter().enumerate() {
         let state = *state;
@@ -75,7 +77,8 @@ fn each_call_in_each_state(rt: HostRuntime) -> Result<(), Fail> {
 
 #[test]
 fn time_ends_what_is_under_way_in_the_240th_tick(rt: HostRuntime) -> Result<(), Fail> {
-    let package = package(rt.alloc(), ONE)?;
+    let bytes = file(rt.alloc(), ONE)?;
+    let package = Package::read(&bytes)?;
     let lent = Lent::some(&package);
     for (turns, state) in PATH.iter().enumerate() {
         let mut session = session_after(rt.alloc(), &lent, turns);
@@ -102,7 +105,8 @@ fn time_ends_what_is_under_way_in_the_240th_tick(rt: HostRuntime) -> Result<(), 
 
 #[test]
 fn served_data_count_as_progress(rt: HostRuntime) -> Result<(), Fail> {
-    let package = package(rt.alloc(), ONE)?;
+    let bytes = file(rt.alloc(), ONE)?;
+    let package = Package::read(&bytes)?;
     let lent = Lent::some(&package);
     for (length, after) in [
         (32, SessionState::Download),
@@ -122,7 +126,8 @@ fn served_data_count_as_progress(rt: HostRuntime) -> Result<(), Fail> {
 
 #[test]
 fn a_restart_keeps_the_records(rt: HostRuntime) -> Result<(), Fail> {
-    let package = package(rt.alloc(), ONE)?;
+    let bytes = file(rt.alloc(), ONE)?;
+    let package = Package::read(&bytes)?;
     let lent = Lent::some(&package);
     let mut session = session_after(rt.alloc(), &lent, 9);
     assert_eq!(rt; session.records().len(), 1);
@@ -257,10 +262,11 @@ fn causes_are_numbered_from_1(rt: HostRuntime) {
 /// that stand.
 #[test]
 fn refused_memory_starts_nothing(rt: HostRuntime) -> Result<(), Fail> {
-    let worked = match package(rt.alloc(), ONE) {
-        Ok(worked) => worked,
-        Err(_) => package(rt.alloc(), ONE)?,
+    let bytes = match file(rt.alloc(), ONE) {
+        Ok(bytes) => bytes,
+        Err(_) => file(rt.alloc(), ONE)?,
     };
+    let worked = Package::read(&bytes)?;
     let lent = Lent::some(&worked);
     let mut session = Session::new(rt.alloc());
     for number in 1..4usize {

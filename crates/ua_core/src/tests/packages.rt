@@ -1,7 +1,6 @@
 //! Packages that tests put together.
 
-use fw_package::{Package, PackageFault};
-use std::alloc::Global;
+use std::alloc::{AllocError, Global};
 
 /// A component of a package: key, stamp, options, version text and the size of its image, whose byte i is i mod 256.
 #[derive(Clone, Copy)]
@@ -54,7 +53,7 @@ fn header_size(draft: Draft<'_>) -> u32 {
 }
 
 /// The file of a draft.
-pub fn file(alloc: Global, draft: Draft<'_>) -> Result<Vec<u8>, PackageFault> {
+pub fn file(alloc: Global, draft: Draft<'_>) -> Result<Vec<u8>, AllocError> {
     let mut out = Vec::new(alloc);
     let header = header_size(draft);
     out.extend_from_slice(&OPENING)?;
@@ -88,7 +87,7 @@ pub fn file(alloc: Global, draft: Draft<'_>) -> Result<Vec<u8>, PackageFault> {
     Ok(out)
 }
 
-fn put_component(out: &mut Vec<u8>, item: Item<'_>, offset: u32) -> Result<(), PackageFault> {
+fn put_component(out: &mut Vec<u8>, item: Item<'_>, offset: u32) -> Result<(), AllocError> {
     out.extend_from_slice(&item.key.0.to_le_bytes())?;
     out.extend_from_slice(&item.key.1.to_le_bytes())?;
     out.extend_from_slice(&item.stamp.to_le_bytes())?;
@@ -99,11 +98,6 @@ fn put_component(out: &mut Vec<u8>, item: Item<'_>, offset: u32) -> Result<(), P
     out.extend_from_slice(&[1, u8::try_from(item.text.len()).unwrap_or(0)])?;
     out.extend_from_slice(item.text)?;
     Ok(())
-}
-
-/// The package of a draft.
-pub fn package(alloc: Global, draft: Draft<'_>) -> Result<Package, PackageFault> {
-    Package::read(alloc, &file(alloc, draft)?)
 }
 
 /// The checksum by single bits.

@@ -1,8 +1,9 @@
 //! The device's commands in every state, and the data that it is served.
 
-use crate::tests::packages::{Draft, Item, package};
+use crate::tests::packages::{Draft, Item, file};
 use crate::tests::situations::{ITEM, ONE, TWO, session_after, session_in};
 use crate::{Cause, Lent, Session, SessionState};
+use fw_package::Package;
 use fwup_wire::Command;
 use std::alloc::Global;
 use std::test::Fail;
@@ -41,7 +42,8 @@ fn led(alloc: Global, lent: &Lent<'_>, state: SessionState) -> Session {
 
 #[test]
 fn answers_each_command_in_each_state(rt: HostRuntime) -> Result<(), Fail> {
-    let package = package(rt.alloc(), ONE)?;
+    let bytes = file(rt.alloc(), ONE)?;
+    let package = Package::read(&bytes)?;
     let lent = Lent::some(&package);
     let rows: [(SessionState, [u8; 7]); 15] = [
         (SessionState::Idle, [0x88; 7]),
@@ -119,7 +121,8 @@ fn led_on(state: SessionState, command: &Command<'_>) -> SessionState {
 
 #[test]
 fn other_commands_are_unsupported(rt: HostRuntime) -> Result<(), Fail> {
-    let package = package(rt.alloc(), ONE)?;
+    let bytes = file(rt.alloc(), ONE)?;
+    let package = Package::read(&bytes)?;
     let lent = Lent::some(&package);
     for command in [
         Command::QueryDeviceIdentifiers,
@@ -135,7 +138,8 @@ fn other_commands_are_unsupported(rt: HostRuntime) -> Result<(), Fail> {
 
 #[test]
 fn takes_a_repeated_apply_complete_after_a_record_alone(rt: HostRuntime) -> Result<(), Fail> {
-    let package = package(rt.alloc(), TWO)?;
+    let bytes = file(rt.alloc(), TWO)?;
+    let package = Package::read(&bytes)?;
     let lent = Lent::some(&package);
     let applied = Command::ApplyComplete {
         result: 0,
@@ -192,7 +196,8 @@ fn serves_the_image_and_zeros_past_its_end(rt: HostRuntime) -> Result<(), Fail> 
             set_text: b"A",
             items: &items,
         };
-        let package = package(rt.alloc(), draft)?;
+        let bytes = file(rt.alloc(), draft)?;
+        let package = Package::read(&bytes)?;
         let lent = Lent::some(&package);
         let mut session = session_after(rt.alloc(), &lent, 6);
         assert_eq!(rt; session.state(), SessionState::Download);

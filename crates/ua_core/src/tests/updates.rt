@@ -1,10 +1,11 @@
 //! Whole updates, what is wished on the way, and how updates fail.
 
-use crate::tests::packages::{Draft, Item, package};
+use crate::tests::packages::{Draft, Item, file};
 use crate::tests::situations::{
     ITEM, ONE, TWO, go_on, learn, learn_descriptors, learn_offer, learn_response, session_after,
 };
 use crate::{Cause, Lent, Recorded, Session, SessionState};
+use fw_package::Package;
 use fwup_wire::{Answer, Command, Malformed, TransferFlag, write};
 use std::alloc::Global;
 use std::test::Fail;
@@ -56,7 +57,8 @@ fn a_whole_update_records_every_component(rt: HostRuntime) -> Result<(), Fail> {
             set_text: b"A",
             items: NINE.get(..count).unwrap_or(&[]),
         };
-        let package = package(rt.alloc(), draft)?;
+        let bytes = file(rt.alloc(), draft)?;
+        let package = Package::read(&bytes)?;
         let lent = Lent::some(&package);
         let mut session = Session::new(rt.alloc());
         assert!(rt; session.start(3).is_ok());
@@ -80,7 +82,8 @@ fn a_whole_update_records_every_component(rt: HostRuntime) -> Result<(), Fail> {
 
 #[test]
 fn only_what_is_to_be_done_is_updated(rt: HostRuntime) -> Result<(), Fail> {
-    let package = package(rt.alloc(), TWO)?;
+    let bytes = file(rt.alloc(), TWO)?;
+    let package = Package::read(&bytes)?;
     let lent = Lent::some(&package);
     // the response codes for both components, and the components that are then offered
     let rows: [(u8, u8, &[usize]); 7] = [
@@ -117,7 +120,8 @@ fn only_what_is_to_be_done_is_updated(rt: HostRuntime) -> Result<(), Fail> {
 
 #[test]
 fn wishes_each_command_with_its_fields(rt: HostRuntime) -> Result<(), Fail> {
-    let package = package(rt.alloc(), TWO)?;
+    let bytes = file(rt.alloc(), TWO)?;
+    let package = Package::read(&bytes)?;
     let lent = Lent::some(&package);
     let rows: [(usize, &[u8]); 11] = [
         (0, &[0x01]),
@@ -179,7 +183,8 @@ fn the_table_has_a_first_a_middle_and_a_last_entry(rt: HostRuntime) -> Result<()
             set_text: b"",
             items: NINE.get(..count).unwrap_or(&[]),
         };
-        let package = package(rt.alloc(), draft)?;
+        let bytes = file(rt.alloc(), draft)?;
+        let package = Package::read(&bytes)?;
         let lent = Lent::some(&package);
         let session = session_after(rt.alloc(), &lent, turns);
         let wished = session.wish(&lent);
@@ -197,7 +202,8 @@ const WISHING: [usize; 7] = [0, 1, 2, 3, 4, 5, 10];
 
 #[test]
 fn asks_again_where_the_device_is_not_ready(rt: HostRuntime) -> Result<(), Fail> {
-    let package = package(rt.alloc(), ONE)?;
+    let bytes = file(rt.alloc(), ONE)?;
+    let package = Package::read(&bytes)?;
     let lent = Lent::some(&package);
     for turns in WISHING {
         for code in [1, 4, 0x80, 0x81, 0x84] {
@@ -219,7 +225,8 @@ fn asks_again_where_the_device_is_not_ready(rt: HostRuntime) -> Result<(), Fail>
 
 #[test]
 fn malformed_answers_fail_the_update(rt: HostRuntime) -> Result<(), Fail> {
-    let package = package(rt.alloc(), ONE)?;
+    let bytes = file(rt.alloc(), ONE)?;
+    let package = Package::read(&bytes)?;
     let lent = Lent::some(&package);
     for turns in 0..12 {
         let mut session = session_after(rt.alloc(), &lent, turns);
@@ -240,7 +247,8 @@ fn malformed_answers_fail_the_update(rt: HostRuntime) -> Result<(), Fail> {
 
 #[test]
 fn a_refused_component_fails_the_update(rt: HostRuntime) -> Result<(), Fail> {
-    let package = package(rt.alloc(), ONE)?;
+    let bytes = file(rt.alloc(), ONE)?;
+    let package = Package::read(&bytes)?;
     let lent = Lent::some(&package);
     let mut session = session_after(rt.alloc(), &lent, 5);
     learn_offer(&mut session, &lent, 1);
@@ -317,7 +325,8 @@ fn the_package_must_name_something_for_the_device(rt: HostRuntime) -> Result<(),
         ),
     ];
     for (situation, set_text, items, bytes, after) in rows {
-        let package = package(rt.alloc(), Draft { set_text, items })?;
+        let whole = file(rt.alloc(), Draft { set_text, items })?;
+        let package = Package::read(&whole)?;
         let lent = Lent::some(&package);
         let mut session = session_after(rt.alloc(), &lent, 0);
         learn_descriptors(&mut session, &lent, &bytes);

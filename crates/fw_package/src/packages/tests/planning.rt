@@ -6,7 +6,8 @@ use std::test::Fail;
 
 #[test]
 fn chooses_the_first_record_that_matches(rt: HostRuntime) -> Result<(), Fail> {
-    let package = Package::read(rt.alloc(), worked().as_slice())?;
+    let file = worked();
+    let package = Package::read(file.as_slice())?;
     let first = Descriptor {
         kind: 0,
         bytes: &[0x34, 0x12],
@@ -44,7 +45,8 @@ fn chooses_no_record_by_a_part_of_its_descriptors(rt: HostRuntime) -> Result<(),
         components: &[],
         rest: &[],
     };
-    let package = Package::read(rt.alloc(), file(draft).as_slice())?;
+    let file = file(draft);
+    let package = Package::read(file.as_slice())?;
     let seven = Descriptor {
         kind: 0,
         bytes: &[7],
@@ -61,7 +63,8 @@ fn chooses_no_record_by_a_part_of_its_descriptors(rt: HostRuntime) -> Result<(),
 
 #[test]
 fn plans_the_components_of_a_record(rt: HostRuntime) -> Result<(), Fail> {
-    let package = Package::read(rt.alloc(), worked().as_slice())?;
+    let file = worked();
+    let package = Package::read(file.as_slice())?;
     assert!(rt; package.record_count() == 2);
     let both = package.plan(0)?;
     assert_eq!(rt; both.as_slice(), [0, 1].as_slice());
@@ -72,7 +75,7 @@ fn plans_the_components_of_a_record(rt: HostRuntime) -> Result<(), Fail> {
 }
 
 /// The name of what planning the first record gives.
-fn plan_answer(package: &Package) -> Option<PlanFault> {
+fn plan_answer(package: &Package<'_>) -> Option<PlanFault> {
     if package.record_count() == 0 {
         return None;
     }
@@ -167,7 +170,8 @@ fn names_the_first_fault_of_a_plan(rt: HostRuntime) -> Result<(), Fail> {
             components: &[first.as_slice(), second.as_slice()],
             rest: &[],
         };
-        let package = Package::read(rt.alloc(), file(draft).as_slice())?;
+        let file = file(draft);
+        let package = Package::read(file.as_slice())?;
         assert_eq!(rt; plan_answer(&package), fault, "{situation}");
     }
     Ok(())
@@ -204,13 +208,15 @@ fn plans_eight_components_at_most(rt: HostRuntime) -> Result<(), Fail> {
         components: &lent,
         rest: &[],
     };
-    let package = Package::read(rt.alloc(), file(nine).as_slice())?;
+    let many = file(nine);
+    let package = Package::read(many.as_slice())?;
     assert_eq!(rt; plan_answer(&package), Some(PlanFault::TooManyComponents));
     let eight = Draft {
         components: &lent[..8],
         ..nine
     };
-    let package = Package::read(rt.alloc(), file(eight).as_slice())?;
+    let few = file(eight);
+    let package = Package::read(few.as_slice())?;
     assert!(rt; package.record_count() == 1);
     assert_eq!(rt;
         package.plan(0)?.as_slice(),
@@ -238,7 +244,7 @@ fn plans_images_of_a_mebibyte_at_most(rt: HostRuntime) -> Result<(), Fail> {
         for (at, byte) in bytes.iter_mut().zip(file(draft).as_slice()) {
             *at = *byte;
         }
-        let package = Package::read(rt.alloc(), bytes.as_slice())?;
+        let package = Package::read(bytes.as_slice())?;
         assert_eq!(rt; plan_answer(&package), fault, "{size} bytes");
     }
     Ok(())

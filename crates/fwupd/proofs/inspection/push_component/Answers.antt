@@ -1,4 +1,3 @@
-use Rattle.std.proofs.Common.{ap}
 use Rattle.fwupd.proofs.Chains.{adds_more}
 use Rattle.fwupd.specs.Inspection.{component_line}
 use Rattle.fwupd.proofs.inspection.push_component.Goals as goal
@@ -6,8 +5,7 @@ use Rattle.fwupd.proofs.inspection.push_component.Goals as goal
 pub returns : goal.returns
 unfolding component_line
 returns c =
-    let key = adds_more (adds_more c.in_ok-push_number.ensures (rw (c.from.ensures, c.classification.ensures) at c.in_ok-push_number-2.ensures))
-    (rw (c.from-2.ensures, c.identifier.ensures) at c.in_ok-push_number-3.ensures) in
-    let options = adds_more (adds_more key (rw c.stamp.ensures at c.in_ok-push_eight.ensures)) (rw c.options.ensures at c.in_ok-push_four.ensures) in
-    let place = adds_more (adds_more options (rw c.offset.ensures at c.in_ok-push_number-4.ensures)) (rw c.size.ensures at c.in_ok-push_number-5.ensures) in
-    adds_more (adds_more place (rw (ap (λ t. t.bytes) c.text.ensures) at c.in_ok-push_quoted.ensures)) c.in_ok-push_words.ensures
+    let key = adds_more (adds_more c.in_ok-push_number.ensures (rw c.from.ensures at c.in_ok-push_number-2.ensures)) (rw c.from-2.ensures at c.in_ok-push_number-3.ensures) in
+    let options = adds_more (adds_more key c.in_ok-push_eight.ensures) c.in_ok-push_four.ensures in
+    let place = adds_more (adds_more options c.in_ok-push_number-4.ensures) c.in_ok-push_number-5.ensures in
+    adds_more (adds_more place c.in_ok-push_quoted.ensures) c.in_ok-push_words.ensures

@@ -1,7 +1,10 @@
-use Rattle.std.proofs.Common.{take}
-use Rattle.fwupd.specs.Inspection.{Adds, components_text}
+use Rattle.std.proofs.Common.{◌≡◌, ◌+◌, ◌++◌, length}
+use Rattle.fwupd.specs.Inspection.{components_text}
 use Rattle.fwupd.proofs.inspection.push_components.Given as goal
 
--- those that were passed are appended
-abbrev pub invariant-loop-component : goal.invariant-loop-component
-invariant-loop-component l = Adds l.fn.text.items l.text.items (components_text 1 (take l.component l.contents.components))
+-- what is appended, and what is left to append
+abbrev pub invariant-loop-number : goal.invariant-loop-number
+invariant-loop-number l = record {
+  counted : l.number + length l.components ≡ length l.fn.components;
+  told : l.text.items ++ components_text (l.number + 1) l.components ≡ l.fn.text.items ++ components_text 1 l.fn.components;
+}

@@ -1,9 +1,10 @@
-use Rattle.std.proofs.Common.{take}
+use Rattle.std.proofs.Common.{◌≡◌, ◌++◌}
 use Rattle.std.specs.List.{flat_map}
-use Rattle.fw_package.specs.Choice.{record_at}
-use Rattle.fwupd.specs.Inspection.{Adds, descriptor_line}
+use Rattle.fwupd.specs.Inspection.{descriptor_line}
 use Rattle.fwupd.proofs.inspection.push_descriptors.Given as goal
 
--- those that were passed are appended
-abbrev pub invariant-loop-place : goal.invariant-loop-place
-invariant-loop-place l = Adds l.fn.text.items l.text.items (flat_map descriptor_line (take l.place (record_at l.contents l.number).descriptors))
+-- what is appended, and what is left to append
+abbrev pub invariant-loop-descriptor : goal.invariant-loop-descriptor
+invariant-loop-descriptor l =
+    (goal.iterator-loop-descriptor).can_next l.descriptor-iterator × (goal.iterator-loop-descriptor).is_finite l.descriptor-iterator
+    × (l.text.items ++ flat_map descriptor_line l.descriptor-iterator ≡ l.fn.text.items ++ flat_map descriptor_line l.fn.descriptors)

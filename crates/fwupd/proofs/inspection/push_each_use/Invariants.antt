@@ -1,9 +1,10 @@
-use Rattle.std.proofs.Common.{take}
+use Rattle.std.proofs.Common.{◌≡◌, ◌++◌}
 use Rattle.std.specs.List.{flat_map}
-use Rattle.fw_package.specs.Choice.{record_at}
-use Rattle.fwupd.specs.Inspection.{Adds, use_text}
+use Rattle.fwupd.specs.Inspection.{use_text}
 use Rattle.fwupd.proofs.inspection.push_each_use.Given as goal
 
--- those that were passed are appended
-abbrev pub invariant-loop-place : goal.invariant-loop-place
-invariant-loop-place l = Adds l.fn.text.items l.text.items (flat_map use_text (take l.place (record_at l.contents l.number).uses))
+-- what is appended, and what is left to append
+abbrev pub invariant-loop-component : goal.invariant-loop-component
+invariant-loop-component l =
+    (goal.iterator-loop-component).can_next l.component-iterator × (goal.iterator-loop-component).is_finite l.component-iterator
+    × (l.text.items ++ flat_map use_text l.component-iterator ≡ l.fn.text.items ++ flat_map use_text l.fn.uses)

@@ -1,4 +1,3 @@
-use Rattle.std.proofs.Common.{ap}
 use Rattle.fwupd.proofs.Chains.{adds_more}
 use Rattle.fwupd.specs.Inspection.{record_line}
 use Rattle.fwupd.proofs.inspection.push_record_line.Goals as goal
@@ -6,6 +5,6 @@ use Rattle.fwupd.proofs.inspection.push_record_line.Goals as goal
 pub returns : goal.returns
 unfolding record_line
 returns c =
-    let named = adds_more c.in_ok-push_number.ensures (rw c.flags.ensures at c.in_ok-push_eight.ensures) in
-    let set = adds_more named (rw (ap (λ t. t.bytes) c.set_text.ensures) at c.in_ok-push_quoted.ensures) in
-    adds_more (adds_more (adds_more set c.in_ok-push_words.ensures) c.in_ok-push_uses.ensures) c.in_ok-push_words-2.ensures
+    let named = adds_more c.in_ok-push_number.ensures c.in_ok-push_eight.ensures in
+    let set = adds_more named c.in_ok-push_quoted.ensures in
+    adds_more (adds_more (adds_more set c.in_ok-push_words.ensures) (rw c.iter.ensures at c.in_ok-push_uses.ensures)) c.in_ok-push_words-2.ensures

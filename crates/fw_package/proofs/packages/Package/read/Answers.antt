@@ -1,8 +1,8 @@
-use Rattle.fw_package.proofs.ReadWhole.{found_package, refused_for_memory}
+use Rattle.fw_package.proofs.ReadWhole.{found_package, only_packages}
 use Rattle.fw_package.proofs.packages.Package.read.Goals as goal
 
 pub returns-clause-found : goal.returns-clause-found
-returns-clause-found c = found_package c.read_parts.result c.args.bytes.now c.read_parts.ensures.value
+returns-clause-found c = found_package c.read_parts.result c.args.bytes.now c.read_parts.ensures
 
 pub returns-clause-only : goal.returns-clause-only
-returns-clause-only c = refused_for_memory c.read_parts.result c.args.bytes.now c.read_parts.ensures.fault
+returns-clause-only c = only_packages c.read_parts.result c.args.bytes.now c.read_parts.ensures

@@ -1,0 +1,93 @@
+#!/usr/bin/env python3
+"""How long `fwupd inspect` takes, and how much memory, on large packages.
+
+    bench/inspect.py PROGRAM
+
+PROGRAM is the built program. The packages are made here, in a folder of their own that is removed again. What is printed
+last are ratios: twice the records, or twice the components, should take about twice the time, and a package of 16 MiB
+should need its own size of memory more than a small one.
+"""
+
+import os
+import resource
+import struct
+import subprocess
+import sys
+import tempfile
+import time
+import zlib
+
+IDENTIFIER = bytes.fromhex("F018878CCB7D49439800A02F059ACA02")
+MEBIBYTE = 1 << 20
+
+
+def package(records, components, image):
+    """A package whose records use all components; the last component's image has `image` bytes, the others' none."""
+    bitmap = (components + 7) // 8
+    bits = (1 << components) - 1
+    record = struct.pack("<HBIBBH", 11 + bitmap, 0, 0, 1, 0, 0) + bits.to_bytes(bitmap, "little")
+    body = struct.pack("<B", records) + record * records + struct.pack("<H", components)
+    size = 36 + len(body) + 22 * components + 4
+    for number in range(components):
+        length = image if number + 1 == components else 0
+        body += struct.pack("<HHIHHIIBB", 10, number, 0, 0, 0, size, length, 1, 0)
+    header = IDENTIFIER + struct.pack("<BH13xHBB", 1, size, 8 * bitmap, 1, 0) + body
+    return header + struct.pack("<I", zlib.crc32(header)) + bytes(image)
+
+
+def measure(program, path, turns):
+    """The least seconds of so many runs."""
+    seconds = float("inf")
+    for _ in range(turns):
+        begun = time.perf_counter()
+        subprocess.run([program, "inspect", path], stdout=subprocess.DEVNULL, check=True)
+        seconds = min(seconds, time.perf_counter() - begun)
+    return seconds
+
+
+def needs(program, path):
+    """The least address space with which a run ends well, to 64 KiB."""
+
+    def runs(limit):
+        def limited():
+            resource.setrlimit(resource.RLIMIT_AS, (limit, limit))
+
+        child = subprocess.run([program, "inspect", path], preexec_fn=limited, stdout=subprocess.DEVNULL, stderr=subprocess.DEVNULL)
+        return child.returncode == 0
+
+    low, high = 0, 256 * MEBIBYTE
+    while high - low > 65536:
+        middle = (low + high) // 2
+        low, high = (low, middle) if runs(middle) else (middle, high)
+    return high
+
+
+def main():
+    program = os.path.abspath(sys.argv[1])
+    rows = {
+        "one record of 1 use": (1, 1, 0),
+        "40 records of 1,800 uses": (40, 1800, 0),
+        "80 records of 900 uses": (80, 900, 0),
+        "80 records of 1,800 uses": (80, 1800, 0),
+        "an image of 8 MiB": (1, 1, 8 * MEBIBYTE),
+        "an image of 16 MiB": (1, 1, 16 * MEBIBYTE),
+    }
+    found = {}
+    with tempfile.TemporaryDirectory() as folder:
+        path = os.path.join(folder, "package")
+        for name, (records, components, image) in rows.items():
+            with open(path, "wb") as file:
+                file.write(package(records, components, image))
+            seconds, memory = measure(program, path, 60), needs(program, path)
+            found[name] = seconds, memory
+            print(f"{name}: {1000 * seconds:.1f} ms, {memory / MEBIBYTE:.1f} MiB")
+    small = found["one record of 1 use"]
+    spent = {name: seconds - small[0] for name, (seconds, _) in found.items()}
+    print(f"twice the records: {spent['80 records of 1,800 uses'] / spent['40 records of 1,800 uses']:.2f} times the time")
+    print(f"twice the components: {spent['80 records of 1,800 uses'] / spent['80 records of 900 uses']:.2f} times the time")
+    more = found["an image of 16 MiB"][1] - small[1]
+    print(f"memory of 16 MiB: {more / (16 * MEBIBYTE):.2f} times its size")
+
+
+if __name__ == "__main__":
+    main()

@@ -1,0 +1,5 @@
+use Rattle.fw_package.proofs.Walked.{twins_here}
+use Rattle.fw_package.proofs.packages.Package.has_twin.Goals as goal
+
+pub returns : goal.returns
+returns c = twins_here c.args.self.now c.args.uses.now c.used.result c.has_twin.result c.used.ensures c.has_twin.ensures

@@ -1,9 +1,0 @@
-use Rattle.std.proofs.Common.{◌≡◌, drop, map}
-use Rattle.std.specs.List.{list_all}
-use Rattle.fw_package.specs.Choice.{is_among}
-use Rattle.fw_package.specs.Package.{descriptor_of}
-use Rattle.fw_package.proofs.records.are_among.Given as goal
-
--- the answer of those that are left is the answer of all
-abbrev pub invariant-loop-descriptor : goal.invariant-loop-descriptor
-invariant-loop-descriptor l = list_all (is_among (map descriptor_of l.device)) (drop l.descriptor-index l.descriptors) ≡ list_all (is_among (map descriptor_of l.device)) l.descriptors

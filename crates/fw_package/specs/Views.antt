@@ -1,0 +1,47 @@
+-- What is lent from a header, as a value.
+use Rattle.std.specs.Prelude.{ℕ, ◌+◌, ◌-◌, ◌<◌, ◌≤◌, ◌||◌, Bool, false, List, [], ◌∷◌, IsOk, IsSome, Result, Ok, Err, drop, filter, length, slice_index_or}
+use Rattle.std.specs.List.{list_any, range_with_len}
+use Rattle.fw_package.specs.Choice.{has_key, no_component}
+use Rattle.fw_package.specs.Components.{components_of}
+use Rattle.fw_package.specs.Layout.{after_components, after_records}
+use Rattle.fw_package.specs.Package.{ComponentOf}
+use Rattle.fw_package.specs.Records.{is_named, records_of}
+use Rattle.fw_package.specs.declared.fault.PackageFault.{PackageFault}
+
+-- a list that was read, and one that was read with what stands after it
+abbrev pub listed : {A : Type 0} → Result (List A) PackageFault → List A
+listed (Ok xs) = xs
+listed (Err e) = []
+
+abbrev pub front_of : {A B : Type 0} → Result (List A × B) PackageFault → List A
+front_of (Ok p) = p.0
+front_of (Err e) = []
+
+-- the components from this one on that a bitmap names, of so many
+abbrev pub named_from : List ℕ → ℕ → ℕ → List ℕ
+named_from bitmap number count = filter (is_named bitmap) (range_with_len number count)
+
+-- the bytes begin with so many records
+pub record AreRecords (bitmap_size component_count count : ℕ) (bytes : List ℕ) : Type 0 where
+  pub walked : IsSome (after_records count bytes)
+  pub read : IsOk (records_of bitmap_size component_count count bytes)
+
+-- the bytes begin with so many components
+pub record AreComponents (file : List ℕ) (count : ℕ) (bytes : List ℕ) : Type 0 where
+  pub walked : IsSome (after_components count bytes)
+  pub read : IsOk (components_of file count bytes)
+
+-- the components of these rising numbers, in a row whose first has the number `at`
+abbrev pub used_from : ℕ → List ComponentOf → List ℕ → List ComponentOf
+used_from at row [] = []
+used_from at row (n ∷ ns) = slice_index_or row (n - at) no_component ∷ used_from (n + 1) (drop (n - at + 1) row) ns
+
+-- the numbers are rising, and in the row
+abbrev pub AreUsed : ℕ → List ComponentOf → List ℕ → Type 0
+AreUsed at row [] = Unit {0}
+AreUsed at row (n ∷ ns) = (at ≤ n) × (n - at < length row) × AreUsed (n + 1) (drop (n - at + 1) row) ns
+
+-- two of these components have the same key
+abbrev pub twins : List ComponentOf → Bool
+twins [] = false
+twins (c ∷ cs) = list_any (has_key c.classification c.identifier) cs || twins cs

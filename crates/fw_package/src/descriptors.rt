@@ -1,0 +1,146 @@
+//! The descriptors of a record, lent from its package's header.
+
+ghost use Rattle.std.specs.Iterator.{YieldsFirstBy, item_count};
+ghost use Rattle.std.specs.Prelude.{◌≡◌, ◌==◌, length, map, IfOk};
+ghost use Rattle.std.specs.List.{list_all, list_any};
+ghost use Rattle.std.specs.Result.{result_map_both};
+ghost use Rattle.fw_package.specs.Choice.{is_among, same_descriptor};
+ghost use Rattle.fw_package.specs.Package.{descriptor_of};
+ghost use Rattle.fw_package.specs.Records.{descriptor_split, descriptors_split, split_after};
+
+use crate::fault::PackageFault;
+use crate::texts::Descriptor;
+use byteorder::{ByteOrder, LittleEndian};
+use std::marker::Model;
+
+/// The bytes of a descriptor before its data: type and size.
+const DESCRIPTOR_SIZE: usize = 4;
+
+/// The place of a descriptor's size, after its type.
+const DESCRIPTOR_LENGTH: usize = 2;
+
+/// Descriptors that stand one after the other. It is also an iterator over them.
+#[derive(Debug, Drop)]
+pub struct Descriptors<'a> {
+    count: u8,
+    rest: &'a [u8],
+}
+
+impl<'a> Model for Descriptors<'a> {
+    ghost use Rattle.std.specs.Prelude.{List, IsOk};
+    ghost use Rattle.fw_package.specs.Package.{DescriptorOf};
+    ghost use Rattle.fw_package.specs.Records.{descriptors_split};
+    ghost use Rattle.fw_package.specs.Views.{front_of};
+
+    ghost Value = { List DescriptorOf };
+
+    ghost view = { λ d. front_of (descriptors_split d.count d.rest.now) };
+
+    ghost invariant = { λ d. IsOk (descriptors_split d.count d.rest.now) };
+}
+
+impl<'a> Descriptors<'a> {
+    /// So many descriptors, and what stands after them.
+    ///
+    /// # Errors
+    /// `RecordLength` where the bytes end before them.
+    #[tactic(auto, using(crate::proofs::Lists::describing))]
+    pub(crate) fn read(bytes: &'a [u8], count: u8) -> Result<(Self, &'a [u8]), PackageFault>
+        ensures { result_map_both (λ p. (p.0, p.1.now)) (λ e. e) result ≡ descriptors_split count bytes.now }
+    {
+        let mut rest = bytes;
+        for _descriptor in 0..count {
+            let (_, after) = descriptor(rest)?;
+            rest = after;
+        }
+        Ok((Descriptors { count, rest: bytes }, rest))
+    }
+
+    /// Whether no descriptor is left.
+    #[tactic(auto, using(crate::proofs::Lists::descriptors_count))]
+    pub(crate) fn is_empty(&self) -> bool
+        ensures { result ≡ (length self.now == 0) }
+    {
+        self.count == 0
+    }
+
+    /// Whether all of these descriptors are the device's.
+    pub(crate) fn are_among(self, device: &[Descriptor<'_>]) -> bool
+        ensures { result ≡ list_all (is_among (map descriptor_of device.now)) self.entry }
+    {
+        for descriptor in self {
+            if !is_among(descriptor, device) {
+                return false;
+            }
+        }
+        true
+    }
+}
+
+impl<'a> Iterator for Descriptors<'a> {
+    type Item = Descriptor<'a>;
+
+    ghost next_gives = { YieldsFirstBy descriptor_of (λ left. left) };
+
+    ghost remaining = { item_count (λ left. left) };
+
+    #[tactic(auto, using(crate::proofs::Lists::descriptors_next))]
+    fn next(&mut self) -> Option<Descriptor<'a>> {
+        if self.count == 0 {
+            return None;
+        }
+        let Ok((descriptor, rest)) = descriptor(self.rest) else {
+            unreachable!()
+        };
+        *self = Descriptors {
+            count: self.count - 1,
+            rest,
+        };
+        Some(descriptor)
+    }
+}
+
+/// Whether this is one of the device's descriptors.
+fn is_among(descriptor: Descriptor<'_>, device: &[Descriptor<'_>]) -> bool
+    ensures { result ≡ is_among (map descriptor_of device.now) (descriptor_of descriptor.entry) }
+{
+    for other in device {
+        if is_same(descriptor, *other) {
+            return true;
+        }
+    }
+    false
+}
+
+/// Whether these have the same type and the same data.
+fn is_same(descriptor: Descriptor<'_>, other: Descriptor<'_>) -> bool
+    ensures { result ≡ same_descriptor (descriptor_of descriptor.entry) (descriptor_of other.entry) }
+{
+    descriptor.kind == other.kind && descriptor.bytes == other.bytes
+}
+
+/// The first descriptor, and what stands after it.
+#[tactic(auto, unfolding(crate::specs::Records::descriptor_split))]
+fn descriptor(bytes: &[u8]) -> Result<(Descriptor<'_>, &[u8]), PackageFault>
+    ensures { result_map_both (λ p. (descriptor_of p.0, p.1.now)) (λ e. e) result ≡ descriptor_split bytes.now }
+{
+    let (head, rest) = split(bytes, DESCRIPTOR_SIZE)?;
+    let size = usize::from(LittleEndian::read_u16(&head[DESCRIPTOR_LENGTH..]));
+    let (content, rest) = split(rest, size)?;
+    let descriptor = Descriptor {
+        kind: LittleEndian::read_u16(head),
+        bytes: content,
+    };
+    Ok((descriptor, rest))
+}
+
+/// The first `size` bytes, and what stands after them.
+pub(crate) fn split(bytes: &[u8], size: usize) -> Result<(&[u8], &[u8]), PackageFault>
+    ensures value { result_map_both (λ p. (p.0.now, p.1.now)) (λ e. e) result ≡ split_after size bytes.now }
+    ensures front { IfOk result (λ p. length p.0.now ≡ size) }
+{
+    if bytes.len() < size {
+        return Err(PackageFault::RecordLength);
+    }
+    Ok(bytes.split_at(size))
+}

@@ -1,0 +1,98 @@
+//! The components that a record uses, lent from its bitmap.
+
+ghost use Rattle.std.specs.Iterator.{YieldsFirst, item_count};
+ghost use Rattle.std.specs.Prelude.{◌≡◌, ◌+◌, ◌-◌, ◌<◌, ◌∷◌, ◌↔◌, [], length, IsTrue, MatchOption};
+ghost use Rattle.fw_package.specs.Records.{is_named, named};
+ghost use Rattle.fw_package.specs.Views.{named_from};
+
+use std::marker::Model;
+
+/// The components that one byte of a bitmap names, one a bit.
+const BYTE_BITS: usize = 8;
+
+/// The numbers of components, rising. It is also an iterator over them.
+#[derive(Debug, Drop)]
+pub struct Uses<'a> {
+    bitmap: &'a [u8],
+    number: u16,
+    count: u16,
+}
+
+impl<'a> Model for Uses<'a> {
+    ghost use Rattle.std.specs.Prelude.{ℕ, List, ◌-◌};
+    ghost use Rattle.fw_package.specs.Views.{named_from};
+
+    ghost Value = { List ℕ };
+
+    ghost view = { λ u. named_from u.bitmap.now u.number (u.count - u.number) };
+}
+
+impl<'a> Uses<'a> {
+    /// The components that a bitmap names, of so many that there are.
+    #[tactic(auto, unfolding(crate::specs::Records::named))]
+    pub(crate) fn new(bitmap: &'a [u8], count: u16) -> Self
+        ensures { result ≡ named bitmap.now count }
+    {
+        Uses {
+            bitmap,
+            number: 0,
+            count,
+        }
+    }
+
+    /// Whether no component is left.
+    pub fn is_empty(&self) -> bool
+        ensures { IsTrue result ↔ (length self.now ≡ 0) }
+    {
+        first_named(self.bitmap, self.number, self.count).is_none()
+    }
+
+    /// The same again.
+    pub fn iter(&self) -> Uses<'a>
+        ensures { result ≡ self.now }
+    {
+        Uses {
+            bitmap: self.bitmap,
+            number: self.number,
+            count: self.count,
+        }
+    }
+}
+
+impl<'a> Iterator for Uses<'a> {
+    type Item = u16;
+
+    ghost next_gives = { YieldsFirst (λ left. left) };
+
+    ghost remaining = { item_count (λ left. left) };
+
+    fn next(&mut self) -> Option<u16> {
+        let number = first_named(self.bitmap, self.number, self.count)?;
+        self.number = number + 1;
+        Some(number)
+    }
+}
+
+/// The first component that a bitmap names, from this one on.
+#[tactic(auto, using(crate::proofs::Lists::naming))]
+fn first_named(bitmap: &[u8], from: u16, count: u16) -> Option<u16>
+    ensures { MatchOption result (named_from bitmap.now from (count - from) ≡ [])
+        (λ n. (n < count) × (named_from bitmap.now from (count - from) ≡ n ∷ named_from bitmap.now (n + 1) (count - (n + 1)))) }
+{
+    for number in from..count {
+        if is_named(bitmap, usize::from(number)) {
+            return Some(number);
+        }
+    }
+    None
+}
+
+/// Whether a bitmap names a component.
+fn is_named(bitmap: &[u8], number: usize) -> bool
+    ensures { result ≡ is_named bitmap.now number }
+{
+    match bitmap.get(number / BYTE_BITS) {
+        Some(byte) => byte >> (number % BYTE_BITS) & 1 == 1,
+        None => false,
+    }
+}
