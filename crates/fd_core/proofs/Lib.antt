@@ -1,4 +1,5 @@
 mod Answering
+pub mod Components
 mod Parameters
 mod Refusals
-mod Rows
+pub mod Rows

@@ -45,7 +45,7 @@ equal_both a b =
       | inr other ↦ rw (other.0, ne_eqb b a (λ e. other.1 (sym e))) refl
     ]
 
-same_both : (a b : Key) → same_key a b ≡ same_key b a
+pub same_both : (a b : Key) → same_key a b ≡ same_key b a
 same_both a b = rw (equal_both a.classification b.classification, equal_both a.identifier b.identifier) refl
 
 same_means : (a b : Key) → same_key a b ≡ true → a ≡ b

@@ -1,6 +1,7 @@
 pub mod Banks
 pub mod Codes
 pub mod Commands
+pub mod Components
 pub mod Images
 pub mod Laws
 pub mod States

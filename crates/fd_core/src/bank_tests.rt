@@ -1,6 +1,7 @@
 //! Banks that fail, several components, and what a device tells of its components.
 
-ghost use Rattle.std.specs.Prelude.{◌≡◌, ◌-◌, ◌<◌, ◌^◌, ◌≤◌, ◌⊎◌, false};
+ghost use Rattle.std.specs.Prelude.{◌≡◌, false, true};
+ghost use Rattle.fd_core.specs.Banks.{Rose};
 
 use crate::fixtures::{
     ACTIVATE, APPLIED, APPLY, COMPLETE, DOWNLOAD, DOWNLOADED, IDLE, KEY, LEARN, READY, REQUEST,
@@ -31,8 +32,8 @@ impl Worn {
     /// Whether one more call works.
     fn works(&mut self) -> bool
         ensures kept { self.new.bank ≡ self.old.bank }
-        ensures rise { self.old.faults ≤ self.new.faults }
-        ensures failed { result ≡ false → (self.old.faults < self.new.faults) ⊎ (self.new.faults ≡ 2 ^ 64 - 1) }
+        ensures worked { result ≡ true → self.new.faults ≡ self.old.faults }
+        ensures failed { result ≡ false → Rose self.old.faults self.new.faults }
     {
         if self.left == 0 {
             self.faults = self.faults.saturating_add(1);

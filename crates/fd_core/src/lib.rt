@@ -21,7 +21,7 @@ pub use bank::{Bank, BankFault};
 pub use device::Device;
 pub use fwup_wire::Key;
 pub use labels::{Label, MAX_TEXT};
-pub use laws::{components_stay, refusals_change_nothing};
+pub use laws::{components_stay, devices_keep_components, refusals_change_nothing};
 pub use memory::MemBank;
 pub use parts::{Component, MAX_COMPONENTS, MAX_IMAGE};
 pub use states::{NotNow, Progress, Reason, State, Verdict};

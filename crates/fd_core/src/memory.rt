@@ -1,8 +1,8 @@
 //! A bank that keeps its images in memory.
 
-ghost use Rattle.std.specs.Prelude.{◌≡◌, ◌+◌, ◌≤◌, ◌++◌, ◌∷◌, [], IfErr, None, OnErr, OnOk, Some, false, length, map, option_map};
-ghost use Rattle.fd_core.specs.Banks.{AreApart, BankOf, has_key};
-ghost use Rattle.fd_core.specs.Images.{dropped, image_in, key_of, row_of, same_key, sealed, switched, turned, unapplied};
+ghost use Rattle.std.specs.Prelude.{◌≡◌, ◌+◌, ◌≤◌, ◌++◌, ◌∷◌, [], IfErr, IsOk, IsSome, IsSomeAnd, None, OnErr, OnOk, Some, false, length, map, option_map};
+ghost use Rattle.fd_core.specs.Banks.{AreApart, BankOf, Rose, has_key};
+ghost use Rattle.fd_core.specs.Images.{dropped, image_in, key_of, row_of, same_key, sealed, sealed_by, staged_with, switched, turned, unapplied};
 
 use crate::bank::{Bank, BankFault};
 use crate::labels::Label;
@@ -152,7 +152,14 @@ impl Bank for MemBank {
         Some((&image.label, image.bytes.as_slice()))
     }
 
-    fn begin(&mut self, key: Key, size: u32, label: &Label) -> Result<(), BankFault> {
+    fn begin(&mut self, key: Key, size: u32, label: &Label) -> Result<(), BankFault>
+        requires known { IsSome (row_of self.old.rows key) }
+        requires size { size ≤ 1048576 }
+        ensures ok { OnOk result (self.new ≡ record self.old { stage = Some (record { key = key; size = size; label = label.now; bytes = [] }) }) }
+        ensures kept { OnErr result (self.new ≡ record self.old { faults = self.new.faults }) }
+        ensures failed { OnErr result (Rose self.old.faults self.new.faults) }
+        ensures cause { IfErr result (λ e. e ≡ BankFault.Memory) }
+    {
         let Ok(bytes) = Vec::with_capacity(self.alloc, size as usize) else {
             self.faults = self.faults.saturating_add(1);
             return Err(BankFault::Memory);
@@ -166,14 +173,22 @@ impl Bank for MemBank {
         Ok(())
     }
 
-    fn put(&mut self, piece: &[u8]) -> Result<(), BankFault> {
+    fn put(&mut self, piece: &[u8]) -> Result<(), BankFault>
+        requires { IsSomeAnd self.old.stage (λ s. length s.bytes + length piece.now ≤ s.size) }
+        ensures ok { IsOk result }
+        ensures bank { self.new ≡ record self.old { stage = staged_with self.old.stage piece.now } }
+    {
         if let Some(stage) = self.staged.as_mut() {
             stage.append(piece);
         }
         Ok(())
     }
 
-    fn seal(&mut self) -> Result<(), BankFault> {
+    fn seal(&mut self) -> Result<(), BankFault>
+        requires { IsSomeAnd self.old.stage (λ s. length s.bytes ≡ s.size) }
+        ensures ok { IsOk result }
+        ensures bank { self.new ≡ record self.old { rows = sealed_by self.old.rows self.old.stage; stage = None } }
+    {
         if let Some(stage) = self.staged.take() {
             let key = stage.key;
             apply_at(self.places.as_mut_slice(), key, stage.into_image());
@@ -181,7 +196,10 @@ impl Bank for MemBank {
         Ok(())
     }
 
-    fn switch(&mut self) -> Result<(), BankFault> {
+    fn switch(&mut self) -> Result<(), BankFault>
+        ensures ok { IsOk result }
+        ensures bank { self.new ≡ record self.old { rows = switched self.old.rows; stage = None } }
+    {
         turn_all(self.places.as_mut_slice());
         self.staged = None;
         Ok(())

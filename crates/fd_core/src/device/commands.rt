@@ -1,7 +1,8 @@
 //! How a device takes commands, one function a command.
 
 ghost use Rattle.std.specs.Prelude.{◌≡◌, ◌≤◌, true, false};
-ghost use Rattle.fd_core.specs.Commands.{IsTaken, Rose, answer_works, cancel_take, offer_take, request_take, return_take, switch_take, table_take};
+ghost use Rattle.fd_core.specs.Banks.{Rose};
+ghost use Rattle.fd_core.specs.Commands.{IsTaken, answer_works, cancel_take, offer_take, request_take, return_take, switch_take, table_take};
 ghost use Rattle.fwup_wire.specs.Answers.{IsAnswerWritable};
 ghost use Rattle.fwup_wire.specs.Values.{AnswerOf};
 ghost use Rattle.fwup_wire.specs.Lent.{answer_of, entry_of, offer_of, request_of};
@@ -100,8 +101,8 @@ impl<B: Bank> Device<B> {
         quiet: bool,
     ) -> Answer<'static>
         ensures taken { IsTaken self.old self.new (answer_of result) (offer_take self.old.device (offer_of offer.now) quiet (answer_works (answer_of result))) }
-        ensures faults { self.old.faults ≤ self.new.faults }
-        ensures failed { answer_works (answer_of result) ≡ false → Rose self.old self.new }
+        ensures worked { answer_works (answer_of result) ≡ true → self.new.faults ≡ self.old.faults }
+        ensures failed { answer_works (answer_of result) ≡ false → Rose self.old.faults self.new.faults }
         ensures writable { IsAnswerWritable (answer_of result) }
     {
         match self.course.state {
@@ -165,8 +166,8 @@ impl<B: Bank> Device<B> {
     /// ActivateFirmware.
     pub(super) fn activate_firmware(&mut self) -> Answer<'static>
         ensures taken { IsTaken self.old self.new (answer_of result) (switch_take self.old.device (answer_works (answer_of result))) }
-        ensures faults { self.old.faults ≤ self.new.faults }
-        ensures failed { answer_works (answer_of result) ≡ false → Rose self.old self.new }
+        ensures worked { answer_works (answer_of result) ≡ true → self.new.faults ≡ self.old.faults }
+        ensures failed { answer_works (answer_of result) ≡ false → Rose self.old.faults self.new.faults }
         ensures writable { IsAnswerWritable (answer_of result) }
     {
         match self.course.state {

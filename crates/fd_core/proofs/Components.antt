@@ -4,7 +4,7 @@ use Rattle.fd_core.specs.Banks.{has_key}
 use Rattle.pldm_base.specs.Codes.{invalid_data}
 use Rattle.fd_core.specs.Codes.{longest_image, not_supported}
 use Rattle.fd_core.specs.Commands.{CancelRow, OfferRow, RequestRow, ReturnRow, SwitchRow, TableRow, cancel_by, cancel_row, device_after, in_table, listed, offer_by, offer_row, offer_rule, offer_under, request_by, request_row, return_by, return_row, switch_by, switch_row, table_by, table_row, with_entry}
-use Rattle.fd_core.specs.Images.{ImageOf, RowOf, dropped, key_of, row_of, same_key, sealed, sealed_if, switched, turned_to}
+use Rattle.fd_core.specs.Images.{RowOf, dropped, key_of, row_of}
 use Rattle.fd_core.specs.States.{DeviceState, Phase, UpdateOf, WorkOf}
 use Rattle.fd_core.specs.Steps.{device_restart, device_timeout, judged_or, verdict_after, verdict_at}
 use Rattle.fd_core.specs.Wishes.{LearnRow, apply_by, asked_length, device_learn, download_by, download_row, learn_at, report_row, applied_row, verified_row, verify_by}
@@ -13,27 +13,8 @@ use Rattle.fd_core.specs.declared.states.Verdict.{Verdict}
 use Rattle.fd_core.specs.declared.states.Verdict.TheVariants as verdicts
 use Rattle.fwup_wire.specs.Values.{AnswerOf, CommandOf, EntryOf, OfferOf, RequestOf}
 use Rattle.fwup_wire.specs.declared.values.Key.{Key}
-use Rattle.fw_message.specs.Nodes.{HasComponents, IsOneOf}
-
-keys_dropped : (rows : List RowOf) → map key_of (dropped rows) ≡ map key_of rows
-keys_dropped [] = refl
-keys_dropped (row ∷ rows) = ap (λ ks. row.key ∷ ks) (keys_dropped rows)
-
-key_turned : (row : RowOf) (a : Option ImageOf) → key_of (turned_to row a) ≡ key_of row
-key_turned row None = refl
-key_turned row (Some image) = refl
-
-keys_switched : (rows : List RowOf) → map key_of (switched rows) ≡ map key_of rows
-keys_switched [] = refl
-keys_switched (row ∷ rows) = rw (key_turned row row.applied, keys_switched rows) refl
-
-key_sealed : (b : Bool) (row : RowOf) (image : ImageOf) → key_of (sealed_if b row image) ≡ key_of row
-key_sealed true row image = refl
-key_sealed false row image = refl
-
-keys_sealed : (rows : List RowOf) (key : Key) (image : ImageOf) → map key_of (sealed rows key image) ≡ map key_of rows
-keys_sealed [] key image = refl
-keys_sealed (row ∷ rows) key image = rw (key_sealed (same_key row.key key) row image, keys_sealed rows key image) refl
+use Rattle.fd_core.proofs.Rows.{has_row, keys_dropped, keys_sealed, keys_switched}
+use Rattle.fd_core.specs.Components.{HasComponents, IsOneOf}
 
 -- a device with the same components, whose bank has the same keys
 with_keys : (v w : DeviceState) → map key_of w.rows ≡ map key_of v.rows → w.components ≡ v.components → IsOneOf (map key_of v.rows) w.phase → HasComponents v → HasComponents w
@@ -43,14 +24,6 @@ reset_components : (v w : DeviceState) → w.rows ≡ dropped v.rows → w.compo
 reset_components v w rows components known h = with_keys v w (ap (map key_of) rows ∙ keys_dropped v.rows) components known h
 
 -- an offer that is taken up is of a component that is there
-here_or : (b : Bool) (row : RowOf) (rest : Option RowOf) (has : Bool) → has ≡ is_some rest → (b || has) ≡ is_some (if b then Some row else rest)
-here_or true row rest has e = refl
-here_or false row rest has e = e
-
-has_row : (rows : List RowOf) (key : Key) → has_key (map key_of rows) key ≡ is_some (row_of rows key)
-has_row [] key = refl
-has_row (row ∷ rows) key = here_or (same_key row.key key) row (row_of rows key) (has_key (map key_of rows) key) (has_row rows key)
-
 ruled : (row : Option RowOf) (o : OfferOf) (u v : UpdateOf) (works : Bool) → offer_under u (offer_rule row o) works ≡ OfferRow.BeginWork v → is_some row ≡ true
 ruled None o u v works e = absurd (cc)
 ruled (Some row) o u v works e = refl
