@@ -1,5 +1,7 @@
 mod Answering
 pub mod Components
+mod MemBanks
 mod Parameters
+mod Places
 mod Refusals
 pub mod Rows

@@ -1,13 +1,7 @@
--- What a bank in memory stands for.
-use Rattle.std.specs.Prelude.{[], ◌||◌, ◌∷◌, ◌≡◌, ◌+◌, ◌-◌, ◌^◌, ◌⊎◌, Bool, List, Option, false, ℕ}
-use Rattle.fd_core.specs.Images.{RowOf, StageOf, same_key}
+-- Which components a bank has, and how it counts its failures.
+use Rattle.std.specs.Prelude.{[], ◌||◌, ◌∷◌, ◌≡◌, ◌+◌, ◌-◌, ◌^◌, ◌⊎◌, Bool, List, false, ℕ}
+use Rattle.fd_core.specs.Images.{same_key}
 use Rattle.fwup_wire.specs.declared.values.Key.{Key}
-
--- its components, its stage, and how often it failed
-pub record BankOf : Type 0 where
-  pub rows : List RowOf
-  pub stage : Option StageOf
-  pub faults : ℕ
 
 abbrev pub has_key : List Key → Key → Bool
 has_key [] key = false

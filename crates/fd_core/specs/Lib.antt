@@ -1,3 +1,4 @@
+pub mod Areas
 pub mod Banks
 pub mod Codes
 pub mod Commands

@@ -17,7 +17,7 @@ use crate::labels::Label;
 use crate::parts::{Component, Course, MAX_COMPONENTS, NO_KEY, Update, Work};
 use crate::states::{NotNow, Progress, Reason, State, Verdict};
 use arrayvec::ArrayVec;
-use fwup_wire::{Answer, Command, DescriptorList, Key, Text, Version, write_answer};
+use fwup_wire::{Answer, Command, DescriptorList, Key, write_answer};
 use pldm_base::Reply;
 use pldm_base::completion::ERROR_UNSUPPORTED_PLDM_CMD;
 use std::marker::Model;
@@ -265,13 +265,7 @@ fn no_work() -> Work {
     Work {
         key: NO_KEY,
         size: 0,
-        label: Label::new(&Version {
-            stamp: 0,
-            text: Text {
-                text_type: 0,
-                bytes: &[],
-            },
-        }),
+        label: Label::empty(),
         force: false,
         received: 0,
     }
