@@ -5,6 +5,7 @@ mod bank;
 #[cfg(test)]
 mod bank_tests;
 mod device;
+mod failing;
 #[cfg(test)]
 mod fixtures;
 mod labels;
@@ -19,6 +20,7 @@ mod update_tests;
 
 pub use bank::{Bank, BankFault};
 pub use device::Device;
+pub use failing::FailBank;
 pub use fwup_wire::Key;
 pub use labels::{Label, MAX_TEXT};
 pub use laws::{components_stay, devices_keep_components, refusals_change_nothing};
