@@ -49,9 +49,16 @@ pub bank_begun : (n : ℕ) (places now ys : List PlaceOf) (staged : Option Key) 
     → IsSome (place_for now key)
     → bank_by (take n (ys ++ drop (length ys) places)) (Some key) faults ≡ record bank { stage = Some (record { key = key; size = size; label = label; bytes = [] }) }
 bank_begun n places now ys staged faults bank key size label is view same e whole some =
-    rw (items_over n places now ys same (rw e (shapes_rewritten (fresh size label) key now)) whole, e, same, ← view,
-    rows_rewritten (fresh size label) key places, numbers_rewritten (fresh size label) key places, stage_rewritten (fresh size label) key places is.0,
-    fresh_stage (place_for places key) key size label (rw same at some)) refl
+    rw (
+      items_over n places now ys same (rw e (shapes_rewritten (fresh size label) key now)) whole,
+      e,
+      same,
+      ← view,
+      rows_rewritten (fresh size label) key places,
+      numbers_rewritten (fresh size label) key places,
+      stage_rewritten (fresh size label) key places is.0,
+      fresh_stage (place_for places key) key size label (rw same at some),
+    ) refl
 
 -- put
 longer_stage : (o : Option PlaceOf) (key : Key) (piece : List ℕ)
@@ -64,9 +71,17 @@ pub bank_appended : (n : ℕ) (places now ys : List PlaceOf) (staged : Option Ke
     → length places ≤ n
     → bank_by (take n (ys ++ drop (length ys) places)) staged faults ≡ record bank { stage = staged_with bank.stage piece }
 bank_appended n places now ys staged faults bank key piece is view same at e whole =
-    rw (items_over n places now ys same (rw e (shapes_rewritten (longer piece) key now)) whole, e, same, ← view, at,
-    rows_rewritten (longer piece) key places, numbers_rewritten (longer piece) key places, stage_rewritten (longer piece) key places is.0,
-    longer_stage (place_for places key) key piece) refl
+    rw (
+      items_over n places now ys same (rw e (shapes_rewritten (longer piece) key now)) whole,
+      e,
+      same,
+      ← view,
+      at,
+      rows_rewritten (longer piece) key places,
+      numbers_rewritten (longer piece) key places,
+      stage_rewritten (longer piece) key places is.0,
+      longer_stage (place_for places key) key piece,
+    ) refl
 
 -- seal
 numbers_of_stage : (o : Option PlaceOf) (places : List PlaceOf) (key : Key) → IsSome o
@@ -80,8 +95,15 @@ pub bank_sealed : (n : ℕ) (places now ys : List PlaceOf) (staged : Option Key)
     → bank_by (take n (ys ++ drop (length ys) places)) None faults
     ≡ record bank { rows = sealed_by bank.rows bank.stage; stage = None; areas = numbers_sealed bank.areas bank.stage }
 bank_sealed n places now ys staged faults bank key is view same at e whole some =
-    rw (items_over n places now ys same (rw e (shapes_applied key now)) whole, e, same, ← view, at,
-    rows_sealed key places is.0 (rw same at some), numbers_of_stage (place_for places key) places key (rw same at some)) refl
+    rw (
+      items_over n places now ys same (rw e (shapes_applied key now)) whole,
+      e,
+      same,
+      ← view,
+      at,
+      rows_sealed key places is.0 (rw same at some),
+      numbers_of_stage (place_for places key) places key (rw same at some),
+    ) refl
 
 -- switch, drop_pending
 pub bank_activated : (n : ℕ) (places now ys : List PlaceOf) (staged : Option Key) (faults : ℕ) (bank : BankOf)

@@ -2,6 +2,7 @@
 
 ghost use Rattle.std.specs.Prelude.{◌≡◌, ◌+◌, ◌≤◌, [], List, None, ℕ, length, Option, Some, IsSome, IsSomeAnd, OnOk, OnErr, is_some, option_map};
 ghost use Rattle.fd_core.specs.Banks.{Rose};
+ghost use Rattle.fd_core.specs.Codes.{longest_image};
 ghost use Rattle.fd_core.specs.Images.{RowOf, StageOf, active_of, applied_of, dropped, row_of, sealed_by, staged_with, switched};
 
 use crate::labels::Label;
@@ -45,7 +46,7 @@ pub trait Bank {
     /// A new stage, which is empty, for an image of `size` bytes, at most `MAX_IMAGE`.
     fn begin(&mut self, key: Key, size: u32, label: &Label) -> Result<(), BankFault>
         requires known { IsSome (row_of (rows self.old) key) }
-        requires size { size ≤ 1048576 }
+        requires size { size ≤ longest_image }
         ensures rows { rows self.new ≡ rows self.old }
         ensures ok { OnOk result (stage self.new ≡ Some (record { key = key; size = size; label = label.now; bytes = [] })) }
         ensures kept { OnErr result (stage self.new ≡ stage self.old) }

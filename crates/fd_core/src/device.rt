@@ -1,6 +1,6 @@
 //! A device over a bank.
 
-ghost use Rattle.std.specs.Prelude.{◌≡◌, ◌≢◌, ◌≤◌, ◌<◌, OnErr, OnOk, Some, is_ok, is_some, map, not, length, true, false};
+ghost use Rattle.std.specs.Prelude.{◌≡◌, ◌≢◌, ◌<◌, OnErr, OnOk, Some, is_ok, is_some, map, not, length, true, false};
 ghost use Rattle.fd_core.specs.Banks.{Rose};
 ghost use Rattle.fd_core.specs.Commands.{bytes_work, device_after, device_answer, idle_after};
 ghost use Rattle.fd_core.specs.States.{DeviceOf, IsWhole, new_device, progress_of, reset, rested, staged_of, state_of};

@@ -2,12 +2,8 @@
 #![tactic(auto)]
 
 mod bank;
-#[cfg(test)]
-mod bank_tests;
 mod device;
 mod failing;
-#[cfg(test)]
-mod fixtures;
 mod labels;
 mod laws;
 mod memory;
@@ -15,8 +11,6 @@ mod parts;
 mod states;
 #[cfg(test)]
 mod tests;
-#[cfg(test)]
-mod update_tests;
 
 pub use bank::{Bank, BankFault};
 pub use device::Device;

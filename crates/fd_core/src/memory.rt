@@ -3,6 +3,7 @@
 ghost use Rattle.std.specs.Prelude.{◌≡◌, ◌+◌, ◌<◌, ◌≤◌, ◌++◌, ◌∷◌, [], IfErr, IfSome, IsOk, IsSome, IsSomeAnd, None, OnErr, OnOk, Some, false, get_or, length, map, option_map, true};
 ghost use Rattle.fd_core.specs.Areas.{AreShaped, BankOf, activated, appended, applied_spare, begun, changed, forgotten, no_place, numbers_dropped, numbers_for, numbers_sealed, numbers_switched, place_for, shape_of, written};
 ghost use Rattle.fd_core.specs.Banks.{Rose, has_key};
+ghost use Rattle.fd_core.specs.Codes.{longest_image};
 ghost use Rattle.fd_core.specs.Images.{dropped, key_of, row_of, same_key, sealed_by, staged_with, switched};
 
 use crate::bank::{Bank, BankFault};
@@ -118,7 +119,7 @@ impl Bank for MemBank {
 
     fn begin(&mut self, key: Key, size: u32, label: &Label) -> Result<(), BankFault>
         requires known { IsSome (row_of self.old.rows key) }
-        requires size { size ≤ 1048576 }
+        requires size { size ≤ longest_image }
         ensures ok { OnOk result (self.new ≡ record self.old { stage = Some (record { key = key; size = size; label = label.now; bytes = [] }) }) }
         ensures kept { OnErr result (self.new ≡ record self.old { faults = self.new.faults }) }
         ensures failed { OnErr result (Rose self.old.faults self.new.faults) }

@@ -1,6 +1,6 @@
 //! What a device learns from the agent's answers.
 
-ghost use Rattle.std.specs.Prelude.{◌≡◌, ◌≤◌, Some, false, not, option_map, true};
+ghost use Rattle.std.specs.Prelude.{◌≡◌, Some, false, not, option_map, true};
 ghost use Rattle.fd_core.specs.States.{progress_of};
 ghost use Rattle.fd_core.specs.declared.states.Progress.TheVariants.{InProgress, Succeeded};
 ghost use Rattle.std.specs.Result.{result_ok};

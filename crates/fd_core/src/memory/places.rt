@@ -1,6 +1,6 @@
 //! The areas in which a bank in memory keeps a component's images.
 
-ghost use Rattle.std.specs.Prelude.{◌≡◌, ◌+◌, ◌<◌, ◌≤◌, [], IfOk, None, OnErr, OnOk, Some, length, option_map};
+ghost use Rattle.std.specs.Prelude.{◌≡◌, ◌+◌, ◌<◌, ◌≤◌, [], IfOk, None, OnErr, OnOk, length, option_map};
 ghost use Rattle.fd_core.specs.Areas.{activated, appended, applied_spare, begun, forgotten, image_at, is_taken, longer, no_area, numbers_by, row_by, shape_of, spare_of, written};
 ghost use Rattle.fd_core.specs.Images.{same_key};
 

@@ -11,5 +11,5 @@ invariant_of-self c =
 pub returns : goal.returns
 returns c = record {
   bank = bank_forgotten c.self.inside.places.len c.self.inside.places.items c.as_mut_slice.result.now c.forget_all.new.places c.self.inside.staged c.self.inside.faults c.args.self.now
-  c.self.view_is c.as_mut_slice.ensures.value c.forget_all.ensures (omega arith);
+      c.self.view_is c.as_mut_slice.ensures.value c.forget_all.ensures (omega arith);
 }

@@ -4,10 +4,11 @@ ghost use Rattle.std.specs.Prelude.{◌≡◌, ◌∷◌, [], IfOk, map};
 ghost use Rattle.fd_core.specs.Images.{key_of};
 
 use crate::bank::{Bank, BankFault};
-use crate::{Component, Device, Key, Label, MemBank, Verdict};
+use crate::{Component, Device, Key, Label, MAX_IMAGE, MemBank, Progress, Verdict};
 use arrayvec::ArrayVec;
 use fwup_wire::code::command::{
-    ACTIVATE_FIRMWARE, PASS_COMPONENT_TABLE, REQUEST_UPDATE, UPDATE_COMPONENT,
+    ACTIVATE_FIRMWARE, APPLY_COMPLETE, GET_STATUS, PASS_COMPONENT_TABLE, REQUEST_UPDATE,
+    TRANSFER_COMPLETE, UPDATE_COMPONENT, VERIFY_COMPLETE,
 };
 use fwup_wire::{Answer, Command, Descriptor, DescriptorList, Text, Version, read};
 use pldm_base::Reply;
@@ -205,4 +206,105 @@ pub fn advance_between<B: Bank>(device: &mut Device<B>, from: usize, to: usize, 
     for place in from..to {
         step(device, place, size);
     }
+}
+
+/// The number of the device's state.
+pub fn number<B: Bank>(device: &Device<B>) -> u8 {
+    device.state() as u8
+}
+
+/// Whether the device has the bytes of its image and nothing to ask any more.
+pub fn is_done<B: Bank>(device: &Device<B>) -> bool {
+    device.progress() == Some(Progress::Succeeded)
+}
+
+/// The status of the device: state, previous state, aux, its status, and the reason.
+pub fn status<B: Bank>(device: &mut Device<B>) -> [u8; 5] {
+    let reply = ask(device, GET_STATUS, &[], true);
+    match reply.as_slice() {
+        [
+            0,
+            state,
+            previous,
+            aux,
+            aux_status,
+            0x65,
+            reason,
+            _,
+            0,
+            0,
+            0,
+        ] => { [*state, *previous, *aux, *aux_status, *reason] }
+        _ => [0xFF; 5],
+    }
+}
+
+/// The report that the device wishes to make: its command and its result.
+pub fn report<B: Bank>(device: &Device<B>) -> Option<(u8, u8)> {
+    match device.wish() {
+        Some(Command::TransferComplete { result }) => Some((TRANSFER_COMPLETE, result)),
+        Some(Command::VerifyComplete { result }) => Some((VERIFY_COMPLETE, result)),
+        Some(Command::ApplyComplete { result, .. }) => Some((APPLY_COMPLETE, result)),
+        _ => None,
+    }
+}
+
+/// Whether the device wishes anything.
+pub fn wishes<B: Bank>(device: &Device<B>) -> bool {
+    device.wish().is_some()
+}
+
+/// So many ticks pass.
+pub fn pass<B: Bank>(device: &mut Device<B>, ticks: u32) {
+    for _ in 0..ticks {
+        device.idle_tick();
+    }
+}
+
+/// Whether a component is applied.
+pub fn has_applied<B: Bank>(device: &Device<B>) -> bool {
+    device.bank().applied(KEY).is_some()
+}
+
+/// Whether the bank runs the first `size` bytes of the image, of which byte `i` is `i mod 256`.
+pub fn runs<B: Bank>(device: &Device<B>, size: u32) -> bool {
+    match device.bank().active(KEY) {
+        None => false,
+        Some((_, bytes)) => is_image(bytes, size as usize),
+    }
+}
+
+/// Whether the bank has these bytes applied.
+pub fn is_applied<B: Bank>(device: &Device<B>, size: u32) -> bool {
+    match device.bank().applied(KEY) {
+        None => false,
+        Some((_, bytes)) => is_image(bytes, size as usize),
+    }
+}
+
+fn is_image(bytes: &[u8], size: usize) -> bool {
+    for (i, byte) in bytes.iter().enumerate() {
+        if *byte as usize != i % 256 {
+            return false;
+        }
+    }
+    bytes.len() == size
+}
+
+/// Writes an image of these bytes for the worked component, and applies it where it is to be sealed. Whether all calls
+/// worked.
+pub fn write<B: Bank>(bank: &mut B, image: &[u8], seals: bool) -> bool {
+    if bank.active(KEY).is_none() || image.len() > MAX_IMAGE as usize {
+        return false;
+    }
+    if bank
+        .begin(KEY, image.len() as u32, &label(2, b"v2"))
+        .is_err()
+    {
+        return false;
+    }
+    if bank.put(image).is_err() {
+        return false;
+    }
+    !seals || bank.seal().is_ok()
 }
