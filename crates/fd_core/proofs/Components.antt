@@ -1,5 +1,5 @@
 -- Nothing that happens to a device changes which components it and its bank have.
-use Rattle.std.proofs.Common.{◌≡◌, ◌∷◌, ◌==◌, ◌||◌, is_some, nat_lt, List, [], Bool, true, false, Option, Some, None, map, length, if◌then◌else◌, ap, refl, ◌∙◌}
+use Rattle.std.proofs.Common.{◌≡◌, ◌==◌, is_some, nat_lt, List, Bool, true, false, Option, Some, None, map, length, if◌then◌else◌, ap, refl, ◌∙◌}
 use Rattle.fd_core.specs.Banks.{has_key}
 use Rattle.pldm_base.specs.Codes.{invalid_data}
 use Rattle.fd_core.specs.Codes.{longest_image, not_supported}
@@ -12,7 +12,6 @@ use Rattle.fd_core.specs.declared.states.Progress.TheVariants as progress
 use Rattle.fd_core.specs.declared.states.Verdict.{Verdict}
 use Rattle.fd_core.specs.declared.states.Verdict.TheVariants as verdicts
 use Rattle.fwup_wire.specs.Values.{AnswerOf, CommandOf, EntryOf, OfferOf, RequestOf}
-use Rattle.fwup_wire.specs.declared.values.Key.{Key}
 use Rattle.fd_core.proofs.Rows.{has_row, keys_dropped, keys_sealed, keys_switched}
 use Rattle.fd_core.specs.Components.{HasComponents, IsOneOf}
 

@@ -1,10 +1,10 @@
 -- What the calls of a bank in memory do to what it stands for.
-use Rattle.std.proofs.Common.{[], ◌++◌, ◌≡◌, ◌≤◌, ◌∙◌, ◌∷◌, Bool, IsSome, IsSomeAnd, List, None, Option, Some, ap, append-nil, arith, drop, false, if◌then◌else◌, is_some, length, map, option_map, refl, subst, sym, take, true, ℕ}
-use Rattle.std.proofs.lemmas.List.{drop_all, length-map, map-append, take_all}
+use Rattle.std.proofs.Common.{[], ◌++◌, ◌≡◌, ◌≤◌, ◌∙◌, ◌∷◌, Bool, IsSome, List, None, Option, Some, ap, append-nil, arith, drop, false, if◌then◌else◌, is_some, length, map, option_map, refl, subst, sym, take, true, ℕ}
+use Rattle.std.proofs.lemmas.List.{drop_all, length-map, take_all}
 use Rattle.fd_core.proofs.Places.{has_place, keys_by, numbers_activated, numbers_after_seal, numbers_forgotten, numbers_rewritten, row_for, rows_activated, rows_forgotten, rows_rewritten, rows_sealed, shaped_more, shapes_activated, shapes_applied, shapes_forgotten, shapes_rewritten, stage_rewritten}
-use Rattle.fd_core.specs.Areas.{AreShaped, BankOf, IsBank, IsStagedIn, PlaceOf, activated, appended, applied_spare, bank_by, begun, changed, forgotten, fresh, longer, numbers_by, numbers_dropped, numbers_sealed, numbers_switched, place_for, row_by, shape_of, stage_by, stage_in, stage_of, written}
+use Rattle.fd_core.specs.Areas.{BankOf, IsBank, IsStagedIn, PlaceOf, activated, appended, applied_spare, bank_by, begun, changed, forgotten, fresh, longer, numbers_by, numbers_dropped, numbers_sealed, numbers_switched, place_for, row_by, shape_of, stage_by, stage_in, stage_of, written}
 use Rattle.fd_core.specs.Banks.{has_key}
-use Rattle.fd_core.specs.Images.{LabelOf, RowOf, dropped, key_of, row_of, same_key, sealed_by, staged_with, switched}
+use Rattle.fd_core.specs.Images.{LabelOf, dropped, key_of, row_of, same_key, sealed_by, staged_with, switched}
 use Rattle.fwup_wire.specs.declared.values.Key.{Key}
 
 -- what is written over all places stands in place of all

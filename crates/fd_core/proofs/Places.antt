@@ -1,11 +1,11 @@
 -- What the calls of a bank in memory do to its components.
-use Rattle.std.proofs.Common.{[], ◌++◌, ◌<◌, ◌==◌, ◌≡◌, ◌≢◌, ◌≤◌, ◌||◌, ◌∙◌, ◌∷◌, Bool, IsSome, List, None, Option, Some, ap, append-nil, arith, drop, false, get_or, if◌then◌else◌, is_some, length, map, option_map, refl, set, suc, subst, sym, take, true, zero, ℕ}
+use Rattle.std.proofs.Common.{[], ◌++◌, ◌<◌, ◌≡◌, ◌≢◌, ◌∙◌, ◌∷◌, Bool, IsSome, List, None, Option, Some, ap, arith, false, get_or, if◌then◌else◌, is_some, length, map, option_map, refl, set, suc, subst, sym, true, zero, ℕ}
 use Rattle.std.proofs.lemmas.Bool.{ne_eqb, or_parts}
 use Rattle.std.proofs.lemmas.List.{get_or-set_other, get_or-set_same, get_or_default, length-set, map-append}
 use Rattle.fd_core.proofs.Rows.{absent_more, absent_sealed, has_row, same_both, same_means}
-use Rattle.fd_core.specs.Areas.{AreShaped, AreaOf, PlaceOf, ShapeOf, active_to, activated, activated_to, applied_if, applied_spare, area_at, changed, changed_if, forgotten, image_at, image_by, no_area, no_place, numbers_applied, numbers_by, numbers_dropped, numbers_for, numbers_switched, place_for, rewritten, row_by, shape_of, spare, spare_of, stage_by, stage_in, stage_of, with_written, written}
+use Rattle.fd_core.specs.Areas.{AreShaped, AreaOf, PlaceOf, ShapeOf, active_to, activated, activated_to, applied_if, applied_spare, changed, changed_if, forgotten, image_at, image_by, no_area, no_place, numbers_applied, numbers_by, numbers_dropped, numbers_for, numbers_switched, place_for, rewritten, row_by, shape_of, spare, spare_of, stage_by, stage_in, stage_of, with_written, written}
 use Rattle.fd_core.specs.Banks.{has_key}
-use Rattle.fd_core.specs.Images.{ImageOf, RowOf, dropped, key_of, row_of, same_key, sealed, sealed_by, switched, turned}
+use Rattle.fd_core.specs.Images.{RowOf, dropped, key_of, row_of, same_key, sealed, sealed_by, switched, turned}
 use Rattle.fwup_wire.specs.declared.values.Key.{Key}
 
 -- the spare area is neither active nor applied

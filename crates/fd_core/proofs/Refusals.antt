@@ -1,6 +1,6 @@
 -- A command that is answered by a refusal is taken as one, row by row.
-use Rattle.std.proofs.Common.{◌≡◌, Bool, ap, refl, true, ℕ}
-use Rattle.fwup_wire.specs.Values.{AnswerOf, CommandOf, EntryOf, OfferOf, RequestOf}
+use Rattle.std.proofs.Common.{◌≡◌, Bool, ap, refl, true}
+use Rattle.fwup_wire.specs.Values.{CommandOf, EntryOf, OfferOf, RequestOf}
 use Rattle.fd_core.specs.Commands.{CancelRow, OfferRow, RequestRow, ReturnRow, SwitchRow, TableRow, Taken, cancel_by, cancel_row, device_take, offer_by, offer_row, request_by, request_row, return_by, return_row, switch_by, switch_row, table_by, table_row, told}
 use Rattle.fd_core.specs.Laws.{RefusalsActivateNothing, RefusalsKeepTheDevice, RefusalsStirNothing, refuses}
 use Rattle.fd_core.specs.States.{DeviceState, rested}

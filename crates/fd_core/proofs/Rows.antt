@@ -1,8 +1,8 @@
 -- Lemmas on the components of a bank.
-use Rattle.std.proofs.Common.{[], ◌++◌, ◌<◌, ◌==◌, ◌≤◌, ◌||◌, ◌∙◌, ◌∷◌, ◌≡◌, Bool, if◌then◌else◌, List, None, Option, Some, ap, append-nil, arith, drop, false, get_or, is_some, length, map, inl, inr, refl, set, subst, suc, sym, take, true, zero, ℕ}
+use Rattle.std.proofs.Common.{[], ◌++◌, ◌==◌, ◌||◌, ◌∷◌, ◌≡◌, Bool, if◌then◌else◌, List, None, Option, Some, ap, false, is_some, map, inl, inr, refl, sym, true, ℕ}
 use Rattle.std.proofs.lemmas.Bool.{and_parts, eqb-true, ne_eqb, or_from, or_parts}
 use Rattle.std.proofs.lemmas.Bool.Decides.{eqb_tells}
-use Rattle.std.proofs.lemmas.List.{drop_all, length-map, map-append, take_all}
+use Rattle.std.proofs.lemmas.List.{map-append}
 use Rattle.fd_core.specs.Banks.{AreApart, has_key}
 use Rattle.fd_core.specs.Images.{ImageOf, RowOf, dropped, key_of, row_of, same_key, sealed, sealed_if, switched, turned_to}
 use Rattle.fwup_wire.specs.declared.values.Key.{Key}

@@ -1,7 +1,7 @@
-use Rattle.std.proofs.Common.{IsSome, Some, arith}
+use Rattle.std.proofs.Common.{Some, arith}
 use Rattle.fd_core.proofs.MemBanks.{bank_begun, bank_kept, known_in, staged_known}
 use Rattle.fd_core.proofs.Places.{shapes_rewritten}
-use Rattle.fd_core.specs.Areas.{fresh, place_for}
+use Rattle.fd_core.specs.Areas.{fresh}
 use Rattle.fd_core.proofs.memory.MemBankBank.begin.Goals as goal
 
 pub begin_at-requires-clause-known : goal.begin_at-requires-clause-known
