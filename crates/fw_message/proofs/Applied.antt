@@ -1,6 +1,6 @@
 -- What is applied, component by component.
 use Rattle.std.proofs.Common.{◌≡◌, ◌∷◌, ◌==◌, true, false, List, [], Some, map, ℕ, inl, inr, refl, sym}
-use Rattle.std.proofs.lemmas.Bool.{ne_eqb, or_parts}
+use Rattle.std.proofs.lemmas.Bool.{or_parts}
 use Rattle.std.proofs.lemmas.Bool.Decides.{eqb_tells}
 use Rattle.fd_core.specs.Banks.{AreApart, has_key}
 use Rattle.fd_core.specs.Images.{RowOf, key_of, puts, row_of, same_key}

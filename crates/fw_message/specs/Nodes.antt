@@ -1,9 +1,7 @@
 -- A device with its session as the world keeps them.
-use Rattle.std.specs.Prelude.{◌≡◌, ◌<◌, ◌⊎◌, ◌^◌, ◌-◌, ◌&&◌, ℕ, Bool, false, is_some, not, true, List, [], Option, Some, None, map}
-use Rattle.fd_core.specs.Banks.{AreApart, has_key}
-use Rattle.fd_core.specs.Images.{Put, key_of, puts}
-use Rattle.fd_core.specs.States.{DeviceState, Phase}
-use Rattle.fwup_wire.specs.declared.values.Key.{Key}
+use Rattle.std.specs.Prelude.{◌&&◌, ℕ, Bool, false, is_some, not, true, List, [], Option, Some, None}
+use Rattle.fd_core.specs.Images.{Put, puts}
+use Rattle.fd_core.specs.States.{DeviceState}
 use Rattle.fw_message.specs.Pairs.{HeldOf, PairOf, is_empty}
 use Rattle.fwup_wire.specs.Values.{AnswerOf, CommandOf}
 use Rattle.fw_message.specs.Worlds.{NodeOf}
