@@ -1,8 +1,8 @@
 -- Each command is answered by an answer to it.
-use Rattle.std.proofs.Common.{◌≡◌, ◌==◌, Bool, true, false, if◌then◌else◌, refl}
+use Rattle.std.proofs.Common.{◌≡◌, Bool, true, refl}
 use Rattle.fwup_wire.specs.Answers.{answers_command}
 use Rattle.fwup_wire.specs.Commands.{command_code}
-use Rattle.fwup_wire.specs.Values.{AnswerOf, CommandOf, EntryOf, OfferOf, RequestOf}
+use Rattle.fwup_wire.specs.Values.{CommandOf, EntryOf, OfferOf, RequestOf}
 use Rattle.fd_core.specs.Commands.{CancelRow, OfferRow, RequestRow, ReturnRow, SwitchRow, TableRow, cancel_by, cancel_row, device_answer, offer_by, offer_row, request_by, request_row, return_by, return_row, switch_by, switch_row, table_by, table_row}
 use Rattle.fd_core.specs.States.{DeviceState}
 

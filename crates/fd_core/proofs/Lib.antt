@@ -1,4 +1,7 @@
 mod Answering
+pub mod Components
+mod MemBanks
 mod Parameters
+mod Places
 mod Refusals
-mod Rows
+pub mod Rows

@@ -1,8 +1,8 @@
 -- Lemmas on the components of a bank.
-use Rattle.std.proofs.Common.{[], ◌++◌, ◌<◌, ◌==◌, ◌≤◌, ◌||◌, ◌∙◌, ◌∷◌, ◌≡◌, Bool, if◌then◌else◌, List, None, Option, Some, ap, append-nil, arith, drop, false, get_or, is_some, length, map, inl, inr, refl, set, subst, suc, sym, take, true, zero, ℕ}
+use Rattle.std.proofs.Common.{[], ◌++◌, ◌==◌, ◌||◌, ◌∷◌, ◌≡◌, Bool, if◌then◌else◌, List, None, Option, Some, ap, false, is_some, map, inl, inr, refl, sym, true, ℕ}
 use Rattle.std.proofs.lemmas.Bool.{and_parts, eqb-true, ne_eqb, or_from, or_parts}
 use Rattle.std.proofs.lemmas.Bool.Decides.{eqb_tells}
-use Rattle.std.proofs.lemmas.List.{drop_all, length-map, map-append, take_all}
+use Rattle.std.proofs.lemmas.List.{map-append}
 use Rattle.fd_core.specs.Banks.{AreApart, has_key}
 use Rattle.fd_core.specs.Images.{ImageOf, RowOf, dropped, key_of, row_of, same_key, sealed, sealed_if, switched, turned_to}
 use Rattle.fwup_wire.specs.declared.values.Key.{Key}
@@ -45,10 +45,10 @@ equal_both a b =
       | inr other ↦ rw (other.0, ne_eqb b a (λ e. other.1 (sym e))) refl
     ]
 
-same_both : (a b : Key) → same_key a b ≡ same_key b a
+pub same_both : (a b : Key) → same_key a b ≡ same_key b a
 same_both a b = rw (equal_both a.classification b.classification, equal_both a.identifier b.identifier) refl
 
-same_means : (a b : Key) → same_key a b ≡ true → a ≡ b
+pub same_means : (a b : Key) → same_key a b ≡ true → a ≡ b
 same_means a b e =
     let parts = and_parts (a.classification == b.classification) (a.identifier == b.identifier) e in
     let classification : a.classification ≡ b.classification = eqb-true a.classification b.classification parts.0 in
@@ -59,7 +59,7 @@ same_means a b e =
     here
 
 -- one more key keeps them apart
-absent_more : (ks : List Key) (k new : Key) → has_key ks k ≡ false → same_key k new ≡ false → has_key (ks ++ new ∷ []) k ≡ false
+pub absent_more : (ks : List Key) (k new : Key) → has_key ks k ≡ false → same_key k new ≡ false → has_key (ks ++ new ∷ []) k ≡ false
 absent_more [] k new e other = or_from (same_key new k) false (rw (same_both new k) other) refl
 absent_more (x ∷ ks) k new e other =
     let parts = or_parts (same_key x k) (has_key ks k) e in
@@ -76,24 +76,8 @@ pub apart_more : (rows : List RowOf) (row : RowOf) → AreApart (map key_of rows
 apart_more rows row apart e = rw (map-append key_of rows (row ∷ [])) (apart_keys (map key_of rows) row.key apart e)
 
 -- only the components of the key change, and there is one
-absent_sealed : (rows : List RowOf) (key : Key) (image : ImageOf) → has_key (map key_of rows) key ≡ false → sealed rows key image ≡ rows
+pub absent_sealed : (rows : List RowOf) (key : Key) (image : ImageOf) → has_key (map key_of rows) key ≡ false → sealed rows key image ≡ rows
 absent_sealed [] key image e = refl
 absent_sealed (row ∷ rows) key image e =
     let parts = or_parts (same_key row.key key) (has_key (map key_of rows) key) e in
     rw (parts.0, absent_sealed rows key image parts.1) refl
-
-pub sealed_here : (rows : List RowOf) (i : ℕ) (key : Key) (image : ImageOf) (d : RowOf) → AreApart (map key_of rows)
-    → i < length rows → same_key (get_or rows i d).key key ≡ true
-    → set rows i (record (get_or rows i d) { applied = Some image }) ≡ take i rows ++ sealed (drop i rows) key image
-sealed_here [] i key image d apart lt e = absurd (omega arith)
-sealed_here (row ∷ rows) zero key image d apart lt e =
-    let absent = subst (λ k. has_key (map key_of rows) k ≡ false) (same_means row.key key e) apart.0 in
-    rw (e, absent_sealed rows key image absent) refl
-sealed_here (row ∷ rows) (suc i) key image d apart lt e = ap (λ rs. row ∷ rs) (sealed_here rows i key image d apart.1 (omega arith) e)
-
--- what is written over all components keeps them apart, where it keeps their keys
-pub apart_kept : (n : ℕ) (rows now ys : List RowOf) → AreApart (map key_of rows) → now ≡ rows → map key_of ys ≡ map key_of now
-    → length rows ≤ n → AreApart (map key_of (take n (ys ++ drop (length ys) rows)))
-apart_kept n rows now ys apart same keys whole =
-    let long : length ys ≡ length rows = sym (length-map ys key_of) ∙ ap length keys ∙ length-map now key_of ∙ ap length same in
-    rw (drop_all (length ys) rows (omega (arith, long)), append-nil ys, take_all n ys (omega (arith, long)), keys, same) apart

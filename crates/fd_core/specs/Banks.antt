@@ -1,13 +1,7 @@
--- What a bank in memory stands for.
-use Rattle.std.specs.Prelude.{[], ◌||◌, ◌∷◌, ◌≡◌, Bool, List, Option, false, ℕ}
-use Rattle.fd_core.specs.Images.{RowOf, StageOf, same_key}
+-- Which components a bank has, and how it counts its failures.
+use Rattle.std.specs.Prelude.{[], ◌||◌, ◌∷◌, ◌≡◌, ◌+◌, ◌-◌, ◌^◌, ◌⊎◌, Bool, List, false, ℕ}
+use Rattle.fd_core.specs.Images.{same_key}
 use Rattle.fwup_wire.specs.declared.values.Key.{Key}
-
--- its components, its stage, and how often it failed
-pub record BankOf : Type 0 where
-  pub rows : List RowOf
-  pub stage : Option StageOf
-  pub faults : ℕ
 
 abbrev pub has_key : List Key → Key → Bool
 has_key [] key = false
@@ -17,3 +11,7 @@ has_key (k ∷ ks) key = same_key k key || has_key ks key
 abbrev pub AreApart : List Key → Type 0
 AreApart [] = Unit {0}
 AreApart (k ∷ ks) = (has_key ks k ≡ false) × AreApart ks
+
+-- a call failed: the count of failures rose by one, or stays at its last value
+abbrev pub Rose : ℕ → ℕ → Type 0
+Rose old new = (new ≡ old + 1) ⊎ ((old ≡ 2 ^ 64 - 1) × (new ≡ old))

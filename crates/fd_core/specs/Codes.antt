@@ -17,6 +17,13 @@ incomplete_update = 0x85
 abbrev pub activation_not_required : ℕ
 activation_not_required = 0x8B
 
+-- compatibility of a component's response
+abbrev pub can_be_updated : ℕ
+can_be_updated = 0
+
+abbrev pub cannot_be_updated : ℕ
+cannot_be_updated = 1
+
 -- codes of a component's response
 abbrev pub no_restriction : ℕ
 no_restriction = 0

@@ -1,8 +1,8 @@
 -- How a device takes commands (DSP0267 1.0): for each command a row says what is refused and what is done, and what the
 -- row does. In a row the tests stand in their order. `quiet` says that the device has no request of its own under way,
 -- `works` that the one call of the bank that a row makes succeeds.
-use Rattle.std.specs.Prelude.{[], ◌&&◌, ◌-◌, ◌<◌, ◌^◌, ◌≡◌, ◌⊎◌, ◌+◌, ◌++◌, ◌==◌, ◌||◌, ◌∷◌, Bool, List, None, Option, Some, false, if◌then◌else◌, is_some, length, map, nat_lt, not, true, ℕ}
-use Rattle.fd_core.specs.Codes.{activation_not_required, already_in_update_mode, application_failed, incomplete_update, invalid_state_for_command, least_length, longest_image, most_components, no_restriction, no_stamp, not_in_update_mode, not_supported, progress_unsupported, stamp_identical, stamp_lower, transfer_failed, verification_failed}
+use Rattle.std.specs.Prelude.{[], ◌&&◌, ◌≡◌, ◌+◌, ◌++◌, ◌==◌, ◌||◌, ◌∷◌, Bool, List, None, Option, Some, false, if◌then◌else◌, is_some, length, map, nat_lt, not, true, ℕ}
+use Rattle.fd_core.specs.Codes.{activation_not_required, already_in_update_mode, application_failed, can_be_updated, cannot_be_updated, incomplete_update, invalid_state_for_command, least_length, longest_image, most_components, no_restriction, no_stamp, not_in_update_mode, not_supported, progress_unsupported, stamp_identical, stamp_lower, transfer_failed, verification_failed}
 use Rattle.fd_core.specs.Images.{Put, RowOf, applied_of, active_of, dropped, label_of, puts, row_of, same_key, switched, version_at}
 use Rattle.fd_core.specs.States.{DeviceState, DeviceOf, Phase, UpdateOf, WorkOf, moved, reset, rested, state_of}
 use Rattle.fd_core.specs.declared.parts.Component.{Component}
@@ -122,7 +122,7 @@ listed v u = if length u.table == u.components then moved v (Phase.Ready u) else
 
 -- whether something stands against a component, and what
 abbrev pub table_response : ℕ → TableResponse
-table_response code = record { response = if code == no_restriction then 0 else 1; code = code }
+table_response code = record { response = if code == no_restriction then can_be_updated else cannot_be_updated; code = code }
 
 abbrev pub table_by : DeviceState → EntryOf → TableRow → Taken
 table_by v e (TableRow.RefuseEntry code) = refused v code
@@ -169,10 +169,10 @@ abbrev pub download_progress : ℕ → ℕ → Progress
 download_progress have size = if nat_lt have size then progress.InProgress else progress.Succeeded
 
 abbrev pub declined : ℕ → OfferResponse
-declined code = record { compatibility = 1; code = code; force = false; time = 0 }
+declined code = record { compatibility = cannot_be_updated; code = code; force = false; time = 0 }
 
 abbrev pub taken_up : Bool → OfferResponse
-taken_up force = record { compatibility = 0; code = 0; force = force; time = 0 }
+taken_up force = record { compatibility = can_be_updated; code = no_restriction; force = force; time = 0 }
 
 abbrev pub offer_by : DeviceState → OfferOf → OfferRow → Taken
 offer_by v o (OfferRow.RefuseOffer code) = refused v code
@@ -380,7 +380,3 @@ answer_works a = true
 abbrev pub bytes_work : List ℕ → Bool
 bytes_work [] = true
 bytes_work (code ∷ fields) = not (code == error)
-
--- the bank failed, and its count rose or stands at its last value
-abbrev pub Rose : DeviceOf → DeviceOf → Type 0
-Rose old new = (old.faults < new.faults) ⊎ (new.faults ≡ 2 ^ 64 - 1)

@@ -1,24 +1,31 @@
 -- What holds of every device, whatever command it takes.
-use Rattle.std.specs.Prelude.{[], ◌≡◌, Bool, ℕ}
+use Rattle.std.specs.Prelude.{[], ◌==◌, ◌≡◌, Bool, false, true, ℕ}
+use Rattle.fd_core.specs.Codes.{cannot_be_updated}
 use Rattle.fd_core.specs.Commands.{activated_by, device_after, device_answer, idle_after}
 use Rattle.fd_core.specs.States.{DeviceState}
 use Rattle.fwup_wire.specs.Values.{AnswerOf, CommandOf}
 
--- a command that is answered by a code alone, with which the device refuses it
-abbrev pub IsRefused : DeviceState → CommandOf → Bool → Bool → ℕ → Type 0
-IsRefused v c quiet works code = device_answer v c quiet works ≡ AnswerOf.Refused code
+-- whether an answer refuses: it is a code alone, or declines the component of an UpdateComponent
+abbrev pub refuses : AnswerOf → Bool
+refuses (AnswerOf.Refused code) = true
+refuses (AnswerOf.UpdateComponent response) = response.compatibility == cannot_be_updated
+refuses a = false
+
+-- a command that the device refuses
+abbrev pub IsRefused : DeviceState → CommandOf → Bool → Bool → Type 0
+IsRefused v c quiet works = refuses (device_answer v c quiet works) ≡ true
 
 -- a command that is refused leaves the device as it is
 abbrev pub RefusalsKeepTheDevice : Type 0
-RefusalsKeepTheDevice = (v : DeviceState) (c : CommandOf) (quiet works : Bool) (code : ℕ) → IsRefused v c quiet works code
+RefusalsKeepTheDevice = (v : DeviceState) (c : CommandOf) (quiet works : Bool) → IsRefused v c quiet works
     → device_after v c quiet works ≡ v
 
 -- it activates nothing
 abbrev pub RefusalsActivateNothing : Type 0
-RefusalsActivateNothing = (v : DeviceState) (c : CommandOf) (quiet works : Bool) (code : ℕ) → IsRefused v c quiet works code
+RefusalsActivateNothing = (v : DeviceState) (c : CommandOf) (quiet works : Bool) → IsRefused v c quiet works
     → activated_by v c quiet works ≡ []
 
 -- and the ticks without a change go on
 abbrev pub RefusalsStirNothing : Type 0
-RefusalsStirNothing = (idle : ℕ) (v : DeviceState) (c : CommandOf) (quiet works : Bool) (code : ℕ)
-    → IsRefused v c quiet works code → idle_after idle v c quiet works ≡ idle
+RefusalsStirNothing = (idle : ℕ) (v : DeviceState) (c : CommandOf) (quiet works : Bool)
+    → IsRefused v c quiet works → idle_after idle v c quiet works ≡ idle

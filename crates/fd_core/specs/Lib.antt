@@ -1,6 +1,8 @@
+pub mod Areas
 pub mod Banks
 pub mod Codes
 pub mod Commands
+pub mod Components
 pub mod Images
 pub mod Laws
 pub mod States

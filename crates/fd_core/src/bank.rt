@@ -1,7 +1,8 @@
 //! Where a device keeps its images.
 
-ghost use Rattle.std.specs.Prelude.{◌≡◌, ◌+◌, ◌^◌, ◌-◌, ◌<◌, ◌≤◌, ◌⊎◌, [], List, None, ℕ, length, Option, Some, IsSome, IsSomeAnd, OnOk, OnErr, is_some};
-ghost use Rattle.std.specs.Prelude.{option_map};
+ghost use Rattle.std.specs.Prelude.{◌≡◌, ◌+◌, ◌≤◌, [], List, None, ℕ, length, Option, Some, IsSome, IsSomeAnd, OnOk, OnErr, is_some, option_map};
+ghost use Rattle.fd_core.specs.Banks.{Rose};
+ghost use Rattle.fd_core.specs.Codes.{longest_image};
 ghost use Rattle.fd_core.specs.Images.{RowOf, StageOf, active_of, applied_of, dropped, row_of, sealed_by, staged_with, switched};
 
 use crate::labels::Label;
@@ -23,8 +24,8 @@ pub enum BankFault {
 /// and at most one that was applied and runs next; and at most one stage, an image that is being written. Its
 /// components never change.
 ///
-/// A fault changes neither images nor stage, and is answered only where `failures` rose in that call or stands at its
-/// last value, 2^64 - 1.
+/// A call that fails changes neither images nor stage, and `failures` rises by one, or stays at its last value, 2^64 - 1.
+/// In any other call it stays.
 pub trait Bank {
     ghost rows: { Self → List RowOf };
 
@@ -45,12 +46,12 @@ pub trait Bank {
     /// A new stage, which is empty, for an image of `size` bytes, at most `MAX_IMAGE`.
     fn begin(&mut self, key: Key, size: u32, label: &Label) -> Result<(), BankFault>
         requires known { IsSome (row_of (rows self.old) key) }
-        requires size { size ≤ 1048576 }
+        requires size { size ≤ longest_image }
         ensures rows { rows self.new ≡ rows self.old }
         ensures ok { OnOk result (stage self.new ≡ Some (record { key = key; size = size; label = label.now; bytes = [] })) }
         ensures kept { OnErr result (stage self.new ≡ stage self.old) }
-        ensures err { OnErr result ((faults self.old < faults self.new) ⊎ (faults self.new ≡ 2 ^ 64 - 1)) }
-        ensures rise { faults self.old ≤ faults self.new };
+        ensures worked { OnOk result (faults self.new ≡ faults self.old) }
+        ensures failed { OnErr result (Rose (faults self.old) (faults self.new)) };
 
     /// Appends to the stage.
     fn put(&mut self, piece: &[u8]) -> Result<(), BankFault>
@@ -58,23 +59,23 @@ pub trait Bank {
         ensures rows { rows self.new ≡ rows self.old }
         ensures ok { OnOk result (stage self.new ≡ staged_with (stage self.old) piece.now) }
         ensures kept { OnErr result (stage self.new ≡ stage self.old) }
-        ensures err { OnErr result ((faults self.old < faults self.new) ⊎ (faults self.new ≡ 2 ^ 64 - 1)) }
-        ensures rise { faults self.old ≤ faults self.new };
+        ensures worked { OnOk result (faults self.new ≡ faults self.old) }
+        ensures failed { OnErr result (Rose (faults self.old) (faults self.new)) };
 
     /// The full stage becomes the image that is applied for its component.
     fn seal(&mut self) -> Result<(), BankFault>
         requires { IsSomeAnd (stage self.old) (λ s. length s.bytes ≡ s.size) }
         ensures ok { OnOk result ((rows self.new ≡ sealed_by (rows self.old) (stage self.old)) × (stage self.new ≡ None)) }
         ensures kept { OnErr result ((rows self.new ≡ rows self.old) × (stage self.new ≡ stage self.old)) }
-        ensures err { OnErr result ((faults self.old < faults self.new) ⊎ (faults self.new ≡ 2 ^ 64 - 1)) }
-        ensures rise { faults self.old ≤ faults self.new };
+        ensures worked { OnOk result (faults self.new ≡ faults self.old) }
+        ensures failed { OnErr result (Rose (faults self.old) (faults self.new)) };
 
     /// All applied images run, and nothing is applied or staged: wholly or not at all.
     fn switch(&mut self) -> Result<(), BankFault>
         ensures ok { OnOk result ((rows self.new ≡ switched (rows self.old)) × (stage self.new ≡ None)) }
         ensures kept { OnErr result ((rows self.new ≡ rows self.old) × (stage self.new ≡ stage self.old)) }
-        ensures err { OnErr result ((faults self.old < faults self.new) ⊎ (faults self.new ≡ 2 ^ 64 - 1)) }
-        ensures rise { faults self.old ≤ faults self.new };
+        ensures worked { OnOk result (faults self.new ≡ faults self.old) }
+        ensures failed { OnErr result (Rose (faults self.old) (faults self.new)) };
 
     /// Nothing is applied or staged.
     fn drop_pending(&mut self)

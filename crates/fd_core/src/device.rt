@@ -1,7 +1,8 @@
 //! A device over a bank.
 
-ghost use Rattle.std.specs.Prelude.{◌≡◌, ◌≤◌, ◌<◌, OnErr, OnOk, Some, is_ok, is_some, map, not, length, true, false};
-ghost use Rattle.fd_core.specs.Commands.{Rose, bytes_work, device_after, device_answer, idle_after};
+ghost use Rattle.std.specs.Prelude.{◌≡◌, ◌≢◌, ◌<◌, OnErr, OnOk, Some, is_ok, is_some, map, not, length, true, false};
+ghost use Rattle.fd_core.specs.Banks.{Rose};
+ghost use Rattle.fd_core.specs.Commands.{bytes_work, device_after, device_answer, idle_after};
 ghost use Rattle.fd_core.specs.States.{DeviceOf, IsWhole, new_device, progress_of, reset, rested, staged_of, state_of};
 ghost use Rattle.fd_core.specs.Steps.{device_restart, device_tick, device_verdict, verdict_after};
 ghost use Rattle.fd_core.specs.Wishes.{has_failed};
@@ -16,7 +17,7 @@ use crate::labels::Label;
 use crate::parts::{Component, Course, MAX_COMPONENTS, NO_KEY, Update, Work};
 use crate::states::{NotNow, Progress, Reason, State, Verdict};
 use arrayvec::ArrayVec;
-use fwup_wire::{Answer, Command, DescriptorList, Key, Text, Version, write_answer};
+use fwup_wire::{Answer, Command, DescriptorList, Key, write_answer};
 use pldm_base::Reply;
 use pldm_base::completion::ERROR_UNSUPPORTED_PLDM_CMD;
 use std::marker::Model;
@@ -146,8 +147,8 @@ impl<B: Bank> Device<B> {
         ensures reads { answer_in (command_code (command_of command.now)) result.items ≡ Some (device_answer self.old.device (command_of command.now) quiet (bytes_work result.items)) }
         ensures after { self.new.device ≡ device_after self.old.device (command_of command.now) quiet (bytes_work result.items) }
         ensures idle { self.new.idle ≡ idle_after self.old.idle self.old.device (command_of command.now) quiet (bytes_work result.items) }
-        ensures failed { bytes_work result.items ≡ false → Rose self.old self.new }
-        ensures faults { self.old.faults ≤ self.new.faults }
+        ensures worked { bytes_work result.items ≡ true → self.new.faults ≡ self.old.faults }
+        ensures failed { bytes_work result.items ≡ false → Rose self.old.faults self.new.faults }
     {
         match command {
             Command::QueryDeviceIdentifiers => {
@@ -180,9 +181,10 @@ impl<B: Bank> Device<B> {
         ensures counts { is_ok result ≡ is_some (device_verdict self.old.device verdict (not (has_failed self.new.device.phase))) }
         ensures after { self.new.device ≡ verdict_after self.old.device verdict (not (has_failed self.new.device.phase)) }
         ensures idle { self.new.idle ≡ rested self.old.idle (is_ok result) }
-        ensures failed { OnOk result (verdict ≡ ApplyOk → has_failed self.new.device.phase ≡ true → Rose self.old self.new) }
+        ensures other { verdict ≢ ApplyOk → self.new.faults ≡ self.old.faults }
+        ensures worked { has_failed self.new.device.phase ≡ false → self.new.faults ≡ self.old.faults }
+        ensures failed { OnOk result (verdict ≡ ApplyOk → has_failed self.new.device.phase ≡ true → Rose self.old.faults self.new.faults) }
         ensures kept { OnErr result (self.new ≡ self.old) }
-        ensures faults { self.old.faults ≤ self.new.faults }
     {
         match (self.course.state, self.course.progress, verdict) {
             (State::Verify, Progress::InProgress, Verdict::VerifyOk) => {
@@ -263,13 +265,7 @@ fn no_work() -> Work {
     Work {
         key: NO_KEY,
         size: 0,
-        label: Label::new(&Version {
-            stamp: 0,
-            text: Text {
-                text_type: 0,
-                bytes: &[],
-            },
-        }),
+        label: Label::empty(),
         force: false,
         received: 0,
     }

@@ -1,10 +1,11 @@
 //! What is kept of an image's version.
 
-ghost use Rattle.std.specs.Prelude.{◌≡◌, ◌≤◌, length};
+ghost use Rattle.std.specs.Prelude.{◌≡◌, ◌≤◌, [], length};
 ghost use Rattle.fd_core.specs.Images.{label_of, version_by};
 ghost use Rattle.fwup_wire.specs.Lent.{version_of};
 
 use arrayvec::ArrayVec;
+use fwup_wire::code::text_type;
 use fwup_wire::{Text, Version};
 use std::marker::Model;
 
@@ -42,6 +43,17 @@ impl Label {
             stamp: version.stamp,
             text_type: version.text.text_type,
             text,
+        }
+    }
+
+    /// The label of no image: stamp 0, text type 0 and no text.
+    pub(crate) fn empty() -> Label
+        ensures { result ≡ record { stamp = 0; text_type = 0; text = [] } }
+    {
+        Label {
+            stamp: 0,
+            text_type: text_type::UNKNOWN,
+            text: ArrayVec::new(),
         }
     }
 

@@ -2,6 +2,7 @@
 
 ghost use Rattle.std.specs.Prelude.{◌≡◌, List, map};
 ghost use Rattle.fd_core.specs.Images.{ImageOf, RowOf, dropped, key_of, sealed, switched};
+ghost use Rattle.fd_core.specs.Components.{AnswersKeepComponents, CommandsKeepComponents, RestartsKeepComponents, TimeOutsKeepComponents, VerdictsKeepComponents};
 ghost use Rattle.fd_core.specs.Laws.{RefusalsActivateNothing, RefusalsKeepTheDevice, RefusalsStirNothing};
 ghost use Rattle.fwup_wire.specs.declared.values.Key.{Key};
 
@@ -13,7 +14,17 @@ pub fn components_stay()
     ensures switched { (rows : List RowOf) → map key_of (switched rows) ≡ map key_of rows }
 {}
 
-/// A command that a device refuses leaves it as it is: it activates nothing, and the ticks without a change go on.
+/// Nothing that happens to a device changes which components it and its bank have. What it updates is one of them.
+pub fn devices_keep_components()
+    ensures commands { CommandsKeepComponents }
+    ensures answers { AnswersKeepComponents }
+    ensures verdicts { VerdictsKeepComponents }
+    ensures timeouts { TimeOutsKeepComponents }
+    ensures restarts { RestartsKeepComponents }
+{}
+
+/// A command that a device refuses, with a code other than 0 or by declining the component of an UpdateComponent, leaves
+/// it as it is: it activates nothing, and the ticks without a change go on.
 pub fn refusals_change_nothing()
     ensures kept { RefusalsKeepTheDevice }
     ensures activated { RefusalsActivateNothing }

@@ -2,11 +2,8 @@
 #![tactic(auto)]
 
 mod bank;
-#[cfg(test)]
-mod bank_tests;
 mod device;
-#[cfg(test)]
-mod fixtures;
+mod failing;
 mod labels;
 mod laws;
 mod memory;
@@ -14,14 +11,13 @@ mod parts;
 mod states;
 #[cfg(test)]
 mod tests;
-#[cfg(test)]
-mod update_tests;
 
 pub use bank::{Bank, BankFault};
 pub use device::Device;
+pub use failing::FailBank;
 pub use fwup_wire::Key;
 pub use labels::{Label, MAX_TEXT};
-pub use laws::{components_stay, refusals_change_nothing};
+pub use laws::{components_stay, devices_keep_components, refusals_change_nothing};
 pub use memory::MemBank;
 pub use parts::{Component, MAX_COMPONENTS, MAX_IMAGE};
 pub use states::{NotNow, Progress, Reason, State, Verdict};

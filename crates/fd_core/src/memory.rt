@@ -1,91 +1,52 @@
 //! A bank that keeps its images in memory.
 
-ghost use Rattle.std.specs.Prelude.{◌≡◌, ◌+◌, ◌≤◌, ◌++◌, ◌∷◌, [], IfErr, None, OnErr, OnOk, Some, false, length, map, option_map};
-ghost use Rattle.fd_core.specs.Banks.{AreApart, BankOf, has_key};
-ghost use Rattle.fd_core.specs.Images.{dropped, image_in, key_of, row_of, same_key, sealed, switched, turned, unapplied};
+ghost use Rattle.std.specs.Prelude.{◌≡◌, ◌+◌, ◌<◌, ◌≤◌, ◌++◌, ◌∷◌, [], IfErr, IfSome, IsOk, IsSome, IsSomeAnd, None, OnErr, OnOk, Some, false, get_or, length, map, option_map, true};
+ghost use Rattle.fd_core.specs.Areas.{AreShaped, BankOf, activated, appended, applied_spare, begun, changed, forgotten, no_place, numbers_dropped, numbers_for, numbers_sealed, numbers_switched, place_for, shape_of, written};
+ghost use Rattle.fd_core.specs.Banks.{Rose, has_key};
+ghost use Rattle.fd_core.specs.Codes.{longest_image};
+ghost use Rattle.fd_core.specs.Images.{dropped, key_of, row_of, same_key, sealed_by, staged_with, switched};
 
 use crate::bank::{Bank, BankFault};
 use crate::labels::Label;
 use fwup_wire::Key;
-use std::alloc::Global;
+use std::alloc::{AllocError, Global};
 use std::marker::Model;
 
-/// An image.
-#[derive(Drop)]
-struct Image {
-    label: Label,
-    bytes: Vec<u8>,
-}
+mod places;
 
-impl Model for Image {
-    ghost use Rattle.fd_core.specs.Images.{ImageOf};
+use places::Place;
 
-    ghost Value = { ImageOf };
-
-    ghost view = { λ i. record { label = i.label; bytes = i.bytes.items } };
-}
-
-/// A component, the image that runs, and the one that runs next.
-#[derive(Drop)]
-struct Place {
-    key: Key,
-    active: Image,
-    applied: Option<Image>,
-}
-
-impl Model for Place {
-    ghost use Rattle.fd_core.specs.Images.{RowOf};
-
-    ghost Value = { RowOf };
-
-    ghost view = { λ p. record { key = p.key; active = p.active; applied = p.applied } };
-}
-
-/// An image that is being written, with the memory of all its bytes.
-#[derive(Drop)]
-struct Stage {
-    key: Key,
-    size: u32,
-    label: Label,
-    bytes: Vec<u8>,
-}
-
-impl Model for Stage {
-    ghost use Rattle.std.specs.Prelude.{◌≤◌, vec_capacity};
-    ghost use Rattle.fd_core.specs.Images.{StageOf};
-
-    ghost Value = { StageOf };
-
-    ghost view = { λ s. record { key = s.key; size = s.size; label = s.label; bytes = s.bytes.items } };
-
-    ghost invariant = { λ s. s.size ≤ vec_capacity s.bytes };
-}
-
-/// A bank in memory. `begin` takes the memory of the whole image, and no other call of `Bank` takes any.
+/// A bank in memory. Each component has three areas: one runs, one may be applied, and one is written. Nothing is copied
+/// when an image is applied or activated, and what is written can't harm what runs or is applied.
+///
+/// `begin` takes the memory of the whole image, where the area hasn't got it yet, and no other call of `Bank` takes any.
 #[derive(Drop)]
 pub struct MemBank {
     alloc: Global,
     places: Vec<Place>,
-    staged: Option<Stage>,
+    /// The component that is being written.
+    staged: Option<Key>,
     faults: u64,
 }
 
 impl Model for MemBank {
     ghost use Rattle.std.specs.Prelude.{map};
-    ghost use Rattle.fd_core.specs.Banks.{AreApart, BankOf};
-    ghost use Rattle.fd_core.specs.Images.{key_of};
+    ghost use Rattle.fd_core.specs.Areas.{BankOf, IsBank, bank_by, shape_of};
 
     ghost Value = { BankOf };
 
-    ghost view = { λ b. record { rows = b.places.items; stage = b.staged; faults = b.faults } };
+    ghost view = { λ b. bank_by b.places.items b.staged b.faults };
 
-    ghost invariant = { λ b. AreApart (map key_of b.places.items) };
+    ghost invariant = { λ b. IsBank (map shape_of b.places.items) b.staged };
 }
 
 impl MemBank {
     /// A bank without components.
     pub fn new(alloc: Global) -> MemBank
-        ensures { result ≡ record { rows = []; stage = None; faults = 0 } }
+        ensures rows { result.rows ≡ [] }
+        ensures stage { result.stage ≡ None }
+        ensures faults { result.faults ≡ 0 }
+        ensures areas { result.areas ≡ [] }
     {
         MemBank {
             alloc,
@@ -95,29 +56,22 @@ impl MemBank {
         }
     }
 
-    /// Adds a component that isn't there, with the image that runs.
+    /// Adds a component that isn't there, with the image that runs, in area 0.
     ///
     /// # Errors
     /// `Memory` where the memory of a component and its image is refused. Then nothing changes.
-    #[tactic(auto, using(crate::proofs::Rows::apart_more))]
+    #[tactic(auto, using(crate::proofs::MemBanks::bank_more, crate::proofs::MemBanks::stage_more))]
     pub fn add(&mut self, key: Key, label: &Label, image: &[u8]) -> Result<(), BankFault>
         requires { has_key (map key_of self.old.rows) key ≡ false }
-        ensures ok { OnOk result (self.new ≡ record self.old { rows = self.old.rows ++ record { key = key; active = record { label = label.now; bytes = image.now }; applied = None } ∷ [] }) }
+        ensures rows { OnOk result (self.new.rows ≡ self.old.rows ++ record { key = key; active = record { label = label.now; bytes = image.now }; applied = None } ∷ []) }
+        ensures areas { OnOk result (self.new.areas ≡ self.old.areas ++ record { key = key; active = 0; applied = None } ∷ []) }
+        ensures stage { self.new.stage ≡ self.old.stage }
+        ensures faults { self.new.faults ≡ self.old.faults }
         ensures kept { OnErr result (self.new ≡ self.old) }
         ensures err { IfErr result (λ e. e ≡ BankFault.Memory) }
     {
-        let mut bytes = Vec::new(self.alloc);
-        let Ok(()) = bytes.extend_from_slice(image) else {
+        let Ok(place) = Place::new(self.alloc, key, label, image) else {
             return Err(BankFault::Memory);
-        };
-        let active = Image {
-            label: label.copied(),
-            bytes,
-        };
-        let place = Place {
-            key,
-            active,
-            applied: None,
         };
         let Ok(()) = self.places.push(place) else {
             return Err(BankFault::Memory);
@@ -126,11 +80,21 @@ impl MemBank {
     }
 
     /// Whether a component is there.
-    #[tactic(auto, using(crate::proofs::Rows::has_row))]
+    #[tactic(auto, using(crate::proofs::Places::found))]
     pub fn has(&self, key: Key) -> bool
         ensures { result ≡ has_key (map key_of self.now.rows) key }
     {
         place_of(&self.places, key).is_some()
+    }
+
+    /// Which of a component's areas, 0 to 2, is active, and which is applied if any. The image that the component was
+    /// added with is in area 0.
+    #[tactic(auto, using(crate::proofs::Places::found))]
+    pub fn areas(&self, key: Key) -> Option<(usize, Option<usize>)>
+        ensures { result ≡ numbers_for self.now.areas key }
+    {
+        let place = place_of(&self.places, key)?;
+        Some(place.numbers())
     }
 }
 
@@ -141,54 +105,72 @@ impl Bank for MemBank {
 
     ghost faults = { λ b. b.faults };
 
+    #[tactic(auto, using(crate::proofs::Places::found))]
     fn active(&self, key: Key) -> Option<(&Label, &[u8])> {
         let place = place_of(&self.places, key)?;
-        Some((&place.active.label, place.active.bytes.as_slice()))
+        Some(place.active())
     }
 
+    #[tactic(auto, using(crate::proofs::Places::found))]
     fn applied(&self, key: Key) -> Option<(&Label, &[u8])> {
         let place = place_of(&self.places, key)?;
-        let image = place.applied.as_ref()?;
-        Some((&image.label, image.bytes.as_slice()))
+        place.applied()
     }
 
-    fn begin(&mut self, key: Key, size: u32, label: &Label) -> Result<(), BankFault> {
-        let Ok(bytes) = Vec::with_capacity(self.alloc, size as usize) else {
+    fn begin(&mut self, key: Key, size: u32, label: &Label) -> Result<(), BankFault>
+        requires known { IsSome (row_of self.old.rows key) }
+        requires size { size ≤ longest_image }
+        ensures ok { OnOk result (self.new ≡ record self.old { stage = Some (record { key = key; size = size; label = label.now; bytes = [] }) }) }
+        ensures kept { OnErr result (self.new ≡ record self.old { faults = self.new.faults }) }
+        ensures failed { OnErr result (Rose self.old.faults self.new.faults) }
+        ensures cause { IfErr result (λ e. e ≡ BankFault.Memory) }
+    {
+        let Ok(()) = begin_at(self.places.as_mut_slice(), key, size, label) else {
             self.faults = self.faults.saturating_add(1);
             return Err(BankFault::Memory);
         };
-        self.staged = Some(Stage {
-            key,
-            size,
-            label: label.copied(),
-            bytes,
-        });
+        self.staged = Some(key);
         Ok(())
     }
 
-    fn put(&mut self, piece: &[u8]) -> Result<(), BankFault> {
-        if let Some(stage) = self.staged.as_mut() {
-            stage.append(piece);
-        }
+    fn put(&mut self, piece: &[u8]) -> Result<(), BankFault>
+        requires { IsSomeAnd self.old.stage (λ s. length s.bytes + length piece.now ≤ s.size) }
+        ensures ok { IsOk result }
+        ensures bank { self.new ≡ record self.old { stage = staged_with self.old.stage piece.now } }
+    {
+        let Some(key) = self.staged else {
+            return Ok(());
+        };
+        append_at(self.places.as_mut_slice(), key, piece);
         Ok(())
     }
 
-    fn seal(&mut self) -> Result<(), BankFault> {
-        if let Some(stage) = self.staged.take() {
-            let key = stage.key;
-            apply_at(self.places.as_mut_slice(), key, stage.into_image());
-        }
-        Ok(())
-    }
-
-    fn switch(&mut self) -> Result<(), BankFault> {
-        turn_all(self.places.as_mut_slice());
+    fn seal(&mut self) -> Result<(), BankFault>
+        requires { IsSomeAnd self.old.stage (λ s. length s.bytes ≡ s.size) }
+        ensures ok { IsOk result }
+        ensures bank { self.new ≡ record self.old { rows = sealed_by self.old.rows self.old.stage; stage = None; areas = numbers_sealed self.old.areas self.old.stage } }
+    {
+        let Some(key) = self.staged else {
+            return Ok(());
+        };
+        apply_at(self.places.as_mut_slice(), key);
         self.staged = None;
         Ok(())
     }
 
-    fn drop_pending(&mut self) {
-        clear_all(self.places.as_mut_slice());
+    fn switch(&mut self) -> Result<(), BankFault>
+        ensures ok { IsOk result }
+        ensures bank { self.new ≡ record self.old { rows = switched self.old.rows; stage = None; areas = numbers_switched self.old.areas } }
+    {
+        activate_all(self.places.as_mut_slice());
+        self.staged = None;
+        Ok(())
+    }
+
+    fn drop_pending(&mut self)
+        ensures bank { self.new ≡ record self.old { rows = dropped self.old.rows; stage = None; areas = numbers_dropped self.old.areas } }
+    {
+        forget_all(self.places.as_mut_slice());
         self.staged = None;
     }
 
@@ -197,61 +179,9 @@ impl Bank for MemBank {
     }
 }
 
-impl Stage {
-    /// Appends to the stage, in the memory that it has.
-    fn append(&mut self, piece: &[u8])
-        requires { length self.old.bytes + length piece.now ≤ self.old.size }
-        ensures { self.new ≡ record self.old { bytes = self.old.bytes ++ piece.now } }
-    {
-        let _ = self.bytes.extend_from_slice(piece);
-    }
-
-    /// The image that was written.
-    fn into_image(self) -> Image
-        ensures { result ≡ image_in self }
-    {
-        Image {
-            label: self.label,
-            bytes: self.bytes,
-        }
-    }
-}
-
-impl Place {
-    /// Nothing runs next here.
-    fn clear(&mut self)
-        ensures { self.new ≡ unapplied self.old }
-    {
-        self.applied = None;
-    }
-
-    /// What runs next here runs.
-    fn turn(&mut self)
-        ensures { self.new ≡ turned self.old }
-    {
-        if let Some(image) = self.applied.take() {
-            self.active = image;
-        }
-    }
-
-    /// The image runs next here.
-    fn apply(&mut self, image: Image)
-        ensures { self.new ≡ record self.old { applied = Some image } }
-    {
-        self.applied = Some(image);
-    }
-
-    /// Whether it is the place of this component.
-    fn is_of(&self, key: Key) -> bool
-        ensures { result ≡ same_key self.now.key key }
-    {
-        self.key == key
-    }
-}
-
 /// The place of a component, if it is there.
 fn place_of(places: &[Place], key: Key) -> Option<&Place>
-    ensures place { option_map (λ p. p.now) result ≡ row_of places.now key }
+    ensures place { option_map (λ p. p.now) result ≡ place_for places.now key }
 {
     for place in places {
         if place.is_of(key) {
@@ -261,33 +191,78 @@ fn place_of(places: &[Place], key: Key) -> Option<&Place>
     None
 }
 
-/// Nothing runs next.
-fn clear_all(places: &mut [Place])
-    ensures { places.new ≡ dropped places.old }
+/// The number of a component's place, if it is there.
+fn position(places: &[Place], key: Key) -> Option<usize>
+    ensures within { IfSome result (λ i. i < length places.now) }
+    ensures found { IfSome result (λ i. same_key (get_or places.now i no_place).key key ≡ true) }
+    ensures none { result ≡ None → place_for places.now key ≡ None }
 {
-    for place in places.iter_mut() {
-        place.clear();
-    }
-}
-
-/// What runs next runs.
-fn turn_all(places: &mut [Place])
-    ensures { places.new ≡ switched places.old }
-{
-    for place in places.iter_mut() {
-        place.turn();
-    }
-}
-
-/// The image runs next for its component.
-fn apply_at(places: &mut [Place], key: Key, image: Image)
-    requires { AreApart (map key_of places.old) }
-    ensures { places.new ≡ sealed places.old key image }
-{
-    for place in places.iter_mut() {
+    for (i, place) in places.iter().enumerate() {
         if place.is_of(key) {
-            place.apply(image);
-            return;
+            return Some(i);
         }
+    }
+    None
+}
+
+/// A new image is written for a component that is there.
+fn begin_at(places: &mut [Place], key: Key, size: u32, label: &Label) -> Result<(), AllocError>
+    requires shaped { AreShaped (map shape_of places.old) }
+    requires known { IsSome (place_for places.old key) }
+    ensures ok { OnOk result (places.new ≡ changed (begun size label.now) key places.old) }
+    ensures kept { OnErr result (places.new ≡ places.old) }
+{
+    let Some(i) = position(places, key) else {
+        return Ok(());
+    };
+    let place = &mut places[i];
+    let Ok(()) = place.begin(size, label) else {
+        return Err(AllocError);
+    };
+    Ok(())
+}
+
+/// Appends to the image that is written for a component.
+#[tactic(auto, using(crate::proofs::Places::found_here))]
+fn append_at(places: &mut [Place], key: Key, piece: &[u8])
+    requires shaped { AreShaped (map shape_of places.old) }
+    requires room { IsSomeAnd (place_for places.old key) (λ p. length (written p).bytes + length piece.now ≤ (written p).size) }
+    ensures { places.new ≡ changed (appended piece.now) key places.old }
+{
+    let Some(i) = position(places, key) else {
+        return;
+    };
+    let place = &mut places[i];
+    place.append(piece);
+}
+
+/// What was written for a component runs next.
+fn apply_at(places: &mut [Place], key: Key)
+    requires shaped { AreShaped (map shape_of places.old) }
+    requires known { IsSome (place_for places.old key) }
+    ensures { places.new ≡ changed applied_spare key places.old }
+{
+    let Some(i) = position(places, key) else {
+        return;
+    };
+    let place = &mut places[i];
+    place.apply();
+}
+
+/// What runs next runs, of each component.
+fn activate_all(places: &mut [Place])
+    ensures { places.new ≡ map activated places.old }
+{
+    for place in places.iter_mut() {
+        place.activate();
+    }
+}
+
+/// Nothing runs next, of each component.
+fn forget_all(places: &mut [Place])
+    ensures { places.new ≡ map forgotten places.old }
+{
+    for place in places.iter_mut() {
+        place.forget();
     }
 }

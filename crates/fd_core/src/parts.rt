@@ -6,7 +6,7 @@ ghost use Rattle.fd_core.specs.declared.states.Progress.TheVariants.{InProgress}
 use crate::labels::Label;
 use crate::states::{Progress, Reason, State};
 use arrayvec::ArrayVec;
-use fwup_wire::Key;
+use fwup_wire::{ComponentOffer, Key};
 
 /// The most components of a device: their parameters fit one answer.
 pub const MAX_COMPONENTS: usize = 3;
@@ -78,6 +78,21 @@ pub struct Work {
     pub label: Label,
     pub force: bool,
     pub received: u32,
+}
+
+impl Work {
+    /// The work that an UpdateComponent begins.
+    pub fn new(offer: &ComponentOffer<'_>, label: Label) -> Work
+        ensures { result ≡ record { key = offer.now.key; size = offer.now.size; label = label; force = offer.now.force; received = 0 } }
+    {
+        Work {
+            key: offer.key,
+            size: offer.size,
+            label,
+            force: offer.force,
+            received: 0,
+        }
+    }
 }
 
 /// Where a device is, how it came there, and the ticks without a change.

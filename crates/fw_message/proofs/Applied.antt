@@ -1,6 +1,6 @@
 -- What is applied, component by component.
 use Rattle.std.proofs.Common.{◌≡◌, ◌∷◌, ◌==◌, true, false, List, [], Some, map, ℕ, inl, inr, refl, sym}
-use Rattle.std.proofs.lemmas.Bool.{ne_eqb, or_parts}
+use Rattle.std.proofs.lemmas.Bool.{or_parts}
 use Rattle.std.proofs.lemmas.Bool.Decides.{eqb_tells}
 use Rattle.fd_core.specs.Banks.{AreApart, has_key}
 use Rattle.fd_core.specs.Images.{RowOf, key_of, puts, row_of, same_key}
@@ -8,7 +8,8 @@ use Rattle.fd_core.specs.States.{DeviceState}
 use Rattle.fd_core.specs.declared.parts.Component.{Component}
 use Rattle.fwup_wire.specs.declared.values.Key.{Key}
 use Rattle.fw_message.specs.Entries.{applied_puts}
-use Rattle.fw_message.specs.Nodes.{HasComponents}
+use Rattle.fd_core.proofs.Rows.{same_both}
+use Rattle.fd_core.specs.Components.{HasComponents}
 
 -- each of these components is found under its key
 abbrev pub AreFound : List RowOf → List RowOf → Type 0
@@ -23,16 +24,6 @@ by_found all (row ∷ rows) (c ∷ cs) keys found =
     let here : row.key ≡ c.key = cc in
     let rest : map key_of rows ≡ map (λ c. c.key) cs = cc in
     rw (sym here, found.0, by_found all rows cs rest found.1) refl
-
-equal_both : (a b : ℕ) → (a == b) ≡ (b == a)
-equal_both a b =
-    elim (eqb_tells a b) [
-      | inl same ↦ rw same.1 refl
-      | inr other ↦ rw (other.0, ne_eqb b a (λ e. other.1 (sym e))) refl
-    ]
-
-same_both : (a b : Key) → same_key a b ≡ same_key b a
-same_both a b = rw (equal_both a.classification b.classification, equal_both a.identifier b.identifier) refl
 
 equal_self : (a : ℕ) → (a == a) ≡ true
 equal_self a = elim (eqb_tells a a) [ inl same ↦ same.0 | inr other ↦ absurd (other.1 refl) ]

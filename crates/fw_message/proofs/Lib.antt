@@ -2,7 +2,6 @@ mod Activating
 mod Allowing
 mod Applied
 mod Closings
-mod Components
 mod Finding
 mod Noting
 mod Openings

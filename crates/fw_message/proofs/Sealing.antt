@@ -8,7 +8,7 @@ use Rattle.fd_core.specs.Steps.{applied_by, device_verdict, verdict_after, verdi
 use Rattle.fd_core.specs.declared.states.Progress.TheVariants as progress
 use Rattle.fd_core.specs.declared.states.Verdict.TheVariants as verdicts
 use Rattle.fwup_wire.specs.declared.values.Key.{Key}
-use Rattle.fw_message.specs.Nodes.{HasComponents, IsOneOf}
+use Rattle.fd_core.specs.Components.{HasComponents, IsOneOf}
 
 sealed_row : (b : Bool) (row : RowOf) (rows : List RowOf) (key : Key) (image : ImageOf) → same_key row.key key ≡ b → (b || has_key (map key_of rows) key) ≡ true
     → (has_key (map key_of rows) key ≡ true → applied_of (row_of (sealed rows key image) key) ≡ Some image)

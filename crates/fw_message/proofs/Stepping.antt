@@ -3,7 +3,8 @@ use Rattle.std.proofs.Common.{◌≡◌, ◌∷◌, ◌⊎◌, inl, inr, ℕ, ze
 use Rattle.std.specs.Prelude.{option_map, slice_get}
 use Rattle.std.proofs.lemmas.List.{map-set}
 use Rattle.fw_package.specs.Package.{PackageText}
-use Rattle.fw_message.specs.Nodes.{CountedOf, Rose}
+use Rattle.fw_message.specs.Nodes.{CountedOf}
+use Rattle.fd_core.specs.Banks.{Rose}
 use Rattle.fw_message.specs.Pairs.{pair_after}
 use Rattle.fw_message.specs.Replays.{BankFailed, HasNode, Refuses, counted_restarted, place_at}
 use Rattle.fw_message.specs.Worlds.{IsRefusal, NodeOf, NotedOf, WorldOf, agent_restarted, device_of, named_step, node_at, noted_on, pair_step, refusal_of, restarts_agent, world_after}

@@ -1,9 +1,7 @@
 -- A device with its session as the world keeps them.
-use Rattle.std.specs.Prelude.{◌≡◌, ◌<◌, ◌⊎◌, ◌^◌, ◌-◌, ◌&&◌, ℕ, Bool, false, is_some, not, true, List, [], Option, Some, None, map}
-use Rattle.fd_core.specs.Banks.{AreApart, has_key}
-use Rattle.fd_core.specs.Images.{Put, key_of, puts}
-use Rattle.fd_core.specs.States.{DeviceState, Phase}
-use Rattle.fwup_wire.specs.declared.values.Key.{Key}
+use Rattle.std.specs.Prelude.{◌&&◌, ℕ, Bool, false, is_some, not, true, List, [], Option, Some, None}
+use Rattle.fd_core.specs.Images.{Put, puts}
+use Rattle.fd_core.specs.States.{DeviceState}
 use Rattle.fw_message.specs.Pairs.{HeldOf, PairOf, is_empty}
 use Rattle.fwup_wire.specs.Values.{AnswerOf, CommandOf}
 use Rattle.fw_message.specs.Worlds.{NodeOf}
@@ -16,23 +14,6 @@ use Rattle.fw_message.specs.declared.step.MessageStep.TheVariants as steps
 pub record CountedOf : Type 0 where
   pub node : NodeOf
   pub faults : ℕ
-
--- the component that is being updated is one of these
-abbrev pub IsOneOf : List Key → Phase → Type 0
-IsOneOf keys (Phase.Download u w p) = has_key keys w.key ≡ true
-IsOneOf keys (Phase.Verify u w p) = has_key keys w.key ≡ true
-IsOneOf keys (Phase.Apply u w p) = has_key keys w.key ≡ true
-IsOneOf keys p = Unit {0}
-
--- The bank has the device's components, in the same order; no key stands twice; and what is being updated is one of them.
-pub record HasComponents (v : DeviceState) : Type 0 where
-  pub keys : map key_of v.rows ≡ map (λ c. c.key) v.components
-  pub apart : AreApart (map key_of v.rows)
-  pub known : IsOneOf (map key_of v.rows) v.phase
-
--- a bank failed: its count rose, or stands at its last value
-abbrev pub Rose : ℕ → ℕ → Type 0
-Rose old new = (old < new) ⊎ (new ≡ 2 ^ 64 - 1)
 
 -- the operator's calls, and restarts
 abbrev pub IsCall : MessageStep → Type 0

@@ -1,7 +1,8 @@
 -- Replays: steps of a world, one after another.
 use Rattle.std.specs.Prelude.{ℕ, ◌≡◌, ◌==◌, ◌+◌, ◌||◌, is_some, Bool, true, false, if◌then◌else◌, List, [], ◌∷◌, get_or, Option, Some, None, IfSome}
 use Rattle.fw_package.specs.Package.{PackageText}
-use Rattle.fw_message.specs.Nodes.{CountedOf, Rose}
+use Rattle.fw_message.specs.Nodes.{CountedOf}
+use Rattle.fd_core.specs.Banks.{Rose}
 use Rattle.fw_message.specs.Worlds.{NodeOf, WorldOf, agent_restarted, device_of, named_step, needs_memory, node_at, refusal_of, restarts_agent, world_after}
 use Rattle.fw_message.specs.declared.step.MessageStep.{MessageStep}
 use Rattle.fw_message.specs.declared.step.MessageStepFault.{MessageStepFault}

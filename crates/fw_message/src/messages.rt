@@ -2,7 +2,8 @@
 
 ghost use Rattle.std.specs.Prelude.{[], ◌≡◌, ◌≤◌, ◌<◌, ◌++◌, ◌∷◌, Err, IfErr, IfOk, IfSome, None, OnErr, OnOk, Ok, Some, false, get_or, length, map, option_map, slice_set};
 ghost use Rattle.fw_message.specs.Entries.{entry_of};
-ghost use Rattle.fw_message.specs.Nodes.{HasComponents, cell_in};
+ghost use Rattle.fw_message.specs.Nodes.{cell_in};
+ghost use Rattle.fd_core.specs.Components.{HasComponents};
 ghost use Rattle.fw_message.specs.Replays.{BankFailed, Refuses, counted_restarted, place_at};
 ghost use Rattle.fw_message.specs.WorldLaws.{IsOpeningWorld, new_node};
 ghost use Rattle.fw_message.specs.Worlds.{device_of, named_step, node_at, world_after};

@@ -4,7 +4,8 @@ ghost use Rattle.std.specs.Prelude.{◌≡◌, ◌≤◌, None, Some, false, if�
 ghost use Rattle.fd_core.specs.States.{DeviceOf};
 ghost use Rattle.fwup_wire.specs.Lent.{command_of};
 ghost use Rattle.ua_core.specs.Lent.{package_at};
-ghost use Rattle.fw_message.specs.Nodes.{HasComponents, cell_of};
+ghost use Rattle.fw_message.specs.Nodes.{cell_of};
+ghost use Rattle.fd_core.specs.Components.{HasComponents};
 ghost use Rattle.fw_message.specs.Pairs.{StepOf, down_wish, quietly, step_of, unwished_closed};
 ghost use Rattle.fw_message.specs.WorldLaws.{new_node};
 ghost use Rattle.fw_message.specs.declared.side.Way.TheVariants as ways;
@@ -36,7 +37,8 @@ pub struct Pair<'a, B: Bank> {
 }
 
 impl<'a, B: Bank> Model for Pair<'a, B> {
-    ghost use Rattle.fw_message.specs.Nodes.{CountedOf, HasComponents};
+    ghost use Rattle.fw_message.specs.Nodes.{CountedOf};
+    ghost use Rattle.fd_core.specs.Components.{HasComponents};
 
     ghost Value = { CountedOf };
 
@@ -53,7 +55,7 @@ impl<'a, B: Bank> Model for Pair<'a, B> {
 
 impl<'a, B: Bank> Pair<'a, B> {
     /// A device that starts now, and a new session.
-    #[tactic(auto, using(crate::proofs::Components::restart_components))]
+    #[tactic(auto, using(fd_core::proofs::Components::restart_components))]
     pub fn new(alloc: Global, eid: u8, device: Device<B>) -> Pair<'a, B>
         requires { HasComponents device.device }
         ensures node { result.node ≡ new_node eid device.device }

@@ -1,7 +1,8 @@
 //! How a device takes commands, one function a command.
 
 ghost use Rattle.std.specs.Prelude.{◌≡◌, ◌≤◌, true, false};
-ghost use Rattle.fd_core.specs.Commands.{IsTaken, Rose, answer_works, cancel_take, offer_take, request_take, return_take, switch_take, table_take};
+ghost use Rattle.fd_core.specs.Banks.{Rose};
+ghost use Rattle.fd_core.specs.Commands.{IsTaken, answer_works, cancel_take, declined as offer_declined, offer_take, request_take, return_take, switch_take, table_take, taken_up as offer_taken_up};
 ghost use Rattle.fwup_wire.specs.Answers.{IsAnswerWritable};
 ghost use Rattle.fwup_wire.specs.Values.{AnswerOf};
 ghost use Rattle.fwup_wire.specs.Lent.{answer_of, entry_of, offer_of, request_of};
@@ -100,8 +101,8 @@ impl<B: Bank> Device<B> {
         quiet: bool,
     ) -> Answer<'static>
         ensures taken { IsTaken self.old self.new (answer_of result) (offer_take self.old.device (offer_of offer.now) quiet (answer_works (answer_of result))) }
-        ensures faults { self.old.faults ≤ self.new.faults }
-        ensures failed { answer_works (answer_of result) ≡ false → Rose self.old self.new }
+        ensures worked { answer_works (answer_of result) ≡ true → self.new.faults ≡ self.old.faults }
+        ensures failed { answer_works (answer_of result) ≡ false → Rose self.old.faults self.new.faults }
         ensures writable { IsAnswerWritable (answer_of result) }
     {
         match self.course.state {
@@ -117,34 +118,18 @@ impl<B: Bank> Device<B> {
         }
         let code = offer_code(&self.bank, &self.update.table, offer);
         if code != NO_RESTRICTION {
-            return Answer::UpdateComponent(OfferResponse {
-                compatibility: CANNOT_BE_UPDATED,
-                code,
-                force: false,
-                time: NO_TIME,
-            });
+            return declined(code);
         }
         let label = Label::new(&offer.version);
         if self.bank.begin(offer.key, offer.size, &label).is_err() {
             return refused(ERROR);
         }
-        self.work = Work {
-            key: offer.key,
-            size: offer.size,
-            label,
-            force: offer.force,
-            received: 0,
-        };
+        self.work = Work::new(offer, label);
         self.course.go(State::Download);
         if offer.size == 0 {
             self.course.progress = Progress::Succeeded;
         }
-        Answer::UpdateComponent(OfferResponse {
-            compatibility: CAN_BE_UPDATED,
-            code: NO_RESTRICTION,
-            force: offer.force,
-            time: NO_TIME,
-        })
+        taken_up(offer.force)
     }
 
     /// CancelUpdateComponent.
@@ -165,8 +150,8 @@ impl<B: Bank> Device<B> {
     /// ActivateFirmware.
     pub(super) fn activate_firmware(&mut self) -> Answer<'static>
         ensures taken { IsTaken self.old self.new (answer_of result) (switch_take self.old.device (answer_works (answer_of result))) }
-        ensures faults { self.old.faults ≤ self.new.faults }
-        ensures failed { answer_works (answer_of result) ≡ false → Rose self.old self.new }
+        ensures worked { answer_works (answer_of result) ≡ true → self.new.faults ≡ self.old.faults }
+        ensures failed { answer_works (answer_of result) ≡ false → Rose self.old.faults self.new.faults }
         ensures writable { IsAnswerWritable (answer_of result) }
     {
         match self.course.state {
@@ -201,6 +186,32 @@ impl<B: Bank> Device<B> {
         self.end(Reason::Cancelled);
         Answer::CancelUpdate
     }
+}
+
+/// The component isn't updated, for this reason.
+fn declined(code: u8) -> Answer<'static>
+    ensures answer { answer_of result ≡ AnswerOf.UpdateComponent (offer_declined code) }
+    ensures writable { IsAnswerWritable (answer_of result) }
+{
+    Answer::UpdateComponent(OfferResponse {
+        compatibility: CANNOT_BE_UPDATED,
+        code,
+        force: false,
+        time: NO_TIME,
+    })
+}
+
+/// The update of the component begins.
+fn taken_up(force: bool) -> Answer<'static>
+    ensures answer { answer_of result ≡ AnswerOf.UpdateComponent (offer_taken_up force) }
+    ensures writable { IsAnswerWritable (answer_of result) }
+{
+    Answer::UpdateComponent(OfferResponse {
+        compatibility: CAN_BE_UPDATED,
+        code: NO_RESTRICTION,
+        force,
+        time: NO_TIME,
+    })
 }
 
 /// A refusal with this code.

@@ -1,10 +1,10 @@
 //! What a device learns from the agent's answers.
 
-ghost use Rattle.std.specs.Prelude.{◌≡◌, ◌≤◌, Some, false, not, option_map, true};
+ghost use Rattle.std.specs.Prelude.{◌≡◌, Some, false, not, option_map, true};
 ghost use Rattle.fd_core.specs.States.{progress_of};
 ghost use Rattle.fd_core.specs.declared.states.Progress.TheVariants.{InProgress, Succeeded};
 ghost use Rattle.std.specs.Result.{result_ok};
-ghost use Rattle.fd_core.specs.Commands.{Rose};
+ghost use Rattle.fd_core.specs.Banks.{Rose};
 ghost use Rattle.fd_core.specs.Wishes.{device_learn, has_failed, idle_learnt};
 ghost use Rattle.fwup_wire.specs.Lent.{answer_of};
 
@@ -21,8 +21,9 @@ impl<B: Bank> Device<B> {
     pub fn learn(&mut self, answer: Result<&Answer<'_>, Malformed>)
         ensures after { self.new.device ≡ device_learn self.old.device (option_map (λ a. answer_of a.now) (result_ok answer.entry)) (not (has_failed self.new.device.phase)) }
         ensures idle { self.new.idle ≡ idle_learnt self.old.idle self.old.device (option_map (λ a. answer_of a.now) (result_ok answer.entry)) (not (has_failed self.new.device.phase)) }
-        ensures failed { has_failed self.old.device.phase ≡ false → has_failed self.new.device.phase ≡ true → Rose self.old self.new }
-        ensures faults { self.old.faults ≤ self.new.faults }
+        ensures again { has_failed self.old.device.phase ≡ true → self.new.faults ≡ self.old.faults }
+        ensures worked { has_failed self.new.device.phase ≡ false → self.new.faults ≡ self.old.faults }
+        ensures failed { has_failed self.old.device.phase ≡ false → has_failed self.new.device.phase ≡ true → Rose self.old.faults self.new.faults }
     {
         match self.course.state {
             State::Download | State::Verify | State::Apply => {}
@@ -42,8 +43,8 @@ impl<B: Bank> Device<B> {
         requires { progress_of self.old.device.phase ≡ Some InProgress }
         ensures after { self.new.device ≡ device_learn self.old.device (option_map (λ a. answer_of a.now) (result_ok answer.entry)) (not (has_failed self.new.device.phase)) }
         ensures idle { self.new.idle ≡ idle_learnt self.old.idle self.old.device (option_map (λ a. answer_of a.now) (result_ok answer.entry)) (not (has_failed self.new.device.phase)) }
-        ensures failed { has_failed self.old.device.phase ≡ false → has_failed self.new.device.phase ≡ true → Rose self.old self.new }
-        ensures faults { self.old.faults ≤ self.new.faults }
+        ensures worked { has_failed self.new.device.phase ≡ false → self.new.faults ≡ self.old.faults }
+        ensures failed { has_failed self.old.device.phase ≡ false → has_failed self.new.device.phase ≡ true → Rose self.old.faults self.new.faults }
     {
         let (State::Download, Ok(Answer::RequestFirmwareData(bytes))) = (self.course.state, answer)
         else {
@@ -70,7 +71,7 @@ impl<B: Bank> Device<B> {
         requires { progress_of self.old.device.phase ≡ Some Succeeded }
         ensures after { self.new.device ≡ device_learn self.old.device (option_map (λ a. answer_of a.now) (result_ok answer.entry)) (not (has_failed self.new.device.phase)) }
         ensures idle { self.new.idle ≡ idle_learnt self.old.idle self.old.device (option_map (λ a. answer_of a.now) (result_ok answer.entry)) (not (has_failed self.new.device.phase)) }
-        ensures failed { has_failed self.new.device.phase ≡ false }
+        ensures works { has_failed self.new.device.phase ≡ false }
         ensures faults { self.new.faults ≡ self.old.faults }
     {
         match (self.course.state, answer) {

@@ -78,7 +78,7 @@ impl<'a, B: Bank> Pair<'a, B> {
     }
 
     /// The device restarts.
-    #[tactic(auto, using(crate::proofs::Components::restart_components))]
+    #[tactic(auto, using(fd_core::proofs::Components::restart_components))]
     pub fn restart_device(&mut self, packages: &'a [Package<'a>])
         ensures step { step_of packages.now self.old.node.pair (StepOf.Restart sides.Device) ≡ Some (quietly self.new.node.pair) }
         ensures eid { self.new.node.eid ≡ self.old.node.eid }

@@ -7,7 +7,8 @@ ghost use Rattle.fd_core.specs.Steps.{applied_by, device_verdict, verdict_after}
 ghost use Rattle.fd_core.specs.Wishes.{has_failed};
 ghost use Rattle.fw_message.specs.Entries.{put_of};
 ghost use Rattle.fw_message.specs.History.{EntryOf};
-ghost use Rattle.fw_message.specs.Nodes.{Rose, is_activation, may_take, to_activate, waits};
+ghost use Rattle.fw_message.specs.Nodes.{is_activation, may_take, to_activate, waits};
+ghost use Rattle.fd_core.specs.Banks.{Rose};
 ghost use Rattle.fw_message.specs.Pairs.{StepOf, activated_down, quietly, step_of};
 
 use crate::entry::Image;
@@ -45,7 +46,7 @@ impl<'a, B: Bank> Pair<'a, B> {
 
     /// The device takes what the agent asked, and answers it. None where nothing waits to be taken, or where the device
     /// would be told that it is quiet while its own cell isn't empty; else whether its bank worked.
-    #[tactic(auto, unfolding(crate::specs::Pairs::down_taken), using(crate::proofs::Components::take_components))]
+    #[tactic(auto, unfolding(crate::specs::Pairs::down_taken), using(fd_core::proofs::Components::take_components))]
     pub fn take_down(&mut self, packages: &'a [Package<'a>], quiet: bool) -> Option<bool>
         ensures step { IfSome result (λ works. step_of packages.now self.old.node.pair (StepOf.TakeDown quiet works) ≡ Some (record {
           after = self.new.node.pair;
@@ -53,9 +54,9 @@ impl<'a, B: Bank> Pair<'a, B> {
         })) }
         ensures none { IfNone result ((works : Bool) → step_of packages.now self.old.node.pair (StepOf.TakeDown quiet works) ≡ None) }
         ensures same { result ≡ None → self.new ≡ self.old }
+        ensures worked { result ≡ Some true → self.new.faults ≡ self.old.faults }
         ensures failed { result ≡ Some false → Rose self.old.faults self.new.faults }
         ensures eid { self.new.node.eid ≡ self.old.node.eid }
-        ensures faults { self.old.faults ≤ self.new.faults }
     {
         let Some(held) = &mut self.down else {
             return None;
@@ -123,7 +124,7 @@ impl<'a, B: Bank> Pair<'a, B> {
     }
 
     /// A verdict on the image that the device has written. None where it doesn't count; else whether its bank worked.
-    #[tactic(auto, using(crate::proofs::Components::judge_components, crate::proofs::Working::judges_alike))]
+    #[tactic(auto, using(fd_core::proofs::Components::judge_components, crate::proofs::Working::judges_alike))]
     pub fn judge(&mut self, packages: &'a [Package<'a>], verdict: Verdict) -> Option<bool>
         ensures step { IfSome result (λ works. step_of packages.now self.old.node.pair (StepOf.Judge verdict works) ≡ Some (record {
           after = self.new.node.pair;
@@ -131,9 +132,9 @@ impl<'a, B: Bank> Pair<'a, B> {
         })) }
         ensures none { IfNone result ((works : Bool) → step_of packages.now self.old.node.pair (StepOf.Judge verdict works) ≡ None) }
         ensures same { result ≡ None → self.new ≡ self.old }
+        ensures worked { result ≡ Some true → self.new.faults ≡ self.old.faults }
         ensures failed { result ≡ Some false → Rose self.old.faults self.new.faults }
         ensures eid { self.new.node.eid ≡ self.old.node.eid }
-        ensures faults { self.old.faults ≤ self.new.faults }
     {
         let Ok(()) = self.device.verdict(verdict) else {
             return None;
@@ -157,9 +158,9 @@ impl<'a, B: Bank> Pair<'a, B> {
         })) }
         ensures none { IfNone result ((works : Bool) → step_of packages.now self.old.node.pair (StepOf.Judge verdict works) ≡ None) }
         ensures same { result ≡ None → self.new ≡ self.old }
+        ensures worked { IfSome result (λ r. r.0 ≡ true → self.new.faults ≡ self.old.faults) }
         ensures failed { IfSome result (λ r. r.0 ≡ false → Rose self.old.faults self.new.faults) }
         ensures eid { self.new.node.eid ≡ self.old.node.eid }
-        ensures faults { self.old.faults ≤ self.new.faults }
     {
         let staged = self.device.staged();
         let works = self.judge(packages, verdict)?;
@@ -219,14 +220,14 @@ impl<'a, B: Bank> Pair<'a, B> {
     }
 
     /// The device learns the answer that it waits for. None where there is none; else whether its bank worked.
-    #[tactic(auto, using(crate::proofs::Components::learn_components, crate::proofs::Working::learns_failed))]
+    #[tactic(auto, using(fd_core::proofs::Components::learn_components, crate::proofs::Working::learns_failed))]
     pub fn learn_up(&mut self, packages: &'a [Package<'a>]) -> Option<bool>
         ensures step { IfSome result (λ works. step_of packages.now self.old.node.pair (StepOf.LearnUp works) ≡ Some (quietly self.new.node.pair)) }
         ensures none { IfNone result ((works : Bool) → step_of packages.now self.old.node.pair (StepOf.LearnUp works) ≡ None) }
         ensures same { result ≡ None → self.new ≡ self.old }
+        ensures worked { result ≡ Some true → self.new.faults ≡ self.old.faults }
         ensures failed { result ≡ Some false → Rose self.old.faults self.new.faults }
         ensures eid { self.new.node.eid ≡ self.old.node.eid }
-        ensures faults { self.old.faults ≤ self.new.faults }
     {
         let Some(held) = &self.up else {
             return None;

@@ -27,7 +27,7 @@ impl<'a, B: Bank> Pair<'a, B> {
     }
 
     /// The device has waited too long. False where it is idle.
-    #[tactic(auto, using(crate::proofs::Components::timeout_components))]
+    #[tactic(auto, using(fd_core::proofs::Components::timeout_components))]
     pub fn time_out_device(&mut self, packages: &'a [Package<'a>]) -> bool
         ensures step { step_of packages.now self.old.node.pair (StepOf.TimeOut sides.Device) ≡ (if result then Some (quietly self.new.node.pair) else None) }
         ensures same { result ≡ false → self.new ≡ self.old }

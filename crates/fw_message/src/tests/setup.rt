@@ -1,7 +1,7 @@
 //! The worked devices and packages, and worlds of them.
 
 ghost use Rattle.std.specs.Prelude.{IfOk};
-ghost use Rattle.fw_message.specs.Nodes.{HasComponents};
+ghost use Rattle.fd_core.specs.Components.{HasComponents};
 
 use crate::tests::packages::{Draft, Item};
 use crate::{MessageStepFault, MessageWorld};

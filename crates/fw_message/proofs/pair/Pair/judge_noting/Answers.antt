@@ -3,7 +3,7 @@ use Rattle.std.specs.Prelude.{IfSome, option_to_list, vec_capacity}
 use Rattle.fd_core.specs.States.{IsWhole, staged_of}
 use Rattle.fd_core.specs.declared.states.Verdict.TheVariants as verdicts
 use Rattle.fw_message.specs.Entries.{put_of}
-use Rattle.fw_message.specs.Nodes.{HasComponents}
+use Rattle.fd_core.specs.Components.{HasComponents}
 use Rattle.fw_message.proofs.Noting.{noting}
 use Rattle.fw_message.proofs.pair.Pair.judge_noting.Goals as goal
 
