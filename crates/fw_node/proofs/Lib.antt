@@ -1,6 +1,10 @@
+mod AgentTicks
 mod Controls
+mod Loops
 mod NodeHears
 mod NodeServes
 mod NodeTicks
+mod PartHears
+mod Places
 mod Rows
 mod Working

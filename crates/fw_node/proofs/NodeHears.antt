@@ -6,7 +6,7 @@ use Rattle.pldm_base.specs.declared.header.PldmHead.{PldmHead}
 use Rattle.pldm_exch.specs.Caller.{is_quiet}
 use Rattle.fwup_wire.specs.Values.{CommandOf}
 use Rattle.mctp_reasm.specs.Inboxes.{packet_for}
-use Rattle.pldm_exch.specs.Ends.{AnsweringOf, asker_of, taker_of}
+use Rattle.pldm_exch.specs.Ends.{AnsweringOf, taker_of}
 use Rattle.pldm_exch.specs.Sides.{AskerRow, TakerRow, answering_row, asking_after, asking_row, taker_packet, taker_row}
 use Rattle.fw_node.specs.BothEnds.{EndsOf}
 use Rattle.fw_node.specs.Halves.{CoreOf, HalfOf, IncomingOf, answering_after, half_brings, half_hears, half_hears_by, incoming, read_by, takes_if, takes_read}

@@ -1,14 +1,16 @@
 -- What a node makes of a firmware update request.
-use Rattle.std.proofs.Common.{◌≡◌, ◌==◌, ◌∷◌, [], ℕ, Bool, true, List, Option, Result, Ok, Err, refl}
+use Rattle.std.proofs.Common.{◌≡◌, ◌∷◌, [], ℕ, Bool, ◌≤◌, List, length, Option, Some, Result, Ok, Err, refl, sym}
 use Rattle.mctp_reasm.specs.Held.{Held}
 use Rattle.std.proofs.lemmas.Bool.{eq-eqb}
 use Rattle.mctp_ctl.specs.declared.answers.Endpoint.{Endpoint}
 use Rattle.pldm_base.specs.declared.terminus.Role.{Role}
 use Rattle.pldm_exch.specs.Caller.{is_quiet}
 use Rattle.pldm_exch.specs.Requests.{RequestOf, reply_message}
-use Rattle.fwup_wire.specs.Values.{CommandOf}
+use Rattle.fwup_wire.specs.Answers.{answer_bytes, answer_in}
+use Rattle.fwup_wire.specs.Commands.{command_code}
+use Rattle.fwup_wire.specs.Values.{AnswerOf, CommandOf}
 use Rattle.fw_node.specs.Halves.{CoreOf, HalfOf, IncomingOf, half_brings, read_by, reply_read, settled, takes_read}
-use Rattle.fw_node.specs.Nodes.{IsAnswered, IsTold, NodeHeard, finished, replied}
+use Rattle.fw_node.specs.Nodes.{IsAnswered, IsHeardAgain, IsTold, finished, replied}
 
 -- a half whose core took what was read, and answered it
 abbrev pub answered_half : {C : Type 0} → CoreOf C → HalfOf C → RequestOf → C → List ℕ → HalfOf C
@@ -45,4 +47,15 @@ pub told : {C : Type 0} (core : CoreOf C) (works : Bool) (h : HalfOf C) (r : Req
 told core works h r five is =
     rw (eq-eqb r.head.pldm_type 5 five) (told_read core (is_quiet h.asker.caller) works h h.taker.requests r (read_by core r.head.command r.body) is)
 
+-- an answer that was written
+pub heard_again : (k : CommandOf) (a : AnswerOf) (bytes : List ℕ) → bytes ≡ answer_bytes a → answer_in (command_code k) bytes ≡ Some a → length bytes ≤ 252 → IsHeardAgain k a
+heard_again k a bytes is reads fits = record { reads = rw is at reads; fits = rw is at fits }
+
+-- a command that was read
+pub answered_read : {C : Type 0} (core : CoreOf C) (quiet works : Bool) (c : C) (read : Result CommandOf ℕ) (k : CommandOf) → Ok k ≡ read
+    → IsHeardAgain k (core.take c k quiet works).answer → IsAnswered core quiet works c read
+answered_read core quiet works c read k is told = rw (sym is) told
+
 pub ruleset node_serves = (taken, told)
+
+pub ruleset part_serves = (answered_read, heard_again)

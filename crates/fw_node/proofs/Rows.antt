@@ -1,5 +1,5 @@
 -- What a packet brings to both ends, by their rows.
-use Rattle.std.proofs.Common.{◌≡◌, ℕ, List, Option, Some, None, refl}
+use Rattle.std.proofs.Common.{◌≡◌, Some, None, refl}
 use Rattle.pldm_exch.specs.Caller.{Heard}
 use Rattle.pldm_exch.specs.Ends.{AnsweringOf, AskingOf}
 use Rattle.pldm_exch.specs.Sides.{AskerRow, TakerRow, asking_after, brought_in, learnt_in, requests_in}

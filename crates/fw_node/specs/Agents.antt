@@ -1,5 +1,5 @@
 -- The agent's node: a half for each device that it updates, in configured order, and the event log.
-use Rattle.std.specs.Prelude.{ℕ, ◌-◌, ◌+◌, ◌==◌, nat_le, Bool, true, false, if◌then◌else◌, List, [], ◌∷◌, ◌++◌, flat_map, map, slice_get, slice_set, Option, Some, None, Result, Ok, Err}
+use Rattle.std.specs.Prelude.{ℕ, ◌-◌, ◌+◌, ◌==◌, nat_le, true, if◌then◌else◌, List, [], ◌∷◌, ◌++◌, flat_map, map, slice_get, slice_set, Option, Some, None, Result, Ok, Err}
 use Rattle.mctp_ctl.specs.declared.answers.Endpoint.{Endpoint}
 use Rattle.mctp_reasm.specs.Pieces.{MessageOf}
 use Rattle.mctp_wire.specs.Packet as wire
@@ -10,12 +10,12 @@ use Rattle.pldm_exch.specs.Caller.{caller_tick}
 use Rattle.pldm_exch.specs.declared.caller.CallTick.{CallTick}
 use Rattle.pldm_exch.specs.declared.caller.CallTick.TheVariants as ticks
 use Rattle.fw_package.specs.Package.{PackageText}
-use Rattle.sel_core.specs.Log.{LogOf, new_log, sel_after, sel_reply, sel_restart}
-use Rattle.ua_core.specs.Calls.{agent_activated, agent_cancelled, agent_started, may_cancel, new_session}
+use Rattle.sel_core.specs.Log.{LogOf, new_log, sel_restart}
+use Rattle.ua_core.specs.Calls.{agent_cancelled, agent_started, may_cancel, new_session}
 use Rattle.ua_core.specs.Session.{SessionOf, TimedOf}
 use Rattle.fw_node.specs.BothEnds.{EndsOf, ends_new}
 use Rattle.fw_node.specs.Cores.{session_core}
-use Rattle.fw_node.specs.Halves.{CoreOf, HalfOf, aged, half_hears, half_restarts, half_ticks, idled, last_part, recast}
+use Rattle.fw_node.specs.Halves.{HalfOf, aged, half_hears, half_restarts, half_ticks, idled, last_part, recast}
 use Rattle.fw_node.specs.Nodes.{NodeHeard, finished, half_of}
 use Rattle.fw_node.specs.Notes.{noted}
 use Rattle.fw_node.specs.Packets.{all_packets, sent_by}
@@ -111,6 +111,10 @@ waited packages h = idled (session_core packages) h
 abbrev pub asked_last : List PackageText → HalfOf TimedOf → HalfOf TimedOf
 asked_last packages h = (last_part (session_core packages) h []).half
 
+-- both of these
+abbrev pub ended : List PackageText → HalfOf TimedOf → HalfOf TimedOf
+ended packages h = asked_last packages (waited packages h)
+
 -- the packets of each part
 abbrev pub again_packets : HalfOf TimedOf → List (List ℕ)
 again_packets h = all_packets (sent_by (caller_tick h.asker.caller).1)
@@ -118,17 +122,17 @@ again_packets h = all_packets (sent_by (caller_tick h.asker.caller).1)
 abbrev pub asked_packets : List PackageText → HalfOf TimedOf → List (List ℕ)
 asked_packets packages h = all_packets (last_part (session_core packages) h []).sent
 
+abbrev pub ended_packets : List PackageText → HalfOf TimedOf → List (List ℕ)
+ended_packets packages h = asked_packets packages (waited packages h)
+
 -- The log after a part of a tick, which is done for all halves in order: what happened to each session is noted.
 abbrev pub notes : (HalfOf TimedOf → HalfOf TimedOf) → (now : ℕ) → LogOf → List (HalfOf TimedOf) → LogOf
 notes part now log [] = log
 notes part now log (h ∷ hs) = notes part now (noted log now h.peer h.core (part h).core) hs
 
--- the halves after the first part, and after the second
+-- the halves after the first part
 abbrev pub all_grown : List PackageText → AgentOf → List (HalfOf TimedOf)
 all_grown packages n = map (grown packages) n.halves
-
-abbrev pub all_waited : List PackageText → AgentOf → List (HalfOf TimedOf)
-all_waited packages n = map (waited packages) (all_grown packages n)
 
 -- An agent after a tick: each part is done for all halves before the next begins.
 abbrev pub agent_ticks : List PackageText → (now : ℕ) → AgentOf → AgentOf
@@ -136,7 +140,7 @@ agent_ticks packages now n =
     if nat_le n.deaf 1 then
     record n {
       deaf = 0;
-      halves = map (asked_last packages) (all_waited packages n);
+      halves = map (ended packages) (all_grown packages n);
       log = notes (waited packages) now (notes (grown packages) now n.log n.halves) (all_grown packages n);
     }
     else record n { deaf = n.deaf - 1; halves = map (λ h. (half_ticks (session_core packages) true h).half) n.halves }
@@ -144,7 +148,7 @@ agent_ticks packages now n =
 -- the packets that it sends in it
 abbrev pub agent_tick_sends : List PackageText → AgentOf → List (List ℕ)
 agent_tick_sends packages n =
-    if nat_le n.deaf 1 then flat_map again_packets n.halves ++ flat_map (asked_packets packages) (all_waited packages n)
+    if nat_le n.deaf 1 then flat_map again_packets n.halves ++ flat_map (ended_packets packages) (all_grown packages n)
     else []
 
 -- An agent after a restart: it is deaf for 40 ticks, the records of its sessions stay, and so do those of its log.

@@ -1,5 +1,4 @@
 -- What a packet brings, as the code has it.
-use Rattle.std.specs.Prelude.{List, ℕ}
 use Rattle.fw_node.specs.Halves.{IncomingOf}
 use Rattle.fw_node.specs.declared.incoming.Incoming.{Incoming}
 use Rattle.fw_node.specs.declared.incoming.Incoming.TheVariants as incomings

@@ -1,7 +1,7 @@
 -- The two kinds of core: the agent's session with a device, which is lent the package of its number, and a device.
 use Rattle.std.specs.Prelude.{ℕ, not, List, Option, Some, None, Result, Ok, Err}
 use Rattle.fwup_wire.specs.Commands.{is_asked_of_agent}
-use Rattle.fwup_wire.specs.Values.{AnswerOf, CommandOf}
+use Rattle.fwup_wire.specs.Values.{AnswerOf}
 use Rattle.fwup_wire.specs.declared.answer.Malformed.{Malformed}
 use Rattle.fw_package.specs.Package.{PackageText}
 use Rattle.fd_core.specs.Commands.{device_take, idle_after}

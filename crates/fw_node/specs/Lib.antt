@@ -1,3 +1,4 @@
+pub mod AgentViews
 pub mod Agents
 pub mod BothEnds
 pub mod Brings

@@ -1,6 +1,6 @@
 -- The nodes: what is finished by the node itself, and the device node. A node answers control and base requests for all its
 -- halves; what a half makes of packets and ticks is in `Halves`.
-use Rattle.std.specs.Prelude.{ℕ, ◌≡◌, ◌≤◌, ◌<◌, ◌⊎◌, ◌-◌, ◌^◌, ◌==◌, Bool, false, true, if◌then◌else◌, List, [], ◌∷◌, is_some, length, Option, Some, None, Result, Ok, Err}
+use Rattle.std.specs.Prelude.{ℕ, ◌≡◌, ◌≤◌, ◌==◌, Bool, false, true, if◌then◌else◌, List, [], ◌∷◌, is_some, length, Option, Some, None, Result, Ok, Err}
 use Rattle.mctp_ctl.specs.Control.{answer_of}
 use Rattle.mctp_ctl.specs.declared.answers.Endpoint.{Endpoint}
 use Rattle.mctp_reasm.specs.Pieces.{MessageOf}
@@ -15,6 +15,7 @@ use Rattle.pldm_exch.specs.Requests.{reply_message}
 use Rattle.fwup_wire.specs.Answers.{answer_bytes, answer_in}
 use Rattle.fwup_wire.specs.Commands.{command_code}
 use Rattle.fwup_wire.specs.Values.{AnswerOf, CommandOf}
+use Rattle.fd_core.specs.Banks.{Rose}
 use Rattle.fd_core.specs.States.{DeviceOf}
 use Rattle.fd_core.specs.Steps.{device_verdict, verdict_after}
 use Rattle.fd_core.specs.declared.states.Verdict.{Verdict}
@@ -109,10 +110,6 @@ abbrev pub new_device_node : Endpoint → (agent : ℕ) → DeviceOf → DeviceN
 new_device_node endpoint agent d =
     record { endpoint = endpoint; tid = 0; half = half_of 0 (timed d) (ends_new endpoint.eid agent); faults = d.faults }
 
--- a bank's count of failures rose, or stands at its last value
-abbrev pub FaultsRose : (old new : ℕ) → Type 0
-FaultsRose old new = (old < new) ⊎ (new ≡ 2 ^ 64 - 1)
-
 -- What a packet makes of a device node, and what is sent: `works` says whether its bank's one call succeeded, and a call
 -- fails only where its bank's count of failures tells so.
 pub record HearsIt (old : DeviceNodeOf) (bytes : List ℕ) (new : DeviceNodeOf) (sent : List (List ℕ)) : Type 0 where
@@ -120,7 +117,8 @@ pub record HearsIt (old : DeviceNodeOf) (bytes : List ℕ) (new : DeviceNodeOf) 
   pub half : new.half ≡ (device_hears works old bytes).half
   pub tid : new.tid ≡ (device_hears works old bytes).tid
   pub packets : sent ≡ all_packets (device_hears works old bytes).sent
-  pub failed : works ≡ false → FaultsRose old.faults new.faults
+  pub worked : works ≡ true → new.faults ≡ old.faults
+  pub failed : works ≡ false → Rose old.faults new.faults
   pub told : IsTold (half_hears device_core works old.half bytes)
 
 -- What a verdict that counts makes of a device node.
@@ -128,4 +126,5 @@ pub record JudgesIt (old : DeviceNodeOf) (verdict : Verdict) (new : DeviceNodeOf
   pub works : Bool
   pub counts : is_some (device_verdict old.half.core.device verdict works) ≡ true
   pub half : new.half ≡ device_judges works old verdict
-  pub failed : works ≡ false → FaultsRose old.faults new.faults
+  pub worked : works ≡ true → new.faults ≡ old.faults
+  pub failed : works ≡ false → Rose old.faults new.faults

@@ -1,5 +1,5 @@
 -- The packets that a node sends.
-use Rattle.std.specs.Prelude.{ℕ, List, [], ◌∷◌, flat_map, map, Option, Some, None}
+use Rattle.std.specs.Prelude.{ℕ, List, [], ◌∷◌, flat_map, map}
 use Rattle.mctp_reasm.specs.Pieces.{MessageOf, pieces, spelled}
 use Rattle.pldm_exch.specs.declared.caller.CallTick.{CallTick}
 use Rattle.pldm_exch.specs.declared.caller.CallTick.TheVariants as ticks

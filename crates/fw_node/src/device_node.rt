@@ -7,13 +7,13 @@ ghost use Rattle.pldm_base.specs.declared.terminus.Role.{Role};
 ghost use Rattle.pldm_exch.specs.Ends.{AnsweringOf};
 ghost use Rattle.pldm_exch.specs.Requests.{reply_message};
 ghost use Rattle.fwup_wire.specs.Answers.{answer_read};
-ghost use Rattle.fd_core.specs.States.{DeviceOf};
+ghost use Rattle.fd_core.specs.Banks.{Rose};
 ghost use Rattle.fd_core.specs.Steps.{device_verdict, verdict_after};
 ghost use Rattle.fd_core.specs.Wishes.{has_failed};
 ghost use Rattle.fw_node.specs.Cores.{device_core, timed};
 ghost use Rattle.fw_node.specs.Brings.{incoming_of};
 ghost use Rattle.fw_node.specs.Halves.{IncomingOf, aged, answers, half_brings, half_hears, half_ticks, idled, last_part, read_by, reply_read, settled, takes_if};
-ghost use Rattle.fw_node.specs.Nodes.{DeviceNodeOf, FaultsRose, HearsIt, IsAnswered, IsTold, JudgesIt, control_sent, device_hears, device_judges, device_restarts, finished, half_of, new_device_node, other_reply, other_tid, replied};
+ghost use Rattle.fw_node.specs.Nodes.{DeviceNodeOf, HearsIt, IsAnswered, IsTold, JudgesIt, control_sent, device_hears, device_judges, device_restarts, finished, half_of, new_device_node, other_reply, other_tid, replied};
 ghost use Rattle.fw_node.specs.Packets.{all_packets, sent_by};
 
 use crate::ends::Ends;
@@ -106,7 +106,6 @@ impl<B: Bank> DeviceNode<B> {
         requires { outbox.old ≡ [] }
         ensures heard { HearsIt self.old bytes.now self.new outbox.new }
         ensures endpoint { self.new.endpoint ≡ self.old.endpoint }
-        ensures faults { self.old.faults ≤ self.new.faults }
     {
         let _works = self.hear(bytes, outbox);
     }
@@ -139,7 +138,6 @@ impl<B: Bank> DeviceNode<B> {
         ensures kept { OnErr result (self.new ≡ self.old) }
         ensures tid { self.new.tid ≡ self.old.tid }
         ensures endpoint { self.new.endpoint ≡ self.old.endpoint }
-        ensures faults { self.old.faults ≤ self.new.faults }
     {
         let Some(_works) = self.judge(verdict) else {
             return Err(NotNow);
@@ -153,12 +151,12 @@ impl<B: Bank> DeviceNode<B> {
     fn judge(&mut self, verdict: Verdict) -> Option<bool>
         ensures counts { IfSome result (λ works. is_some (device_verdict self.old.half.core.device verdict works) ≡ true) }
         ensures half { IfSome result (λ works. self.new ≡ record self.new { half = record self.old.half { core = record { device = verdict_after self.old.half.core.device verdict works; idle = 0 } } }) }
-        ensures failed { IfSome result (λ works. works ≡ false → FaultsRose self.old.faults self.new.faults) }
+        ensures worked { IfSome result (λ works. works ≡ true → self.new.faults ≡ self.old.faults) }
+        ensures failed { IfSome result (λ works. works ≡ false → Rose self.old.faults self.new.faults) }
         ensures refused { IfNone result ((works : Bool) → device_verdict self.old.half.core.device verdict works ≡ None) }
         ensures kept { result ≡ None → self.new ≡ self.old }
         ensures tid { self.new.tid ≡ self.old.tid }
         ensures endpoint { self.new.endpoint ≡ self.old.endpoint }
-        ensures faults { self.old.faults ≤ self.new.faults }
     {
         let Ok(()) = self.device.verdict(verdict) else {
             return None;
@@ -203,7 +201,7 @@ impl<B: Bank> DeviceNode<B> {
 
     /// Gives up what isn't wished, and begins what is.
     fn ask(&mut self, outbox: &mut Outbox)
-        requires { length outbox.old ≤ 60 }
+        requires { length outbox.old ≤ 124 }
         ensures after { self.new ≡ record self.old { half = (last_part device_core self.old.half []).half } }
         ensures sent { outbox.new ≡ outbox.old ++ all_packets (last_part device_core self.old.half []).sent }
     {
@@ -225,10 +223,10 @@ impl<B: Bank> DeviceNode<B> {
         ensures half { self.new.half ≡ (device_hears result self.old bytes.now).half }
         ensures tid { self.new.tid ≡ (device_hears result self.old bytes.now).tid }
         ensures packets { outbox.new ≡ all_packets (device_hears result self.old bytes.now).sent }
-        ensures failed { result ≡ false → FaultsRose self.old.faults self.new.faults }
+        ensures worked { result ≡ true → self.new.faults ≡ self.old.faults }
+        ensures failed { result ≡ false → Rose self.old.faults self.new.faults }
         ensures told { IsTold (half_hears device_core result self.old.half bytes.now) }
         ensures endpoint { self.new.endpoint ≡ self.old.endpoint }
-        ensures faults { self.old.faults ≤ self.new.faults }
     {
         if self.deaf > 0 {
             return true;
@@ -262,10 +260,10 @@ impl<B: Bank> DeviceNode<B> {
     /// The device learns the answer to its request. Whether its bank worked.
     fn learn(&mut self, heard: &ReplyIn) -> bool
         ensures half { self.new ≡ record self.new { half = settled device_core (record self.old.half { core = device_core.learn self.old.half.core (answer_read heard.now.command heard.now.reply.items) result }) } }
-        ensures failed { result ≡ false → FaultsRose self.old.faults self.new.faults }
+        ensures worked { result ≡ true → self.new.faults ≡ self.old.faults }
+        ensures failed { result ≡ false → Rose self.old.faults self.new.faults }
         ensures tid { self.new.tid ≡ self.old.tid }
         ensures endpoint { self.new.endpoint ≡ self.old.endpoint }
-        ensures faults { self.old.faults ≤ self.new.faults }
     {
         let works = self.learn_answer(heard);
         self.settle();
@@ -276,10 +274,10 @@ impl<B: Bank> DeviceNode<B> {
     #[tactic(auto, using(crate::proofs::Working::working))]
     fn learn_answer(&mut self, heard: &ReplyIn) -> bool
         ensures half { self.new.half ≡ record self.old.half { core = device_core.learn self.old.half.core (answer_read heard.now.command heard.now.reply.items) result } }
-        ensures failed { result ≡ false → FaultsRose self.old.faults self.new.faults }
+        ensures worked { result ≡ true → self.new.faults ≡ self.old.faults }
+        ensures failed { result ≡ false → Rose self.old.faults self.new.faults }
         ensures tid { self.new.tid ≡ self.old.tid }
         ensures endpoint { self.new.endpoint ≡ self.old.endpoint }
-        ensures faults { self.old.faults ≤ self.new.faults }
     {
         let had_failed = has_failed(&self.device);
         match fwup_wire::read_answer(heard.command, heard.reply.as_slice()) {
@@ -296,10 +294,10 @@ impl<B: Bank> DeviceNode<B> {
         ensures half { self.new.half ≡ (finished Role.Device self.old.endpoint self.old.tid (half_brings device_core result self.old.half (IncomingOf.New request.now))).half }
         ensures tid { self.new.tid ≡ (finished Role.Device self.old.endpoint self.old.tid (half_brings device_core result self.old.half (IncomingOf.New request.now))).tid }
         ensures packets { outbox.new ≡ all_packets (finished Role.Device self.old.endpoint self.old.tid (half_brings device_core result self.old.half (IncomingOf.New request.now))).sent }
-        ensures failed { result ≡ false → FaultsRose self.old.faults self.new.faults }
+        ensures worked { result ≡ true → self.new.faults ≡ self.old.faults }
+        ensures failed { result ≡ false → Rose self.old.faults self.new.faults }
         ensures told { IsTold (half_brings device_core result self.old.half (IncomingOf.New request.now)) }
         ensures endpoint { self.new.endpoint ≡ self.old.endpoint }
-        ensures faults { self.old.faults ≤ self.new.faults }
     {
         if request.head().pldm_type == TYPE_FIRMWARE_UPDATE {
             return self.take(request, outbox);
@@ -328,10 +326,10 @@ impl<B: Bank> DeviceNode<B> {
         ensures half { self.new.half ≡ (finished Role.Device self.old.endpoint self.old.tid (half_brings device_core result self.old.half (IncomingOf.New request.now))).half }
         ensures packets { outbox.new ≡ all_packets (finished Role.Device self.old.endpoint self.old.tid (half_brings device_core result self.old.half (IncomingOf.New request.now))).sent }
         ensures told { IsTold (half_brings device_core result self.old.half (IncomingOf.New request.now)) }
-        ensures failed { result ≡ false → FaultsRose self.old.faults self.new.faults }
+        ensures worked { result ≡ true → self.new.faults ≡ self.old.faults }
+        ensures failed { result ≡ false → Rose self.old.faults self.new.faults }
         ensures tid { self.new.tid ≡ self.old.tid }
         ensures endpoint { self.new.endpoint ≡ self.old.endpoint }
-        ensures faults { self.old.faults ≤ self.new.faults }
     {
         let (reply, works) = self.reply_to(request);
         self.answer(request, reply.as_slice(), outbox);
@@ -345,10 +343,10 @@ impl<B: Bank> DeviceNode<B> {
         ensures core { self.new.half ≡ record self.old.half { core = (reply_read device_core (is_quiet self.old.half.asker.caller) result.1 self.old.half.core (read_by device_core request.now.head.command request.now.body)).core } }
         ensures reply { result.0.items ≡ (reply_read device_core (is_quiet self.old.half.asker.caller) result.1 self.old.half.core (read_by device_core request.now.head.command request.now.body)).reply }
         ensures told { IsAnswered device_core (is_quiet self.old.half.asker.caller) result.1 self.old.half.core (read_by device_core request.now.head.command request.now.body) }
-        ensures failed { result.1 ≡ false → FaultsRose self.old.faults self.new.faults }
+        ensures worked { result.1 ≡ true → self.new.faults ≡ self.old.faults }
+        ensures failed { result.1 ≡ false → Rose self.old.faults self.new.faults }
         ensures tid { self.new.tid ≡ self.old.tid }
         ensures endpoint { self.new.endpoint ≡ self.old.endpoint }
-        ensures faults { self.old.faults ≤ self.new.faults }
     {
         let command = request.head().command;
         if is_asked_of_agent(command) {

@@ -2,11 +2,15 @@
 //! and ticks. A call of a node is one step of it: it hears a packet, a tick passes, its user calls it, or it starts anew.
 #![tactic(auto)]
 
+mod agent_node;
+mod desk;
 mod device_node;
 mod ends;
 mod incoming;
 mod outbox;
+mod part;
 mod sending;
 
+pub use agent_node::AgentNode;
 pub use device_node::DeviceNode;
 pub use outbox::Outbox;

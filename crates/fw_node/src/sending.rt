@@ -35,7 +35,7 @@ pub(crate) fn reply_to_other(tid: &mut Tid, role: Role, request: &Request) -> Re
 
 /// Sends what a tick asks to be sent again.
 pub(crate) fn send_again(outbox: &mut Outbox, call: &CallTick)
-    requires { length outbox.old ≤ 60 }
+    requires { length outbox.old ≤ 124 }
     ensures sent { outbox.new ≡ outbox.old ++ all_packets (sent_by call.now) }
     ensures few { length outbox.new ≤ length outbox.old + 4 }
 {

@@ -1,4 +1,4 @@
-use Rattle.std.proofs.Common.{◌≡◌, ◌≤◌, ◌+◌, ◌++◌, take, length, map}
+use Rattle.std.proofs.Common.{◌≡◌, ◌+◌, ◌++◌, take, length, map}
 use Rattle.fw_node.proofs.outbox.push_all.Given as goal
 
 -- the packets so far stand behind those that were there

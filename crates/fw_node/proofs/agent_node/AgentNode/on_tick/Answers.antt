@@ -1,0 +1,33 @@
+use Rattle.std.proofs.Common.{◌∙◌, ap, arith, map}
+use Rattle.std.proofs.lemmas.List.{with_items_is}
+use Rattle.std.specs.Vec.{with_items}
+use Rattle.fw_node.specs.Agents.{agent_tick_sends, agent_ticks, half_in}
+use Rattle.fw_node.proofs.AgentTicks.{deaf_ticks, hearing_sends, hearing_ticks}
+use Rattle.fw_node.proofs.agent_node.AgentNode.on_tick.Goals as goal
+
+pub returns-then-self-gt1-clause-after : goal.returns-then-self-gt1-clause-after
+returns-then-self-gt1-clause-after c =
+    deaf_ticks c.args.packages.now c.args.now c.self.inside.deaf c.self.inside.desk c.self.inside.parts.items (omega (arith, c.if-self-gt1.true))
+    ∙ ap (agent_ticks c.args.packages.now c.args.now) c.self.view_is
+
+pub returns-clause-after : goal.returns-clause-after
+returns-clause-after c =
+    let v = c.self.inside.parts in
+    let once = with_items v c.grow_all.new.parts in
+    let first = c.as_mut_slice-2.ensures.value ∙ with_items_is v c.grow_all.new.parts (c.grow_all.ensures.count ∙ c.as_mut_slice.ensures.len) in
+    let last = with_items_is once c.wait_all.new.parts (c.wait_all.ensures.count ∙ c.as_mut_slice-2.ensures.len) in
+    hearing_ticks c.args.packages.now c.args.now c.self.inside.deaf c.self.inside.desk c.grow_all.new.log c.wait_all.new.log v.items c.grow_all.new.parts (with_items once c.wait_all.new.parts).items
+    (omega (arith, c.if-self-gt1.false))
+    (rw c.as_mut_slice.ensures.value at c.grow_all.ensures.halves) (ap (map (half_in 0)) last ∙ (rw first at c.wait_all.ensures.halves))
+    (rw c.as_mut_slice.ensures.value at c.grow_all.ensures.log) (rw first at c.wait_all.ensures.log)
+    ∙ ap (agent_ticks c.args.packages.now c.args.now) c.self.view_is
+
+pub returns-clause-sent : goal.returns-clause-sent
+returns-clause-sent c =
+    let v = c.self.inside.parts in
+    let first = c.as_mut_slice-2.ensures.value ∙ with_items_is v c.grow_all.new.parts (c.grow_all.ensures.count ∙ c.as_mut_slice.ensures.len) in
+    hearing_sends c.args.packages.now c.self.inside.deaf c.self.inside.desk c.grow_all.new.outbox c.wait_all.new.outbox v.items c.grow_all.new.parts
+    (omega (arith, c.if-self-gt1.false))
+    (rw c.as_mut_slice.ensures.value at c.grow_all.ensures.halves)
+    (rw (c.requires, c.as_mut_slice.ensures.value) at c.grow_all.ensures.sent) (rw first at c.wait_all.ensures.sent)
+    ∙ ap (agent_tick_sends c.args.packages.now) c.self.view_is

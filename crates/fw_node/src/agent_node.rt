@@ -1,0 +1,295 @@
+//! The node of the update agent.
+
+ghost use Rattle.std.specs.Prelude.{◌≡◌, ◌≤◌, ◌<◌, ◌↔◌, ◌*◌, ◌+◌, ◌++◌, ◌==◌, [], ℕ, IfErr, IfOk, IfSome, List, None, OnErr, OnOk, Some, false, flat_map, is_ok, is_some, length, map, not, option_map, slice_get, true};
+ghost use Rattle.mctp_wire.specs.Packet.{packet_of as packet_read};
+ghost use Rattle.fw_package.specs.Package.{PackageText};
+ghost use Rattle.sel_core.specs.Log.{sel_after, sel_reply};
+ghost use Rattle.ua_core.specs.Calls.{agent_activated, is_free};
+ghost use Rattle.fw_node.specs.Agents.{AgentOf, PartOf, activates, again_packets, agent_becomes, agent_hears, agent_restarts, agent_tick_sends, agent_ticks, asked_last, asked_packets, becomes_at, cancels, ended, ended_packets, grown, half_at, half_for, half_in, hears_at, new_agent, new_half, notes, place_from, place_heard, place_of, starts, waited};
+ghost use Rattle.fw_node.specs.AgentViews.{agent_of, part_restarted};
+ghost use Rattle.fw_node.specs.Cores.{session_core};
+ghost use Rattle.fw_node.specs.Halves.{half_restarts};
+ghost use Rattle.fw_node.specs.Packets.{all_packets};
+
+use crate::desk::{Desk, note};
+use crate::outbox::Outbox;
+use crate::part::Part;
+use fw_package::Package;
+use mctp_ctl::Endpoint;
+use pldm_base::Tid;
+use pldm_exch::DEAF;
+use sel_core::{Sel, SelReply};
+use std::alloc::{AllocError, Global};
+use std::marker::Model;
+use ua_core::{NotReady, Session, StartFault};
+
+/// The update agent on a network of MCTP packets: what it has for each of its devices, at most 16, and the event log, in which
+/// it notes what happens to their updates. It answers control and base requests too. Its calls are lent the packages that the
+/// operator may start updates with.
+#[derive(Drop)]
+pub struct AgentNode {
+    desk: Desk,
+    deaf: u8,
+    parts: Vec<Part>,
+}
+
+impl Model for AgentNode {
+    ghost use Rattle.std.specs.Prelude.{◌≤◌, length};
+    ghost use Rattle.fw_node.specs.Agents.{AgentOf};
+    ghost use Rattle.fw_node.specs.AgentViews.{agent_of, part_restarted};
+
+    ghost Value = { AgentOf };
+
+    ghost view = { λ n. agent_of n.deaf n.desk n.parts.items };
+
+    ghost invariant = { λ n. length n.parts.items ≤ 16 };
+}
+
+impl AgentNode {
+    /// The agent of the devices with these endpoint identifiers, at most 16, before its first packet.
+    ///
+    /// # Errors
+    /// `AllocError` where memory for them or for the log is refused.
+    pub fn new(alloc: Global, endpoint: Endpoint, devices: &[u8]) -> Result<AgentNode, AllocError>
+        requires { length devices.now ≤ 16 }
+        ensures { IfOk result (λ n. n ≡ new_agent endpoint devices.now) }
+    {
+        let Ok(log) = Sel::new(alloc) else {
+            return Err(AllocError);
+        };
+        let parts = parts_for(alloc, endpoint.eid, devices)?;
+        let desk = Desk {
+            endpoint,
+            tid: Tid::unassigned(),
+            log,
+        };
+        Ok(AgentNode {
+            desk,
+            deaf: 0,
+            parts,
+        })
+    }
+
+    /// Its endpoint identifier.
+    pub fn eid(&self) -> u8
+        ensures { result ≡ self.now.endpoint.eid }
+    {
+        self.desk.endpoint.eid
+    }
+
+    /// Whether it drops every packet, since it started anew less than 40 ticks ago.
+    pub fn is_deaf(&self) -> bool
+        ensures { result ≡ not (self.now.deaf == 0) }
+    {
+        self.deaf > 0
+    }
+
+    /// The event log.
+    pub fn log(&self) -> &Sel
+        ensures { result.now ≡ self.now.log }
+    {
+        &self.desk.log
+    }
+
+    /// The session with a device, if it is one of the agent's.
+    #[tactic(auto, using(crate::proofs::Places::places))]
+    pub fn session(&self, eid: u8) -> Option<&Session>
+        ensures { option_map (λ s. s.now) result ≡ option_map (λ h. h.core) (half_for self.now eid) }
+    {
+        session_in(self.parts.as_slice(), eid)
+    }
+
+    /// Hears the bytes of a packet, and puts what it sends into an empty outbox. A packet to another endpoint or of none of
+    /// its devices changes nothing, and a deaf agent drops every packet. What happens to a session is noted at `now`.
+    #[tactic(auto, using(crate::proofs::Places::places))]
+    pub fn on_packet<'p>(
+        &mut self,
+        packages: &'p [Package<'p>],
+        bytes: &[u8],
+        now: u32,
+        outbox: &mut Outbox,
+    )
+        requires { outbox.old ≡ [] }
+        ensures after { self.new ≡ (agent_hears packages.now self.old bytes.now now).agent }
+        ensures sent { outbox.new ≡ all_packets (agent_hears packages.now self.old bytes.now now).sent }
+    {
+        if self.deaf > 0 {
+            return;
+        }
+        let Some(place) = sender_of(self.parts.as_slice(), bytes) else {
+            return;
+        };
+        hear_at(
+            self.parts.as_mut_slice(),
+            place,
+            &mut self.desk,
+            packages,
+            bytes,
+            now,
+            outbox,
+        );
+    }
+
+    /// A tick passes, in parts, each for all devices before the next begins: what is held and kept grows older, and open
+    /// requests are sent again or given up; the sessions tick; what isn't wished is given up, and what is wished begins. What
+    /// happens to a session is noted at `now`. A deaf agent counts the tick alone.
+    pub fn on_tick<'p>(&mut self, packages: &'p [Package<'p>], now: u32, outbox: &mut Outbox)
+        requires { outbox.old ≡ [] }
+        ensures after { self.new ≡ agent_ticks packages.now now self.old }
+        ensures sent { outbox.new ≡ agent_tick_sends packages.now self.old }
+    {
+        if self.deaf > 1 {
+            self.deaf -= 1;
+            return;
+        }
+        self.deaf = 0;
+        grow_all(
+            self.parts.as_mut_slice(),
+            &mut self.desk.log,
+            packages,
+            now,
+            outbox,
+        );
+        wait_all(
+            self.parts.as_mut_slice(),
+            &mut self.desk.log,
+            packages,
+            now,
+            outbox,
+        );
+    }
+
+    /// Starts anew: no update is under way, and the agent is deaf and silent for 40 ticks. The records of its sessions and of
+    /// its log stay.
+    pub fn restart(&mut self)
+        ensures { (packages : List PackageText) → self.new ≡ agent_restarts packages self.old }
+    {
+        restart_all(self.parts.as_mut_slice());
+        self.desk.tid = Tid::unassigned();
+        self.desk.log.restart();
+        self.deaf = DEAF;
+    }
+
+    /// Answers a request of the event log (IPMI 2.0, section 31): its command and data, at `now`. A request without a byte is
+    /// one of a wrong length.
+    pub fn request(&mut self, command: u8, data: &[u8], now: u32) -> SelReply
+        ensures reply { result.items ≡ sel_reply self.old.log command «data».now now }
+        ensures after { self.new ≡ record self.old { log = sel_after self.old.log command «data».now now } }
+    {
+        self.desk.log.request(command, data, now)
+    }
+}
+
+/// The parts for devices with these endpoint identifiers.
+fn parts_for(alloc: Global, own: u8, devices: &[u8]) -> Result<Vec<Part>, AllocError>
+    ensures { IfOk result (λ parts. map (half_in 0) parts.items ≡ map (new_half own) devices.now) }
+{
+    let mut parts = Vec::new(alloc);
+    for device in devices {
+        parts.push(Part::new(alloc, own, *device))?;
+    }
+    Ok(parts)
+}
+
+/// The place of a device's part.
+fn place_of(parts: &[Part], eid: u8) -> Option<usize>
+    ensures place { result ≡ place_of (map (half_in 0) parts.now) eid }
+    ensures within { IfSome result (λ place. place < length parts.now) }
+{
+    for (place, part) in parts.iter().enumerate() {
+        if part.peer() == eid {
+            return Some(place);
+        }
+    }
+    None
+}
+
+/// The session with a device.
+#[tactic(auto, using(crate::proofs::Places::places))]
+fn session_in(parts: &[Part], eid: u8) -> Option<&Session>
+    ensures { option_map (λ s. s.now) result ≡ option_map (λ h. h.core) (half_at (map (half_in 0) parts.now) (place_of (map (half_in 0) parts.now) eid)) }
+{
+    let Some(place) = place_of(parts, eid) else {
+        return None;
+    };
+    Some(parts[place].session())
+}
+
+/// The place of the part for the sender of a packet.
+fn sender_of(parts: &[Part], bytes: &[u8]) -> Option<usize>
+    ensures place { result ≡ place_heard (map (half_in 0) parts.now) (packet_read bytes.now) }
+    ensures within { IfSome result (λ place. place < length parts.now) }
+{
+    let Ok(packet) = mctp_wire::decode(bytes) else {
+        return None;
+    };
+    place_of(parts, packet.head.source)
+}
+
+/// The part at a place hears the bytes of a packet.
+#[tactic(auto, using(crate::proofs::Places::places))]
+fn hear_at<'p>(
+    parts: &mut [Part],
+    place: usize,
+    desk: &mut Desk,
+    packages: &'p [Package<'p>],
+    bytes: &[u8],
+    now: u32,
+    outbox: &mut Outbox,
+)
+    requires place { place < length parts.old }
+    requires outbox { outbox.old ≡ [] }
+    ensures after { agent_of 0 desk.new parts.new ≡ (hears_at packages.now (agent_of 0 desk.old parts.old) bytes.now now (Some place) (slice_get (map (half_in 0) parts.old) place)).agent }
+    ensures sent { outbox.new ≡ all_packets (hears_at packages.now (agent_of 0 desk.old parts.old) bytes.now now (Some place) (slice_get (map (half_in 0) parts.old) place)).sent }
+    ensures count { length parts.new ≡ length parts.old }
+{
+    parts[place].hear(desk, packages, bytes, now, outbox);
+}
+
+/// The first part of a tick, for all parts.
+fn grow_all<'p>(
+    parts: &mut [Part],
+    log: &mut Sel,
+    packages: &'p [Package<'p>],
+    now: u32,
+    outbox: &mut Outbox,
+)
+    requires { length outbox.old + 4 * length parts.old ≤ 128 }
+    ensures halves { map (half_in 0) parts.new ≡ map (grown packages.now) (map (half_in 0) parts.old) }
+    ensures sent { outbox.new ≡ outbox.old ++ flat_map again_packets (map (half_in 0) parts.old) }
+    ensures few { length outbox.new ≤ length outbox.old + 4 * length parts.old }
+    ensures log { log.new ≡ notes (grown packages.now) now log.old (map (half_in 0) parts.old) }
+    ensures count { length parts.new ≡ length parts.old }
+{
+    for part in parts.iter_mut() {
+        part.grow(log, packages, now, outbox);
+    }
+}
+
+/// The second and third parts of a tick, for all parts.
+fn wait_all<'p>(
+    parts: &mut [Part],
+    log: &mut Sel,
+    packages: &'p [Package<'p>],
+    now: u32,
+    outbox: &mut Outbox,
+)
+    requires { length outbox.old + 4 * length parts.old ≤ 128 }
+    ensures halves { map (half_in 0) parts.new ≡ map (ended packages.now) (map (half_in 0) parts.old) }
+    ensures sent { outbox.new ≡ outbox.old ++ flat_map (ended_packets packages.now) (map (half_in 0) parts.old) }
+    ensures log { log.new ≡ notes (waited packages.now) now log.old (map (half_in 0) parts.old) }
+    ensures count { length parts.new ≡ length parts.old }
+{
+    for part in parts.iter_mut() {
+        part.wait(log, packages, now, outbox);
+    }
+}
+
+/// All parts start anew.
+fn restart_all(parts: &mut [Part])
+    ensures { parts.new ≡ map part_restarted parts.old }
+{
+    for part in parts.iter_mut() {
+        part.restart();
+    }
+}
