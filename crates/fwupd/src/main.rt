@@ -6,6 +6,7 @@ mod drops;
 mod inspection;
 mod printing;
 mod responder;
+mod retries;
 mod stream;
 #[cfg(test)]
 mod tests;
