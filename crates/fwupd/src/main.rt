@@ -31,13 +31,7 @@ fn answer<'a>(rt: &HostRuntime, endpoint: Endpoint) -> Result<(), RunFault<'a>> 
         return Err(RunFault::Memory);
     };
     let mut reader = rt.reader();
-    match stream::answer_stream(
-        alloc,
-        &mut reader,
-        &mut writer,
-        endpoint.eid,
-        endpoint.uuid,
-    ) {
+    match stream::answer_stream(alloc, &mut reader, &mut writer, endpoint.eid, endpoint.uuid) {
         Ok(()) => Ok(()),
         Err(fault) => Err(RunFault::Answer(fault)),
     }

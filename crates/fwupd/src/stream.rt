@@ -184,7 +184,13 @@ pub fn answer_stream<R: Read, W: Write>(
             Err(fault) => return Err(fault),
         };
         let within = read.min(LIMIT - count);
-        match answer_piece(&mut responder, &mut held, &buffer[..within], &mut bytes, writer) {
+        match answer_piece(
+            &mut responder,
+            &mut held,
+            &buffer[..within],
+            &mut bytes,
+            writer,
+        ) {
             Ok(()) => {}
             Err(fault) => return Err(fault),
         }

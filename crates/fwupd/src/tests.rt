@@ -234,13 +234,28 @@ fn faults_are_told_by_their_names(rt: HostRuntime) -> Result<(), Fail> {
         (RunFault::Output, "output"),
         (package_fault(PackageFault::Memory), "memory"),
         (package_fault(PackageFault::Short), "package: Short"),
-        (package_fault(PackageFault::Identifier), "package: Identifier"),
+        (
+            package_fault(PackageFault::Identifier),
+            "package: Identifier",
+        ),
         (package_fault(PackageFault::Revision), "package: Revision"),
-        (package_fault(PackageFault::HeaderSize), "package: HeaderSize"),
-        (package_fault(PackageFault::BitmapLength), "package: BitmapLength"),
-        (package_fault(PackageFault::RecordLength), "package: RecordLength"),
+        (
+            package_fault(PackageFault::HeaderSize),
+            "package: HeaderSize",
+        ),
+        (
+            package_fault(PackageFault::BitmapLength),
+            "package: BitmapLength",
+        ),
+        (
+            package_fault(PackageFault::RecordLength),
+            "package: RecordLength",
+        ),
         (package_fault(PackageFault::Checksum), "package: Checksum"),
-        (package_fault(PackageFault::ImageRange), "package: ImageRange"),
+        (
+            package_fault(PackageFault::ImageRange),
+            "package: ImageRange",
+        ),
     ];
     for (fault, want) in table {
         assert_eq!(rt; text_of(&rt, fault)?.as_str(), want);

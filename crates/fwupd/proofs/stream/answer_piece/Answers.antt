@@ -18,11 +18,11 @@ loop-byte-preserved g c = elim c.if-byte-eq10.branch [
         c.loop-byte-test.true w.if-byte-eq10.true (rw (w.deref.ensures.value, c.loop-byte.invariant.endpoint) at w.in-Ok.ensures.ok));
   })
   | else-byte-eq10 w ↦
-    let room = w.push.ensures.succeeds (omega (arith, c.loop-byte.invariant.holds, c.loop-byte-test.true)) in
-    rw (w.held-is, w.writer-is, w.bytes-is, w.responder-is, pushed _ _ _ _ room w.push.ensures.items) (record {
-    holds = rw (length-append c.loop-byte.held.items (get_or c.args.piece.now c.loop-byte.byte-index 0 ∷ [])) (omega (arith, c.loop-byte.invariant.holds, w.push.ensures.capacity));
-    decodes = rw (length-append c.loop-byte.held.items (get_or c.args.piece.now c.loop-byte.byte-index 0 ∷ [])) (omega (arith, c.loop-byte.invariant.decodes));
-    endpoint = c.loop-byte.invariant.endpoint;
-    stands = λ text before h. piece_byte _ _ text c.args.piece.now c.loop-byte.byte-index before _ _ (c.loop-byte.invariant.stands text before h) c.loop-byte-test.true w.if-byte-eq10.false;
-  })
+      let room = w.push.ensures.succeeds (omega (arith, c.loop-byte.invariant.holds, c.loop-byte-test.true)) in
+      rw (w.held-is, w.writer-is, w.bytes-is, w.responder-is, pushed _ _ _ _ room w.push.ensures.items) (record {
+        holds = rw (length-append c.loop-byte.held.items (get_or c.args.piece.now c.loop-byte.byte-index 0 ∷ [])) (omega (arith, c.loop-byte.invariant.holds, w.push.ensures.capacity));
+        decodes = rw (length-append c.loop-byte.held.items (get_or c.args.piece.now c.loop-byte.byte-index 0 ∷ [])) (omega (arith, c.loop-byte.invariant.decodes));
+        endpoint = c.loop-byte.invariant.endpoint;
+        stands = λ text before h. piece_byte _ _ text c.args.piece.now c.loop-byte.byte-index before _ _ (c.loop-byte.invariant.stands text before h) c.loop-byte-test.true w.if-byte-eq10.false;
+      })
 ]

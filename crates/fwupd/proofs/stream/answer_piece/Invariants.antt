@@ -9,5 +9,5 @@ invariant-loop-byte g l = record {
   decodes : length l.held.items + length l.piece ≤ 2 * vec_capacity l.bytes + l.byte-index;
   endpoint : l.responder.endpoint ≡ l.fn.responder.endpoint;
   stands : (text : List ℕ) (before : Option (List ℕ)) → Stands l.fn.responder.endpoint l.fn.responder.tid text before (g.W.Write.contents l.fn.writer) l.fn.held.items
-    → Stands l.fn.responder.endpoint l.responder.tid (text ++ take l.byte-index l.piece) before (g.W.Write.contents l.writer) l.held.items;
+      → Stands l.fn.responder.endpoint l.responder.tid (text ++ take l.byte-index l.piece) before (g.W.Write.contents l.writer) l.held.items;
 }
