@@ -15,6 +15,49 @@ pub enum Job<'a> {
     Inspect(&'a str),
 }
 
+/// What stands below the help of `answer`.
+const ANSWER_HELP: &str = "\
+Examples:
+  printf '010908C8008002\\n' | fwupd answer 9        prints 010809C000000200090100
+  printf '020908C8008002\\n' | fwupd answer 9        prints drop Version
+
+Causes of a drop, of which the first that holds is printed:
+  Hex          the line isn't an even number of hexadecimal digits
+  Short        less than 4 bytes
+  Version      the low half of byte 0 isn't 1
+  Empty        no byte after the header
+  TooLong      more than 64 bytes after the header
+  Destination  byte 1 isn't EID
+  NotWhole     SOM or EOM is clear: the packet isn't a whole message
+  StartNumber  the packet's sequence number isn't 0
+  NotRequest   TO is clear
+  Type         the message type is neither 0x00 (control) nor 0x01 (PLDM)
+  Message      the message is no request that gets an answer
+
+Limits: a run reads at most 16777216 bytes, and refuses the next one as input.
+
+Status: 0; 1 where standard error says 'fwupd: input', 'fwupd: output' or 'fwupd: memory'; 2 for wrong usage.";
+
+/// What stands below the help of `inspect`.
+const INSPECT_HELP: &str = "\
+Example:
+  fwupd inspect data/two-records.fwpkg
+
+Faults of a package, of which the first that holds is printed:
+  Short         fewer bytes than the fixed part of a header
+  Identifier    the identifier isn't that of this format
+  Revision      the header revision isn't 1
+  HeaderSize    the header is longer than the file, or its parts don't end where it does
+  BitmapLength  the bitmap's bit length is 0, no multiple of 8, or less than the number of components
+  RecordLength  a record's length isn't the sum of its parts
+  Checksum      the header's checksum isn't that of the bytes before it
+  ImageRange    a component's image goes past the file's end
+
+Limits: the file's path is UTF-8 text, and the file fits into memory.
+
+Status: 0; 1 where standard error says 'fwupd: package: ' and a fault, 'fwupd: FILE: unreadable', 'fwupd: output' or
+'fwupd: memory'; 2 for wrong usage.";
+
 /// The subcommand `answer`.
 fn answer_command<'a>(alloc: Global) -> Result<Command<'a>, clap::Error> {
     let eid = Arg::new(alloc, "EID")
@@ -32,8 +75,9 @@ fn answer_command<'a>(alloc: Global) -> Result<Command<'a>, clap::Error> {
         .long_about(
             "Answers MCTP packets as an endpoint without a device.\n\n\
             Each line of standard input is one packet in hexadecimal digits. For each, one line goes to \
-            standard output: the packet that answers it in upper-case digits, or 'drop' and why it gets no answer.",
+            standard output: the packet that answers it in upper-case digits, or 'drop' and why it gets no answer. The answers to whole lines are written before more input is awaited.",
         )
+        .after_long_help(ANSWER_HELP)
         .arg(eid)?
         .arg(uuid)?;
     Ok(command)
@@ -53,6 +97,7 @@ fn inspect_command<'a>(alloc: Global) -> Result<Command<'a>, clap::Error> {
             Records and components are counted from 1; a byte of a text that isn't plain ASCII is printed as \\x and \
             two digits. A file that is no package is refused by the first fault that holds.",
         )
+        .after_long_help(INSPECT_HELP)
         .arg(file)?;
     Ok(command)
 }
@@ -71,11 +116,14 @@ fn command<'a>(alloc: Global) -> Result<Command<'a>, clap::Error> {
 
 /// The job of `answer`: its endpoint.
 fn answer_job<'a>(alloc: Global, matches: &ArgMatches<'a>) -> Result<Job<'a>, clap::Error> {
+    let Some(eid) = matches.get_one::<u8>("EID") else {
+        return Err(command(alloc)?.error(ErrorKind::MissingRequiredArgument, "EID is required")?);
+    };
     let text = matches.get_str("uuid").unwrap_or("");
-    match (matches.get_one::<u8>("EID"), Uuid::parse_str(text)) {
-        (Some(eid), Ok(uuid)) => Ok(Job::Answer(Endpoint { eid, uuid })),
-        _ => {
-            let message = format!(in alloc; "invalid value '{text}' for '--uuid <UUID>'")?;
+    match Uuid::parse_str(text) {
+        Ok(uuid) => Ok(Job::Answer(Endpoint { eid, uuid })),
+        Err(error) => {
+            let message = format!(in alloc; "invalid value '{text}' for '--uuid <UUID>': {error}")?;
             Err(command(alloc)?.error(ErrorKind::ValueValidation, &message)?)
         }
     }

@@ -3,57 +3,37 @@
 
 mod command_line;
 mod drops;
+mod faults;
 mod inspection;
 mod printing;
 mod responder;
+mod retries;
 mod stream;
 #[cfg(test)]
 mod tests;
 mod text;
 
+use clap::error::ErrorKind;
 use command_line::Job;
-use inspection::InspectFault;
+use faults::{RunFault, inspection_fault, reading_fault};
 use mctp_ctl::Endpoint;
 use std::fs::File;
-use std::io::{self, BufReader, BufWriter, Read, Write};
+use std::io::{self, BufWriter, Read, Write};
 use std::process::ExitCode;
-use stream::AnswerFault;
 
-/// Answers the packets of standard input on standard output, through buffers.
-fn answer(rt: &HostRuntime, endpoint: Endpoint) -> Result<(), AnswerFault> {
+/// Wrong usage.
+const USAGE: u8 = 2;
+
+/// Answers the packets of standard input on standard output.
+fn answer<'a>(rt: &HostRuntime, endpoint: Endpoint) -> Result<(), RunFault<'a>> {
     let alloc = rt.alloc();
-    let Ok(mut reader) = BufReader::new(alloc, rt.reader()) else {
-        return Err(AnswerFault::Memory);
-    };
     let Ok(mut writer) = BufWriter::new(alloc, io::writer(rt)) else {
-        return Err(AnswerFault::Memory);
+        return Err(RunFault::Memory);
     };
-    let answered = stream::answer_stream(
-        alloc,
-        &mut reader,
-        &mut writer,
-        endpoint.eid,
-        endpoint.uuid,
-    );
-    if writer.flush().is_err() {
-        return Err(AnswerFault::Write);
-    }
-    answered
-}
-
-/// Prints a fault, and gives the status that says so.
-fn failed(rt: &HostRuntime, fault: &str) -> io::Result<ExitCode> {
-    eprintln!(rt; "fwupd: {fault}")?;
-    Ok(ExitCode::FAILURE)
-}
-
-/// The status of a run of `answer`.
-fn run_answer(rt: &HostRuntime, endpoint: Endpoint) -> io::Result<ExitCode> {
-    match answer(rt, endpoint) {
-        Ok(()) => Ok(ExitCode::SUCCESS),
-        Err(AnswerFault::Read) => failed(rt, "input"),
-        Err(AnswerFault::Write) => failed(rt, "output"),
-        Err(AnswerFault::Memory) => failed(rt, "memory"),
+    let mut reader = rt.reader();
+    match stream::answer_stream(alloc, &mut reader, &mut writer, endpoint.eid, endpoint.uuid) {
+        Ok(()) => Ok(()),
+        Err(fault) => Err(RunFault::Answer(fault)),
     }
 }
 
@@ -71,50 +51,75 @@ fn contents(rt: &HostRuntime, path: &str) -> io::Result<Vec<u8>> {
 }
 
 /// Prints what the package in a file holds.
-fn run_inspect(rt: &HostRuntime, path: &str) -> io::Result<ExitCode> {
+fn inspect<'a>(rt: &HostRuntime, path: &'a str) -> Result<(), RunFault<'a>> {
     let bytes = match contents(rt, path) {
         Ok(bytes) => bytes,
-        Err(error) if error.kind() == io::ErrorKind::OutOfMemory => return failed(rt, "memory"),
-        Err(_) => {
-            eprintln!(rt; "fwupd: {path}: unreadable")?;
-            return Ok(ExitCode::FAILURE);
-        }
+        Err(error) => return Err(reading_fault(path, &error)),
     };
-    match inspection::inspect(rt.alloc(), &bytes) {
-        Ok(text) => {
-            let mut writer = io::writer(rt);
-            if writer.write_all(&text).is_err() {
-                return failed(rt, "output");
-            }
-            Ok(ExitCode::SUCCESS)
-        }
-        Err(InspectFault::Memory) => failed(rt, "memory"),
-        Err(InspectFault::Package(fault)) => {
-            eprintln!(rt; "fwupd: package: {fault}")?;
-            Ok(ExitCode::FAILURE)
-        }
+    let text = match inspection::inspect(rt.alloc(), &bytes) {
+        Ok(text) => text,
+        Err(fault) => return Err(inspection_fault(fault)),
+    };
+    match io::writer(rt).write_all(&text) {
+        Ok(()) => Ok(()),
+        Err(_) => Err(RunFault::Output),
     }
 }
 
 /// Does what the words ask for.
-fn run(rt: &HostRuntime, job: &Job<'_>) -> io::Result<ExitCode> {
+fn run<'a>(rt: &HostRuntime, job: &Job<'a>) -> Result<(), RunFault<'a>> {
     match job {
-        Job::Answer(endpoint) => run_answer(rt, *endpoint),
-        Job::Inspect(path) => run_inspect(rt, path),
+        Job::Answer(endpoint) => answer(rt, *endpoint),
+        Job::Inspect(path) => inspect(rt, path),
     }
 }
 
-fn main(rt: HostRuntime) -> io::Result<ExitCode> {
-    let alloc = rt.alloc();
-    let Ok(args) = std::env::args(&rt) else {
-        return Ok(ExitCode::from(2));
-    };
-    let words: Vec<String> = args.collect(alloc)?;
-    match command_line::parse(alloc, words.as_slice()) {
-        Ok(job) => run(&rt, &job),
-        Err(error) => {
-            error.print(&rt)?;
-            Ok(ExitCode::from(error.exit_code() as u8))
+/// Prints a fault, where standard error takes it, and gives the status that says so.
+fn failed(rt: &HostRuntime, fault: RunFault<'_>) -> ExitCode {
+    let _ = eprintln!(rt; "fwupd: {fault}");
+    ExitCode::FAILURE
+}
+
+/// Prints what stands in place of a job, the text of help or of wrong usage, and gives its status.
+fn no_job(rt: &HostRuntime, error: &clap::Error) -> ExitCode {
+    if error.kind() == ErrorKind::OutOfMemory {
+        return failed(rt, RunFault::Memory);
+    }
+    match error.print(rt) {
+        Ok(()) => ExitCode::from(error.exit_code() as u8),
+        Err(_) if error.use_stderr() => ExitCode::from(USAGE),
+        Err(_) => failed(rt, RunFault::Output),
+    }
+}
+
+/// The words of the command line, or the status where there are none to read.
+fn words(rt: &HostRuntime) -> Result<Vec<String>, ExitCode> {
+    let args = match std::env::args(rt) {
+        Ok(args) => args,
+        Err(error) if error.kind() == io::ErrorKind::OutOfMemory => {
+            return Err(failed(rt, RunFault::Memory));
         }
+        Err(_) => {
+            let _ = eprintln!(rt; "error: an argument isn't UTF-8 text");
+            return Err(ExitCode::from(USAGE));
+        }
+    };
+    match args.collect(rt.alloc()) {
+        Ok(words) => Ok(words),
+        Err(_) => Err(failed(rt, RunFault::Memory)),
+    }
+}
+
+fn main(rt: HostRuntime) -> ExitCode {
+    let words = match words(&rt) {
+        Ok(words) => words,
+        Err(status) => return status,
+    };
+    match command_line::parse(rt.alloc(), words.as_slice()) {
+        Ok(job) => match run(&rt, &job) {
+            Ok(()) => ExitCode::SUCCESS,
+            Err(fault) => failed(&rt, fault),
+        },
+        Err(error) => no_job(&rt, &error),
     }
 }

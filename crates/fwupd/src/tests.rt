@@ -1,7 +1,9 @@
 //! Runs of the programs over byte readers and writers.
 
 use crate::command_line::{Job, parse};
+use crate::faults::{RunFault, package_fault};
 use crate::stream::{AnswerFault, answer_stream};
+use fw_package::PackageFault;
 use mctp_ctl::Endpoint;
 use std::io::{self, Read, Write};
 use std::test::Fail;
@@ -19,6 +21,45 @@ impl<'a> Read for BrokenReader<'a> {
             return Err(io::Error::from(io::ErrorKind::Other));
         }
         self.rest.read(buffer)
+    }
+}
+
+/// Is interrupted before each byte that it gives.
+#[derive(Drop)]
+struct InterruptedReader<'a> {
+    rest: &'a [u8],
+    ready: bool,
+}
+
+impl<'a> Read for InterruptedReader<'a> {
+    fn read(&mut self, buffer: &mut [u8]) -> io::Result<usize> {
+        self.ready = !self.ready;
+        if self.ready || buffer.is_empty() {
+            return Err(io::Error::from(io::ErrorKind::Interrupted));
+        }
+        self.rest.read(&mut buffer[..1])
+    }
+}
+
+/// Holds what was flushed, and counts the flushes that had something to flush.
+#[derive(Drop)]
+struct FlushedWriter {
+    flushes: usize,
+    waiting: usize,
+}
+
+impl Write for FlushedWriter {
+    fn write(&mut self, buffer: &[u8]) -> io::Result<usize> {
+        self.waiting = buffer.len();
+        Ok(buffer.len())
+    }
+
+    fn flush(&mut self) -> io::Result<()> {
+        if self.waiting > 0 {
+            self.flushes = self.flushes.saturating_add(1);
+        }
+        self.waiting = 0;
+        Ok(())
     }
 }
 
@@ -61,112 +102,6 @@ fn answers_control_and_base_commands_in_one_run(rt: HostRuntime) -> Result<(), F
 }
 
 #[test]
-fn names_the_first_cause_of_a_drop(rt: HostRuntime) -> Result<(), Fail> {
-    let table: [(&str, &[u8], &[u8]); 23] = [
-        ("an odd number of digits", b"01090\n", b"drop Hex\n"),
-        ("no digit", b"0109x8C8008002\n", b"drop Hex\n"),
-        ("a carriage return", b"010908C8008002\r\n", b"drop Hex\n"),
-        ("a bad digit in a short line", b"0g\n", b"drop Hex\n"),
-        ("an empty line", b"\n", b"drop Short\n"),
-        (
-            "three bytes of another version",
-            b"020908\n",
-            b"drop Short\n",
-        ),
-        ("version 2", b"020908C8008002\n", b"drop Version\n"),
-        ("version 2 and no body", b"020908C8\n", b"drop Version\n"),
-        (
-            "no body, for another endpoint",
-            b"010A08C8\n",
-            b"drop Empty\n",
-        ),
-        (
-            "another endpoint",
-            b"010A08C8008002\n",
-            b"drop Destination\n",
-        ),
-        (
-            "another endpoint, not whole",
-            b"010A0888008002\n",
-            b"drop Destination\n",
-        ),
-        ("EOM clear", b"01090888008002\n", b"drop NotWhole\n"),
-        ("SOM clear", b"01090848008002\n", b"drop NotWhole\n"),
-        (
-            "not whole, number 1",
-            b"01090898008002\n",
-            b"drop NotWhole\n",
-        ),
-        ("number 1", b"010908D8008002\n", b"drop StartNumber\n"),
-        (
-            "number 1 in an answer",
-            b"010908D0008002\n",
-            b"drop StartNumber\n",
-        ),
-        ("an answer", b"010908C0008002\n", b"drop NotRequest\n"),
-        (
-            "an answer of another type",
-            b"010908C0058002\n",
-            b"drop NotRequest\n",
-        ),
-        ("another type", b"010908C8058002\n", b"drop Type\n"),
-        ("the integrity bit", b"010908C8808002\n", b"drop Type\n"),
-        ("a control answer", b"010908C8000002\n", b"drop Message\n"),
-        ("a PLDM answer", b"010908C801000002\n", b"drop Message\n"),
-        (
-            "a PLDM header version",
-            b"010908C801804002\n",
-            b"drop Message\n",
-        ),
-    ];
-    for (situation, line, want) in table {
-        assert_eq!(rt; answers_to(&rt, line)?.as_slice(), want, "{situation}");
-    }
-    Ok(())
-}
-
-#[test]
-fn refuses_the_69th_byte(rt: HostRuntime) -> Result<(), Fail> {
-    let mut line = Vec::new(rt.alloc());
-    line.extend_from_slice(b"010908C8")?;
-    line.resize(2 * 68, b'0')?;
-    assert_eq!(rt;
-        answers_to(&rt, &line)?.as_slice(),
-        b"drop Message\n".as_slice()
-    );
-    line.resize(2 * 69, b'0')?;
-    assert_eq!(rt;
-        answers_to(&rt, &line)?.as_slice(),
-        b"drop TooLong\n".as_slice()
-    );
-    line.push(b'x')?;
-    assert_eq!(rt;
-        answers_to(&rt, &line)?.as_slice(),
-        b"drop Hex\n".as_slice()
-    );
-    Ok(())
-}
-
-#[test]
-fn a_line_ends_at_its_line_feed_or_at_the_end(rt: HostRuntime) -> Result<(), Fail> {
-    let table: [(&str, &[u8], &[u8]); 5] = [
-        ("nothing", b"", b""),
-        ("a line feed", b"\n", b"drop Short\n"),
-        ("two empty lines", b"\n\n", b"drop Short\ndrop Short\n"),
-        ("a last line without one", b"\n0", b"drop Short\ndrop Hex\n"),
-        (
-            "tids last from line to line",
-            b"010908C80180000105\n010908C901810002",
-            b"010809C00100000100\n010809C1010100020005\n",
-        ),
-    ];
-    for (situation, text, want) in table {
-        assert_eq!(rt; answers_to(&rt, text)?.as_slice(), want, "{situation}");
-    }
-    Ok(())
-}
-
-#[test]
 fn a_broken_reader_leaves_the_answers_before(rt: HostRuntime) {
     let mut out = Vec::new(rt.alloc());
     let mut input = BrokenReader {
@@ -178,6 +113,21 @@ fn a_broken_reader_leaves_the_answers_before(rt: HostRuntime) {
 }
 
 #[test]
+fn an_interrupted_read_is_tried_again_and_each_answer_is_flushed(rt: HostRuntime) {
+    let mut input = InterruptedReader {
+        rest: b"02\n0109\n03".as_slice(),
+        ready: false,
+    };
+    let mut writer = FlushedWriter {
+        flushes: 0,
+        waiting: 0,
+    };
+    let outcome = answer_stream(rt.alloc(), &mut input, &mut writer, 9, Uuid::nil());
+    assert!(rt; outcome.is_ok());
+    assert_eq!(rt; writer.flushes, 3);
+}
+
+#[test]
 fn a_broken_writer_stops_the_run(rt: HostRuntime) {
     let mut room = [0u8; 16];
     let mut writer = room.as_mut_slice();
@@ -185,7 +135,6 @@ fn a_broken_writer_stops_the_run(rt: HostRuntime) {
     let outcome = answer_stream(rt.alloc(), &mut input, &mut writer, 9, Uuid::nil());
     assert!(rt; matches!(outcome, Err(AnswerFault::Write)));
     assert_eq!(rt; room.as_slice(), b"drop Short\ndrop ".as_slice());
-    assert_eq!(rt; input, b"03\n".as_slice());
 }
 
 #[test]
@@ -235,48 +184,6 @@ fn words_of(rt: &HostRuntime, line: &str) -> Result<Vec<String>, Fail> {
     Ok(words)
 }
 
-#[test]
-fn wrong_usage_is_status_two_on_standard_error(rt: HostRuntime) -> Result<(), Fail> {
-    for line in [
-        "fwupd",
-        "fwupd answer",
-        "fwupd answer 7",
-        "fwupd answer 255",
-        "fwupd answer x",
-        "fwupd answer 9 8",
-        "fwupd answer 9 --uuid zz",
-        "fwupd unknown",
-    ] {
-        match parse(rt.alloc(), words_of(&rt, line)?.as_slice()) {
-            Ok(_) => assert!(rt; false, "{line}"),
-            Err(error) => {
-                assert_eq!(rt; error.exit_code(), 2, "{line}");
-                assert!(rt; error.use_stderr(), "{line}");
-            }
-        }
-    }
-    Ok(())
-}
-
-#[test]
-fn help_and_version_go_to_standard_output(rt: HostRuntime) -> Result<(), Fail> {
-    for line in [
-        "fwupd --help",
-        "fwupd help",
-        "fwupd answer --help",
-        "fwupd --version",
-    ] {
-        match parse(rt.alloc(), words_of(&rt, line)?.as_slice()) {
-            Ok(_) => assert!(rt; false, "{line}"),
-            Err(error) => {
-                assert_eq!(rt; error.exit_code(), 0, "{line}");
-                assert!(rt; !error.use_stderr(), "{line}");
-            }
-        }
-    }
-    Ok(())
-}
-
 /// The endpoint that a command line names, if it is one of `answer`.
 fn endpoint_named(rt: &HostRuntime, line: &str) -> Result<Option<Endpoint>, Fail> {
     let words = words_of(rt, line)?;
@@ -308,6 +215,50 @@ fn the_endpoint_is_the_one_of_the_words(rt: HostRuntime) -> Result<(), Fail> {
         };
         assert_eq!(rt; endpoint.eid, eid, "{line}");
         assert_eq!(rt; endpoint.uuid.as_bytes()[15], last, "{line}");
+    }
+    Ok(())
+}
+
+/// The text of a fault of a run.
+fn text_of(rt: &HostRuntime, fault: RunFault<'_>) -> Result<String, Fail> {
+    Ok(format!(in rt.alloc(); "{fault}")?)
+}
+
+#[test]
+fn faults_are_told_by_their_names(rt: HostRuntime) -> Result<(), Fail> {
+    let table: [(RunFault<'_>, &str); 14] = [
+        (RunFault::Answer(AnswerFault::Read), "input"),
+        (RunFault::Answer(AnswerFault::Write), "output"),
+        (RunFault::Answer(AnswerFault::Memory), "memory"),
+        (RunFault::Unreadable("a b"), "a b: unreadable"),
+        (RunFault::Output, "output"),
+        (package_fault(PackageFault::Memory), "memory"),
+        (package_fault(PackageFault::Short), "package: Short"),
+        (
+            package_fault(PackageFault::Identifier),
+            "package: Identifier",
+        ),
+        (package_fault(PackageFault::Revision), "package: Revision"),
+        (
+            package_fault(PackageFault::HeaderSize),
+            "package: HeaderSize",
+        ),
+        (
+            package_fault(PackageFault::BitmapLength),
+            "package: BitmapLength",
+        ),
+        (
+            package_fault(PackageFault::RecordLength),
+            "package: RecordLength",
+        ),
+        (package_fault(PackageFault::Checksum), "package: Checksum"),
+        (
+            package_fault(PackageFault::ImageRange),
+            "package: ImageRange",
+        ),
+    ];
+    for (fault, want) in table {
+        assert_eq!(rt; text_of(&rt, fault)?.as_str(), want);
     }
     Ok(())
 }

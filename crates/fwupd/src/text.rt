@@ -1,6 +1,6 @@
 //! Lines of hexadecimal digits in, lines of text out.
 
-ghost use Rattle.std.specs.Prelude.{◌≡◌, ◌+◌, ◌*◌, ◌∷◌, [], ◌++◌, ◌≤◌, length, IfOk, OnOk, OnErr};
+ghost use Rattle.std.specs.Prelude.{◌≡◌, ◌+◌, ◌*◌, ◌∷◌, [], ◌++◌, ◌≤◌, length, vec_capacity};
 ghost use Rattle.std.specs.Result.{result_map_both};
 ghost use Rattle.hex.specs.Hex.{decode_of, encode_upper};
 ghost use Rattle.fwupd.specs.Answers.{line_text_of, printed, tid_left_by};
@@ -10,7 +10,6 @@ use crate::responder::Responder;
 use arrayvec::ArrayVec;
 use hex::FromHexError;
 use mctp_wire::RawPacket;
-use std::alloc::AllocError;
 
 /// One line of output: a packet of 68 bytes in digits, and a line feed.
 pub type LineText = ArrayVec<u8, 137>;
@@ -21,12 +20,14 @@ const DROP: &[u8] = b"drop ";
 /// Decodes digits, two a byte, into `bytes`, which has their size afterwards.
 ///
 /// # Errors
-/// Only want of memory for the bytes; whether the digits are well formed is the inner result.
-fn decode_digits(digits: &[u8], bytes: &mut Vec<u8>) -> Result<Result<(), FromHexError>, AllocError>
-    ensures { IfOk result (λ r. result_map_both (λ _. bytes.new.items) (λ e. e) r ≡ decode_of digits.now) }
+/// The digits aren't well formed.
+fn decode_digits(digits: &[u8], bytes: &mut Vec<u8>) -> Result<(), FromHexError>
+    requires room { length digits.now ≤ 2 * vec_capacity bytes.old }
+    ensures value { result_map_both (λ _. bytes.new.items) (λ e. e) result ≡ decode_of digits.now }
+    ensures capacity { vec_capacity bytes.old ≤ vec_capacity bytes.new }
 {
-    bytes.resize(digits.len() / 2, 0)?;
-    Ok(hex::decode_to_slice(digits, bytes.as_mut_slice()))
+    bytes.resize(digits.len() / 2, 0).unwrap();
+    hex::decode_to_slice(digits, bytes.as_mut_slice())
 }
 
 /// Appends a byte in two upper-case digits.
@@ -69,22 +70,16 @@ fn line_text(reply: &Result<RawPacket, DropCause>) -> LineText
 }
 
 /// Answers one line of digits: its text. `bytes` is room that is used again for each line.
-///
-/// # Errors
-/// Only want of memory for the line's bytes; the responder is then as it was.
 #[tactic(auto, unfolding(crate::specs::Answers::printed, crate::specs::Answers::tid_left_by))]
-pub fn answer_line(
-    responder: &mut Responder,
-    digits: &[u8],
-    bytes: &mut Vec<u8>,
-) -> Result<LineText, AllocError>
-    ensures text { IfOk result (λ t. t.items ≡ printed responder.old.endpoint responder.old.tid digits.now) }
-    ensures after { OnOk result (responder.new ≡ record responder.old { tid = tid_left_by responder.old.endpoint responder.old.tid digits.now }) }
-    ensures kept { OnErr result (responder.new ≡ responder.old) }
+pub fn answer_line(responder: &mut Responder, digits: &[u8], bytes: &mut Vec<u8>) -> LineText
+    requires room { length digits.now ≤ 2 * vec_capacity bytes.old }
+    ensures text { result.items ≡ printed responder.old.endpoint responder.old.tid digits.now }
+    ensures after { responder.new ≡ record responder.old { tid = tid_left_by responder.old.endpoint responder.old.tid digits.now } }
+    ensures capacity { vec_capacity bytes.old ≤ vec_capacity bytes.new }
 {
-    let reply = match decode_digits(digits, bytes)? {
+    let reply = match decode_digits(digits, bytes) {
         Ok(()) => responder.answer(bytes.as_slice()),
         Err(_) => Err(DropCause::Hex),
     };
-    Ok(line_text(&reply))
+    line_text(&reply)
 }

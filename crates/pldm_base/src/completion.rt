@@ -1,6 +1,9 @@
 //! The completion codes that every PLDM type shares (DSP0240, "PLDM completion codes"). An answer's first byte is
 //! one of these or one of its type's own, and an answer with another code than `SUCCESS` ends there.
 
+ghost use Rattle.std.specs.Prelude.{◌≡◌, ◌∷◌, []};
+ghost use Rattle.pldm_base.specs.Codes.{error, invalid_data, invalid_length, invalid_pldm_type, invalid_type_in_request, not_ready, success, unsupported_command};
+
 /// The command was carried out.
 pub const SUCCESS: u8 = 0x00;
 
@@ -24,3 +27,19 @@ pub const ERROR_INVALID_PLDM_TYPE: u8 = 0x20;
 
 /// GetPLDMCommands asks for a PLDM type that isn't here.
 pub const INVALID_PLDM_TYPE_IN_REQUEST_DATA: u8 = 0x83;
+
+/// Each of these codes, in the order of their values.
+pub fn completion_codes() -> [u8; 8]
+    ensures values { result ≡ success ∷ error ∷ invalid_data ∷ invalid_length ∷ not_ready ∷ unsupported_command ∷ invalid_pldm_type ∷ invalid_type_in_request ∷ [] }
+{
+    [
+        SUCCESS,
+        ERROR,
+        ERROR_INVALID_DATA,
+        ERROR_INVALID_LENGTH,
+        ERROR_NOT_READY,
+        ERROR_UNSUPPORTED_PLDM_CMD,
+        ERROR_INVALID_PLDM_TYPE,
+        INVALID_PLDM_TYPE_IN_REQUEST_DATA,
+    ]
+}

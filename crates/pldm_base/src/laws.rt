@@ -1,6 +1,10 @@
 //! What reading and writing have to do with each other.
 
+ghost use Rattle.std.specs.Prelude.{◌≡◌, ◌∷◌, []};
 ghost use Rattle.pldm_base.specs.Header.{ReadsMessages, WritesMessages};
+
+use crate::base::{GET_PLDM_COMMANDS, GET_PLDM_TYPES, GET_TID, SET_TID};
+use crate::header::{TYPE_BASE, TYPE_FIRMWARE_UPDATE};
 
 /// What is written reads back as the same head and body: the written spelling is a PLDM message with them, and bytes
 /// are a message with one head and one body at most, those that are read.
@@ -8,3 +12,14 @@ pub fn reads_back()
     ensures written { WritesMessages }
     ensures read { ReadsMessages }
 {}
+
+/// The numbers of the PLDM types, base and firmware update, and of the base commands, in the order of their values.
+pub fn numbers() -> ([u8; 2], [u8; 4])
+    ensures types { result.0 ≡ 0 ∷ 5 ∷ [] }
+    ensures commands { result.1 ≡ 1 ∷ 2 ∷ 4 ∷ 5 ∷ [] }
+{
+    (
+        [TYPE_BASE, TYPE_FIRMWARE_UPDATE],
+        [SET_TID, GET_TID, GET_PLDM_TYPES, GET_PLDM_COMMANDS],
+    )
+}

@@ -13,5 +13,5 @@ pub use base::{
 pub use header::{
     MAX_MESSAGE, PldmFault, PldmHead, RawMessage, TYPE_BASE, TYPE_FIRMWARE_UPDATE, decode, encode,
 };
-pub use laws::reads_back;
+pub use laws::{numbers, reads_back};
 pub use terminus::{Role, Tid};

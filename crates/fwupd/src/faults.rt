@@ -1,0 +1,43 @@
+//! Why a run ends with status 1.
+
+use crate::inspection::InspectFault;
+use crate::stream::AnswerFault;
+use fw_package::PackageFault;
+use std::io;
+use thiserror::Error;
+
+/// Why a run ends with status 1. The text is what is printed after `fwupd: `.
+#[derive(Clone, Copy, Debug, PartialEq, Eq, Error)]
+pub enum RunFault<'a> {
+    /// Packets can't be answered any more.
+    #[error("{0}")]
+    Answer(AnswerFault),
+    /// The file of this path can't be read.
+    #[error("{0}: unreadable")]
+    Unreadable(&'a str),
+    /// The file holds no package.
+    #[error("package: {0}")]
+    Package(PackageFault),
+    /// Standard output takes no more.
+    #[error("output")]
+    Output,
+    /// Memory was refused.
+    #[error("memory")]
+    Memory,
+}
+
+/// Why a file couldn't be read.
+pub fn reading_fault<'a>(path: &'a str, error: &io::Error) -> RunFault<'a> {
+    match error.kind() {
+        io::ErrorKind::OutOfMemory => RunFault::Memory,
+        _ => RunFault::Unreadable(path),
+    }
+}
+
+/// Why a package couldn't be inspected.
+pub fn inspection_fault<'a>(fault: InspectFault) -> RunFault<'a> {
+    match fault {
+        InspectFault::Memory => RunFault::Memory,
+        InspectFault::Package(fault) => RunFault::Package(fault),
+    }
+}
