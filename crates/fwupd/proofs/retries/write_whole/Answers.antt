@@ -1,5 +1,3 @@
-use Rattle.std.proofs.Common.{take, ap}
-use Rattle.std.specs.Io.KnownBytes.{Appends}
 use Rattle.std.proofs.KnownBytes.{Appends-kept}
 use Rattle.fwupd.proofs.Streams.{appends_more, slice_rest, within_more}
 use Rattle.fwupd.proofs.retries.write_whole.Goals as goal

@@ -1,4 +1,4 @@
-use Rattle.std.proofs.Common.{◌∷◌, [], ◌++◌, refl, arith, get_or, length-append}
+use Rattle.std.proofs.Common.{◌∷◌, [], arith, get_or, length-append}
 use Rattle.fwupd.proofs.Streams.{piece_byte, piece_line, piece_broken, pushed}
 use Rattle.fwupd.proofs.stream.answer_piece.Goals as goal
 use Rattle.fwupd.proofs.stream.answer_piece.Goals.{then-byte-eq10+in-Ok, else-byte-eq10}

@@ -1,6 +1,6 @@
-use Rattle.std.proofs.Common.{[], ◌∙◌, refl, arith}
+use Rattle.std.proofs.Common.{[], ◌∙◌, arith}
 use Rattle.std.proofs.KnownBytes.{Keeps-refl}
-use Rattle.fwupd.proofs.Streams.{reads_start, stopped_within, stopped_past, finished, read_whole, finish_broken, reads_more, turn_broken, unflushed, stands_kept}
+use Rattle.fwupd.proofs.Streams.{reads_start, stopped_within, finished, read_whole, finish_broken, reads_more, turn_broken, unflushed, stands_kept}
 use Rattle.fwupd.proofs.stream.answer_stream.Goals as goal
 
 pub returns-in_default-clause-stopped : goal.returns-in_default-clause-stopped

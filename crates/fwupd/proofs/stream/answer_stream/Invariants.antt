@@ -1,4 +1,4 @@
-use Rattle.std.proofs.Common.{◌≡◌, ◌≤◌, ◌+◌, ◌-◌, length}
+use Rattle.std.proofs.Common.{◌≡◌, ◌≤◌, ◌-◌, length}
 use Rattle.fwupd.specs.Answers.{endpoint_of}
 use Rattle.fwupd.specs.Stream.{Reads}
 use Rattle.fwupd.proofs.stream.answer_stream.Given as goal
