@@ -5,7 +5,7 @@ use crate::tests::seeing::{
     Cell, Note, active, applied, cell_of, failures, happened, holds, is_worked_image, records,
     stands,
 };
-use crate::tests::setup::{KEY, NEWER, ONE, Small, join, opening, package};
+use crate::tests::setup::{KEY, NEWER, ONE, Small, join, opening, package, packages_of};
 use crate::tests::steps::{
     ASKED, DEVICE, DROP_DOWN, DROP_UP, GIVE_UP_DOWN, GIVE_UP_UP, START, TAKE_DOWN, TIME_OUT_DEVICE,
     WHOLE, go_on, led, replay, takes, takes_worked, worked,
@@ -66,37 +66,27 @@ fn a_session_fails_when_its_asker_gives_up(rt: HostRuntime) -> Result<(), Fail> 
     Ok(())
 }
 
-/// Whether a start with the package of this number behind the worked update leads there.
-fn follows(
-    alloc: Global,
-    packages: &[Package<'_>],
-    number: usize,
-    device: State,
-    session: SessionState,
-) -> Result<bool, Fail> {
-    let then = [TIME_OUT_DEVICE, MessageStep::Start(DEVICE, number)];
-    let mut world = led(alloc, packages, WHOLE, &then)?;
-    go_on(&mut world);
-    let runs = is_worked_image(active(&world, DEVICE, KEY));
-    Ok(runs && stands(&world, DEVICE, device, session))
+/// Whether the update that has begun leads there.
+fn leads(world: &mut Small<'_>, device: State, session: SessionState) -> bool {
+    go_on(world);
+    is_worked_image(active(world, DEVICE, KEY)) && stands(world, DEVICE, device, session)
 }
 
 #[test]
 fn a_newer_package_follows_and_the_same_one_does_not(rt: HostRuntime) -> Result<(), Fail> {
     let one = file(rt.alloc(), ONE)?;
     let other = file(rt.alloc(), NEWER)?;
-    let packages = [Package::read(&one)?, Package::read(&other)?];
+    let packages = packages_of(&one, &other)?;
     let nothing = SessionState::Failed(Cause::NothingToUpdate);
-    assert!(rt; follows(rt.alloc(), &packages, 1, State::Ready, nothing)?);
-    assert!(rt;
-        follows(
-            rt.alloc(),
-            &packages,
-            2,
-            State::Activate,
-            SessionState::Done
-        )?
-    );
+    let rows = [
+        (1, State::Ready, nothing),
+        (2, State::Activate, SessionState::Done),
+    ];
+    for (number, device, session) in rows {
+        let start = MessageStep::Start(DEVICE, number);
+        let mut world = led(rt.alloc(), &packages, WHOLE, &[TIME_OUT_DEVICE, start])?;
+        assert!(rt; leads(&mut world, device, session), "package {number}");
+    }
     Ok(())
 }
 

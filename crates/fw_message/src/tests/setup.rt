@@ -74,6 +74,11 @@ pub fn package(bytes: &[u8]) -> Result<Package<'_>, PackageFault> {
     Package::read(bytes)
 }
 
+/// The packages of two files.
+pub fn packages_of<'a>(one: &'a [u8], other: &'a [u8]) -> Result<[Package<'a>; 2], PackageFault> {
+    Ok([package(one)?, package(other)?])
+}
+
 /// The worked device's descriptors: type 0, data 34 12.
 fn descriptors() -> DescriptorList {
     let mut descriptors = DescriptorList::new();
