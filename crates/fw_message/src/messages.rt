@@ -1,6 +1,6 @@
 //! The world over whole messages: one cell a way, no tags and no time.
 
-ghost use Rattle.std.specs.Prelude.{[], ◌≡◌, ◌≢◌, ◌≤◌, ◌<◌, ◌++◌, ◌∷◌, Err, IfErr, IfOk, IfSome, None, OnErr, OnOk, Ok, Some, false, get_or, length, map, option_map, slice_set, true};
+ghost use Rattle.std.specs.Prelude.{[], ◌≡◌, ◌≢◌, ◌<◌, ◌++◌, ◌∷◌, Err, IfErr, IfOk, IfSome, None, OnErr, OnOk, Ok, Some, false, length, map, option_map, true};
 ghost use Rattle.fw_message.specs.Entries.{entry_of};
 ghost use Rattle.fw_message.specs.Nodes.{cell_in};
 ghost use Rattle.fd_core.specs.Components.{HasComponents};

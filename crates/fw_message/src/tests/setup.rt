@@ -1,6 +1,6 @@
 //! The worked devices and packages, and worlds of them.
 
-ghost use Rattle.std.specs.Prelude.{◌≡◌, ◌∷◌, [], IfOk, None, map};
+ghost use Rattle.std.specs.Prelude.{◌≡◌, ◌∷◌, [], IfOk, map};
 ghost use Rattle.fd_core.specs.Components.{HasComponents};
 ghost use Rattle.fd_core.specs.Images.{key_of};
 
