@@ -4,14 +4,13 @@ use Rattle.std.specs.Option.{option_map}
 use Rattle.std.proofs.Common.{refl, sym, ap, subst, ◌∙◌, append_assoc, append-nil}
 use Rattle.std.proofs.Math.Seq.{drop-append_seam}
 use Rattle.fw_package.specs.Package.{PackageText}
-use Rattle.ua_core.specs.declared.planned.Recorded.{Recorded}
 use Rattle.fd_core.specs.Images.{Put}
 use Rattle.fw_message.specs.History.{EntryOf, recorded_in, replaced, running, running_after}
 use Rattle.fw_message.specs.Laws.{IsSafeAndTied}
 use Rattle.fw_message.specs.Pairs.{PairOf, StepOf, Stepped, pair_after}
 use Rattle.fw_message.specs.Replays.{CountedWorldOf, Run}
 use Rattle.fw_message.specs.RunLaws.{IsGrown, IsTiedBetween, IsTiedFrom, RunsGrow, RunsJoin, RunsStayTied, added}
-use Rattle.fw_message.specs.WorldLaws.{IsOpeningWorld, IsSafeWorld, WorldsAreSafe, history_of, run_of}
+use Rattle.fw_message.specs.WorldLaws.{IsSafeWorld, WorldsAreSafe, history_of, run_of}
 use Rattle.fw_message.specs.Worlds.{NodeOf, NotedOf, WorldOf, WorldStepOf, agent_restarted, node_at, noted_of, step_at, went_on, with_pair, world_after, world_along}
 use Rattle.fw_message.specs.declared.step.MessageStep.{MessageStep}
 use Rattle.fw_message.proofs.Running.{Along, run_append, run_safe, taken_along}
