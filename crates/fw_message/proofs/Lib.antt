@@ -1,8 +1,10 @@
 mod Activating
 mod Allowing
+mod Apart
 mod Applied
 mod Closings
 mod Finding
+mod Moments
 mod Noting
 mod Openings
 mod Places

@@ -17,7 +17,7 @@ use Rattle.fw_message.proofs.Places.{IsAt, at_node, is_at, world_allows, world_r
 abbrev pub node_in : CountedOf → NodeOf
 node_in p = p.node
 
-nodes_restarted : (packages : List PackageText) (pairs : List CountedOf) → map node_in (map (counted_restarted packages) pairs) ≡ map (agent_restarted packages) (map node_in pairs)
+pub nodes_restarted : (packages : List PackageText) (pairs : List CountedOf) → map node_in (map (counted_restarted packages) pairs) ≡ map (agent_restarted packages) (map node_in pairs)
 nodes_restarted packages [] = refl
 nodes_restarted packages (p ∷ pairs) = ap (λ ns. agent_restarted packages p.node ∷ ns) (nodes_restarted packages pairs)
 
@@ -81,7 +81,18 @@ faults_put [] p after place e = absurd (cc)
 faults_put (q ∷ pairs) p after zero e = refl
 faults_put (q ∷ pairs) p after (suc place) e = faults_put pairs p after place e
 
+-- the bank of the device at a place worked
+pub faults_same : (pairs : List CountedOf) (p after : CountedOf) (place : ℕ) → slice_get pairs place ≡ Some p → after.faults ≡ p.faults → map (λ q. q.faults) (set pairs place after) ≡ map (λ q. q.faults) pairs
+faults_same [] p after place e s = absurd (cc)
+faults_same (q ∷ pairs) p after zero e s = let same : q ≡ p = cc in rw (s, sym same) refl
+faults_same (q ∷ pairs) p after (suc place) e s = ap (λ fs. q.faults ∷ fs) (faults_same pairs p after place e s)
+
+-- the agent restarted
+pub faults_restarted : (packages : List PackageText) (pairs : List CountedOf) → map (λ q. q.faults) (map (counted_restarted packages) pairs) ≡ map (λ q. q.faults) pairs
+faults_restarted packages [] = refl
+faults_restarted packages (p ∷ pairs) = ap (λ fs. p.faults ∷ fs) (faults_restarted packages pairs)
+
 -- the bank of the device at a place failed
 pub bank_failed : (w : WorldOf) (new : WorldOf) (pairs : List CountedOf) (p after : CountedOf) (place eid : ℕ) → place_at w.nodes eid ≡ Some place → slice_get pairs place ≡ Some p → Rose p.faults after.faults
     → BankFailed (record { world = w; faults = map (λ q. q.faults) pairs }) (record { world = new; faults = map (λ q. q.faults) (set pairs place after) }) eid
-bank_failed w new pairs p after place eid at found rose = rw at (rw (faults_at pairs p place found, faults_put pairs p after place found) rose)
+bank_failed w new pairs p after place eid at found rose = rw at (rw (faults_at pairs p place found, faults_put pairs p after place found) (rose, map-set (λ q. q.faults) pairs place after))

@@ -5,5 +5,6 @@ pub mod Laws
 pub mod Nodes
 pub mod Pairs
 pub mod Replays
+pub mod RunLaws
 pub mod WorldLaws
 pub mod Worlds

@@ -1,5 +1,5 @@
 -- Replays: steps of a world, one after another.
-use Rattle.std.specs.Prelude.{ℕ, ◌≡◌, ◌==◌, ◌+◌, ◌||◌, is_some, Bool, true, false, if◌then◌else◌, List, [], ◌∷◌, get_or, Option, Some, None, IfSome}
+use Rattle.std.specs.Prelude.{ℕ, ◌≡◌, ◌==◌, ◌+◌, ◌||◌, is_some, Bool, true, false, if◌then◌else◌, List, [], ◌∷◌, get_or, set, Option, Some, None, IfSome}
 use Rattle.fw_package.specs.Package.{PackageText}
 use Rattle.fw_message.specs.Nodes.{CountedOf}
 use Rattle.fd_core.specs.Banks.{Rose}
@@ -25,14 +25,17 @@ place_at ns eid = place_from 0 ns eid
 abbrev pub counted_restarted : List PackageText → CountedOf → CountedOf
 counted_restarted packages p = record { node = agent_restarted packages p.node; faults = p.faults }
 
--- the bank of the device of this identifier failed: its count rose, or stands at its last value
+-- the bank of the device of this identifier failed: its count rose, or stands at its last value, and no other changed
 abbrev pub BankFailed : CountedWorldOf → CountedWorldOf → ℕ → Type 0
-BankFailed w v eid = IfSome (place_at w.world.nodes eid) (λ place. Rose (get_or w.faults place 0) (get_or v.faults place 0))
+BankFailed w v eid = IfSome (place_at w.world.nodes eid)
+    (λ place. Rose (get_or w.faults place 0) (get_or v.faults place 0) × (v.faults ≡ set w.faults place (get_or v.faults place 0)))
 
--- A step leads from one world to another; its call of a bank fails only where the bank's count of failures tells so.
+-- A step leads from one world to another. Its call of a bank fails only where the bank's count of failures tells so; all other
+-- counts stay, and where it works all do.
 pub record Leads (w : CountedWorldOf) (s : MessageStep) (v : CountedWorldOf) : Type 0 where
   pub works : Bool
   pub after : world_after w.world (named_step w.world.agent works s) ≡ Some v.world
+  pub worked : works ≡ true → v.faults ≡ w.faults
   pub failed : works ≡ false → BankFailed w v (device_of s)
 
 -- each step leads on from where the one before it led

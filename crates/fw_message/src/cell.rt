@@ -4,7 +4,7 @@ ghost use Rattle.std.specs.Prelude.{◌≡◌, IsSome, None, Some, false, is_som
 ghost use Rattle.fwup_wire.specs.Answers.{answer_in};
 ghost use Rattle.fwup_wire.specs.Commands.{command_code};
 ghost use Rattle.fwup_wire.specs.Lent.{answer_of, command_of};
-ghost use Rattle.fw_message.specs.Pairs.{asked, brought, closed, closed_unless, dropped_cell, fresh_cell, given_up, is_empty};
+ghost use Rattle.fw_message.specs.Pairs.{asked, closed_unless, fresh_cell};
 
 use fwup_wire::{Answer, Command, read_answer};
 use pldm_base::Reply;

@@ -1,6 +1,7 @@
 //! What holds of every run of messages.
 
 ghost use Rattle.fw_message.specs.Laws.{MessagesAreSafe};
+ghost use Rattle.fw_message.specs.RunLaws.{RunsGrow, RunsJoin, RunsStayTied};
 ghost use Rattle.fw_message.specs.WorldLaws.{WorldsAreSafe, WorldsStaySafe};
 
 /// Every run of whole messages between an agent and a device keeps the history of the device safe and tied: what the device
@@ -23,4 +24,14 @@ pub fn worlds_are_safe()
     ua_core::stays_in_plan();
     ua_core::pieces_continue();
     fw_package::plans_named_images();
+}
+
+/// What holds of any two moments of a run: a run followed by a run is a run, the history only grows, and what runs on a device
+/// and what the agent recorded of it at the later moment are those of the earlier one, with what happened since.
+pub fn runs_stay_tied()
+    ensures join { RunsJoin }
+    ensures grow { RunsGrow }
+    ensures tied { RunsStayTied }
+{
+    worlds_are_safe();
 }

@@ -1,6 +1,6 @@
 //! The world over whole messages: one cell a way, no tags and no time.
 
-ghost use Rattle.std.specs.Prelude.{[], ◌≡◌, ◌≤◌, ◌<◌, ◌++◌, ◌∷◌, Err, IfErr, IfOk, IfSome, None, OnErr, OnOk, Ok, Some, false, get_or, length, map, option_map, slice_set};
+ghost use Rattle.std.specs.Prelude.{[], ◌≡◌, ◌≢◌, ◌<◌, ◌++◌, ◌∷◌, Err, IfErr, IfOk, IfSome, None, OnErr, OnOk, Ok, Some, false, length, map, option_map, true};
 ghost use Rattle.fw_message.specs.Entries.{entry_of};
 ghost use Rattle.fw_message.specs.Nodes.{cell_in};
 ghost use Rattle.fd_core.specs.Components.{HasComponents};
@@ -30,9 +30,10 @@ pub struct MessageWorld<'a, B: Bank + Drop> {
 }
 
 impl<'a, B: Bank + Drop> Model for MessageWorld<'a, B> {
-    ghost use Rattle.std.specs.Prelude.{map};
+    ghost use Rattle.std.specs.Prelude.{◌≡◌, None, map};
     ghost use Rattle.fw_message.specs.Entries.{entry_of};
     ghost use Rattle.fw_message.specs.Replays.{CountedWorldOf};
+    ghost use Rattle.fw_message.specs.Worlds.{node_at};
 
     ghost Value = { CountedWorldOf };
 
@@ -45,6 +46,8 @@ impl<'a, B: Bank + Drop> Model for MessageWorld<'a, B> {
       };
       faults = map (λ p. p.faults) w.pairs.items;
     } };
+
+    ghost invariant = { λ w. node_at (map (λ p. p.node) w.pairs.items) w.agent ≡ None };
 }
 
 impl<'a, B: Bank + Drop> MessageWorld<'a, B> {
@@ -64,12 +67,14 @@ impl<'a, B: Bank + Drop> MessageWorld<'a, B> {
         }
     }
 
-    /// Adds a device, which starts now, with a new session. It has its bank's components.
+    /// Adds a device, which starts now, with a new session. It has its bank's components, and its identifier is neither the
+    /// agent's nor another device's.
     ///
     /// # Errors
     /// `Memory` where memory for it is refused. Nothing has changed then, and the device is gone.
     pub fn add(&mut self, eid: u8, device: Device<B>) -> Result<(), MessageStepFault>
         requires device { HasComponents device.device }
+        requires apart { eid ≢ self.old.world.agent }
         requires fresh { node_at self.old.world.nodes eid ≡ None }
         ensures nodes { OnOk result (self.new.world ≡ record self.old.world { nodes = self.old.world.nodes ++ new_node eid device.device ∷ [] }) }
         ensures faults { OnOk result (self.new.faults ≡ self.old.faults ++ device.faults ∷ []) }
@@ -84,9 +89,10 @@ impl<'a, B: Bank + Drop> MessageWorld<'a, B> {
         Ok(())
     }
 
-    /// The agent's endpoint identifier.
+    /// The agent's endpoint identifier. No device has it.
     pub fn agent(&self) -> u8
-        ensures { result ≡ self.now.world.agent }
+        ensures agent { result ≡ self.now.world.agent }
+        ensures apart { node_at self.now.world.nodes result ≡ None }
     {
         self.agent
     }
@@ -129,6 +135,7 @@ impl<'a, B: Bank + Drop> MessageWorld<'a, B> {
     /// As `message_replay`. Nothing has changed then.
     pub(crate) fn step(&mut self, step: MessageStep) -> Result<bool, MessageStepFault>
         ensures step { IfOk result (λ works. world_after self.old.world (named_step self.old.world.agent works step) ≡ Some self.new.world) }
+        ensures worked { result ≡ Ok true → self.new.faults ≡ self.old.faults }
         ensures failed { result ≡ Ok false → BankFailed self.old self.new (device_of step) }
         ensures refused { IfErr result (λ e. Refuses self.old.world step e) }
         ensures same { OnErr result (self.new ≡ self.old) }

@@ -1,15 +1,9 @@
 //! A device, the agent's session for it, and the cells between them.
 
-ghost use Rattle.std.specs.Prelude.{◌≡◌, ◌≤◌, None, Some, false, if◌then◌else◌, not, option_map, true};
-ghost use Rattle.fd_core.specs.States.{DeviceOf};
-ghost use Rattle.fwup_wire.specs.Lent.{command_of};
-ghost use Rattle.ua_core.specs.Lent.{package_at};
+ghost use Rattle.std.specs.Prelude.{◌≡◌, None, option_map};
 ghost use Rattle.fw_message.specs.Nodes.{cell_of};
 ghost use Rattle.fd_core.specs.Components.{HasComponents};
-ghost use Rattle.fw_message.specs.Pairs.{StepOf, down_wish, quietly, step_of, unwished_closed};
 ghost use Rattle.fw_message.specs.WorldLaws.{new_node};
-ghost use Rattle.fw_message.specs.declared.side.Way.TheVariants as ways;
-ghost use Rattle.fw_message.specs.declared.side.Side.TheVariants as sides;
 
 use crate::cell::Held;
 use crate::side::Way;

@@ -2,10 +2,11 @@
 
 ghost use Rattle.std.specs.Prelude.{◌≡◌, ◌<◌, IfErr, IfSome, List, OnOk, length, slice_get, take};
 ghost use Rattle.fw_message.specs.Replays.{CountedWorldOf, Refuses, Run};
+ghost use Rattle.fw_message.specs.RunLaws.{IsGrown, IsTiedBetween};
 ghost use Rattle.fw_message.specs.WorldLaws.{IsOpeningWorld, IsSafeWorld};
 ghost use Rattle.fw_message.specs.declared.step.MessageStep.{MessageStep};
 
-use crate::laws::worlds_are_safe;
+use crate::laws::{runs_stay_tied, worlds_are_safe};
 use crate::messages::MessageWorld;
 use crate::step::{MessageStep, MessageStepFault};
 use fd_core::Bank;
@@ -13,7 +14,7 @@ use fd_core::Bank;
 /// Takes these steps one after another. Whatever is called on a world that began as it was constructed, its history is then
 /// safe: the images that a device activates in one go are those that one package names for it, each recorded since its
 /// activation before, and each record has an application of its own before it; and tied: what runs on a device and what the
-/// agent has recorded are what the history says.
+/// agent has recorded are what the history says, between this call's moments too; and the history only grows.
 ///
 /// # Errors
 /// The number of the step that isn't taken, counted from 0, and why: `NoSuchNode`, else `NotNow` or `Refused`, else
@@ -24,9 +25,12 @@ pub fn message_replay<B: Bank + Drop>(
 ) -> Result<(), (usize, MessageStepFault)>
     ensures ok { OnOk result (Run world.old steps.now world.new) }
     ensures stopped { IfErr result (λ e. (e.0 < length steps.now) × Run world.old (take e.0 steps.now) world.new × IfSome (slice_get steps.now e.0) (λ s. Refuses world.new.world s e.1)) }
+    ensures grown { IsGrown world.old.world world.new.world }
+    ensures tied { (opening : CountedWorldOf) (before : List MessageStep) → IsOpeningWorld opening.world → Run opening before world.old → IsTiedBetween world.old.world world.new.world }
     ensures safe { (opening : CountedWorldOf) (before : List MessageStep) → IsOpeningWorld opening.world → Run opening before world.old → IsSafeWorld opening.world world.new.world }
 {
     worlds_are_safe();
+    runs_stay_tied();
     for (i, step) in steps.iter().enumerate() {
         match world.step(*step) {
             Ok(_) => {}

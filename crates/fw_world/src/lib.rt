@@ -4,5 +4,5 @@
 
 pub use fw_message::{
     Entry, Event, Held, Image, MessageStep, MessageStepFault, MessageWorld, Side, Way, message_replay,
-    messages_are_safe, worlds_are_safe,
+    messages_are_safe, runs_stay_tied, worlds_are_safe,
 };

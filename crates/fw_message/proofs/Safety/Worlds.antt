@@ -41,7 +41,7 @@ own_node (n ∷ ns) eid m k e = at_test (n.eid == eid) refl (own_node ns eid m k
     at_test true is rest e = let same : n ≡ k = cc in rw is (ap (λ (x : NodeOf). Some (record x { pair = m })) same)
     at_test false is rest e = rw is (rest e)
 
-restarted_node : (ps : List PackageText) (ns : List NodeOf) (eid : ℕ)
+pub restarted_node : (ps : List PackageText) (ns : List NodeOf) (eid : ℕ)
     → node_at (map (agent_restarted ps) ns) eid ≡ option_map (agent_restarted ps) (node_at ns eid)
 restarted_node ps [] eid = refl
 restarted_node ps (n ∷ ns) eid = at_test (n.eid == eid) (restarted_node ps ns eid)
@@ -52,7 +52,7 @@ restarted_node ps (n ∷ ns) eid = at_test (n.eid == eid) (restarted_node ps ns 
     at_test false rest = rest
 
 -- the history of one device
-history_more : (eid : ℕ) (xs ys : List NotedOf) → history_of eid (xs ++ ys) ≡ history_of eid xs ++ history_of eid ys
+pub history_more : (eid : ℕ) (xs ys : List NotedOf) → history_of eid (xs ++ ys) ≡ history_of eid xs ++ history_of eid ys
 history_more eid [] ys = refl
 history_more eid (x ∷ xs) ys = at_test (x.device == eid) (history_more eid xs ys)
   where

@@ -21,7 +21,9 @@ impl<'a, B: Bank> Pair<'a, B> {
         ensures eid { self.new.node.eid ≡ self.old.node.eid }
         ensures faults { self.new.faults ≡ self.old.faults }
     {
-        let wish = self.session.wish(&Lent::of(packages, self.session.package()));
+        let wish = self
+            .session
+            .wish(&Lent::of(packages, self.session.package()));
         ask(&mut self.down, wish)
     }
 
@@ -87,7 +89,9 @@ impl<'a, B: Bank> Pair<'a, B> {
         ensures eid { self.new.node.eid ≡ self.old.node.eid }
         ensures faults { self.new.faults ≡ self.old.faults }
     {
-        let wish = self.session.wish(&Lent::of(packages, self.session.package()));
+        let wish = self
+            .session
+            .wish(&Lent::of(packages, self.session.package()));
         close_unless(&mut self.down, &wish);
         close_unless(&mut self.up, &self.device.wish());
     }

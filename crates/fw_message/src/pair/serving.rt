@@ -3,7 +3,7 @@
 ghost use Rattle.std.specs.Prelude.{[], ◌≡◌, ◌≤◌, ◌∷◌, Bool, length, vec_capacity, IfNone, IfOk, IfSome, None, Some, false, if◌then◌else◌, is_some, map, option_map, option_to_list, true};
 ghost use Rattle.fd_core.specs.Images.{applied_of, row_of};
 ghost use Rattle.fd_core.specs.States.{staged_of};
-ghost use Rattle.fd_core.specs.Steps.{applied_by, device_verdict, verdict_after};
+ghost use Rattle.fd_core.specs.Steps.{applied_by, device_verdict};
 ghost use Rattle.fd_core.specs.Wishes.{has_failed};
 ghost use Rattle.fw_message.specs.Entries.{put_of};
 ghost use Rattle.fw_message.specs.History.{EntryOf};

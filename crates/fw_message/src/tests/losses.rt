@@ -2,48 +2,46 @@
 
 use crate::tests::packages::file;
 use crate::tests::seeing::{
-    Note, cell_of, has_worked_images, images_of, is_worked_image, notes, states,
+    Cell, Note, active, applied, cell_of, failures, happened, holds, is_worked_image, records,
+    stands,
 };
-use crate::tests::setup::{AGENT, KEY, NEWER, ONE, Small, join, world};
+use crate::tests::setup::{KEY, NEWER, ONE, Small, join, opening, package, packages_of};
 use crate::tests::steps::{
     ASKED, DEVICE, DROP_DOWN, DROP_UP, GIVE_UP_DOWN, GIVE_UP_UP, START, TAKE_DOWN, TIME_OUT_DEVICE,
-    WHOLE, go_on, replay, worked_then, worked_update,
+    WHOLE, go_on, led, replay, takes, takes_worked, worked,
 };
-use crate::{MessageStep, MessageStepFault, MessageWorld, Way};
-use fd_core::{Bank, State};
+use crate::{MessageStep, MessageStepFault, Way};
+use fd_core::State;
 use fw_package::Package;
+use std::alloc::Global;
 use std::test::Fail;
 use ua_core::{Cause, SessionState};
-
-const DONE: (State, SessionState) = (State::Activate, SessionState::Done);
 
 /// How many of the worked steps stand before each of the device's five requests.
 const REQUESTS: [usize; 5] = [19, 22, 25, 29, 33];
 
+/// What happens in the worked update.
+const NOTES: [Note; 3] = [
+    Note::Applied(DEVICE, KEY, 241),
+    Note::Recorded(DEVICE, 1, 0),
+    Note::Activated(DEVICE, KEY, 241),
+];
+
+/// Whether the update is done.
+fn is_done(world: &Small<'_>) -> bool {
+    stands(world, DEVICE, State::Activate, SessionState::Done)
+}
+
 #[test]
 fn a_device_asks_again_for_what_is_lost(rt: HostRuntime) -> Result<(), Fail> {
     let one = file(rt.alloc(), ONE)?;
-    let packages = [Package::read(&one)?];
-    let worked = worked_update(rt.alloc(), DEVICE)?;
+    let packages = [package(&one)?];
     for count in REQUESTS {
         // the request is lost, or its answer is
-        for lost in [1, 2] {
-            let mut world = world(rt.alloc(), &packages, &[DEVICE])?;
-            let steps = worked_then(rt.alloc(), count + lost, &[GIVE_UP_UP, DROP_UP])?;
-            assert_eq!(rt; replay(&mut world, &steps), Ok(()));
-            let rest = worked.get(count..).unwrap_or(&[]);
-            assert_eq!(rt; replay(&mut world, rest), Ok(()), "{count}, {lost}");
-            assert_eq!(rt; states(&world, DEVICE), Some(DONE));
-            let expected = [
-                Note::Applied(DEVICE, KEY, 241),
-                Note::Recorded(DEVICE, 1, 0),
-                Note::Activated(DEVICE, KEY, 241),
-            ];
-            assert_eq!(rt;
-                notes(rt.alloc(), world.history())?.as_slice(),
-                expected.as_slice()
-            );
-            assert!(rt; has_worked_images(world.history()));
+        for lost in [count + 1, count + 2] {
+            let mut world = led(rt.alloc(), &packages, lost, &[GIVE_UP_UP, DROP_UP])?;
+            assert!(rt; takes_worked(&mut world, DEVICE, count, WHOLE), "{lost}");
+            assert!(rt; is_done(&world) && happened(&world, &NOTES), "{lost}");
         }
     }
     Ok(())
@@ -52,82 +50,113 @@ fn a_device_asks_again_for_what_is_lost(rt: HostRuntime) -> Result<(), Fail> {
 #[test]
 fn a_session_fails_when_its_asker_gives_up(rt: HostRuntime) -> Result<(), Fail> {
     let one = file(rt.alloc(), ONE)?;
-    let packages = [Package::read(&one)?];
+    let packages = [package(&one)?];
     // the device never takes the command, or takes it later
     let rows: [&[MessageStep]; 2] = [&[DROP_DOWN], &[TAKE_DOWN, DROP_DOWN]];
     for then in rows {
-        let mut world = world(rt.alloc(), &packages, &[DEVICE])?;
-        let steps = worked_then(rt.alloc(), ASKED, &[GIVE_UP_DOWN])?;
-        assert_eq!(rt; replay(&mut world, &steps), Ok(()));
-        let silent = (State::Idle, SessionState::Failed(Cause::Silent));
-        assert_eq!(rt; states(&world, DEVICE), Some(silent));
-        assert_eq!(rt; replay(&mut world, then), Ok(()));
-        assert_eq!(rt; cell_of(&world, DEVICE, Way::Down), None);
-        assert_eq!(rt; replay(&mut world, &[START]), Ok(()));
+        let mut world = led(rt.alloc(), &packages, ASKED, &[GIVE_UP_DOWN])?;
+        let silent = SessionState::Failed(Cause::Silent);
+        assert!(rt; stands(&world, DEVICE, State::Idle, silent));
+        assert!(rt; takes(&mut world, then));
+        assert!(rt; holds(&world, DEVICE, Way::Down, None));
+        assert!(rt; takes(&mut world, &[START]));
         go_on(&mut world);
-        assert_eq!(rt; states(&world, DEVICE), Some(DONE));
+        assert!(rt; is_done(&world));
     }
     Ok(())
+}
+
+/// Whether the update that has begun leads there.
+fn leads(world: &mut Small<'_>, device: State, session: SessionState) -> bool {
+    go_on(world);
+    is_worked_image(active(world, DEVICE, KEY)) && stands(world, DEVICE, device, session)
 }
 
 #[test]
 fn a_newer_package_follows_and_the_same_one_does_not(rt: HostRuntime) -> Result<(), Fail> {
     let one = file(rt.alloc(), ONE)?;
     let other = file(rt.alloc(), NEWER)?;
-    let packages = [Package::read(&one)?, Package::read(&other)?];
+    let packages = packages_of(&one, &other)?;
     let nothing = SessionState::Failed(Cause::NothingToUpdate);
     let rows = [
-        (1, State::Ready, nothing, 3),
-        (2, State::Activate, SessionState::Done, 6),
+        (1, State::Ready, nothing),
+        (2, State::Activate, SessionState::Done),
     ];
-    for (number, device, session, entries) in rows {
-        let mut world = world(rt.alloc(), &packages, &[DEVICE])?;
-        let steps = worked_then(rt.alloc(), WHOLE, &[TIME_OUT_DEVICE])?;
-        assert_eq!(rt; replay(&mut world, &steps), Ok(()));
-        let idle = (State::Idle, SessionState::Done);
-        assert_eq!(rt; states(&world, DEVICE), Some(idle));
+    for (number, device, session) in rows {
         let start = MessageStep::Start(DEVICE, number);
-        assert_eq!(rt; replay(&mut world, &[start]), Ok(()));
-        go_on(&mut world);
-        assert_eq!(rt;
-            states(&world, DEVICE),
-            Some((device, session)),
-            "package {number}"
-        );
-        assert_eq!(rt; world.history().len(), entries);
-        assert!(rt;
-            images_of(&world, DEVICE, KEY)
-                .0
-                .is_some_and(is_worked_image)
-        );
+        let mut world = led(rt.alloc(), &packages, WHOLE, &[TIME_OUT_DEVICE, start])?;
+        assert!(rt; leads(&mut world, device, session), "package {number}");
     }
     Ok(())
 }
 
-/// What is seen of the worked device and its session without memory: where they stand, both cells, the bytes of the
-/// images that run and are applied, and how much was recorded and happened.
-fn glance(
-    world: &Small<'_>,
-) -> (
-    Option<(State, SessionState)>,
-    [Option<(u8, Option<u8>, bool)>; 2],
-    [Option<usize>; 2],
-    [Option<usize>; 2],
-) {
-    let (active, applied) = images_of(world, DEVICE, KEY);
-    let records = world.session(DEVICE).map(|session| session.records().len());
-    (
-        states(world, DEVICE),
-        [Way::Down, Way::Up].map(|way| cell_of(world, DEVICE, way)),
-        [active.map(<[u8]>::len), applied.map(<[u8]>::len)],
-        [records, Some(world.history().len())],
-    )
+/// What is seen of the worked device and its session without memory: both cells, the bytes of the images that run and are
+/// applied, and how much was recorded and happened.
+#[derive(Clone, Copy, PartialEq, Eq)]
+struct Glance {
+    cells: [Cell; 2],
+    sizes: [usize; 4],
 }
 
-/// How often the worked device's bank failed.
-fn failures(world: &Small<'_>) -> u64 {
-    let device = world.device(DEVICE);
-    device.map_or(0, |device| device.bank().failures())
+fn look_at(world: &Small<'_>) -> Glance {
+    Glance {
+        cells: [
+            cell_of(world, DEVICE, Way::Down),
+            cell_of(world, DEVICE, Way::Up),
+        ],
+        sizes: [
+            active(world, DEVICE, KEY).len(),
+            applied(world, DEVICE, KEY).len(),
+            records(world, DEVICE).len(),
+            world.history().len(),
+        ],
+    }
+}
+
+/// Whether the world is as it was.
+fn is_same(world: &Small<'_>, before: &Glance) -> bool {
+    look_at(world) == *before
+}
+
+/// Whether a step is taken, at once or, where its memory is refused and nothing changes, at the second try.
+fn takes_again(world: &mut Small<'_>, step: MessageStep) -> bool {
+    let before = look_at(world);
+    match replay(world, &[step]) {
+        Ok(()) => true,
+        Err((0, MessageStepFault::Memory)) => is_same(world, &before) && takes(world, &[step]),
+        Err(_) => false,
+    }
+}
+
+/// The worked device's world, which it joins at once or at the second try.
+fn joined<'a>(alloc: Global, packages: &'a [Package<'a>]) -> Result<Small<'a>, MessageStepFault> {
+    let mut world = opening(alloc, packages);
+    if join(alloc, &mut world, DEVICE).is_err() {
+        join(alloc, &mut world, DEVICE)?;
+    }
+    Ok(world)
+}
+
+/// Takes the worked steps until the device's bank fails, if it does and has answered so. Whether each is taken.
+fn takes_until_failed(world: &mut Small<'_>) -> bool {
+    for step in worked(DEVICE) {
+        if !takes_again(world, step) {
+            return false;
+        }
+        if failures(world, DEVICE) > 0 && world.cell(DEVICE, Way::Down).is_none() {
+            return true;
+        }
+    }
+    true
+}
+
+/// Whether the one failure of the bank has failed the update, and the next one goes well.
+fn is_failed_and_goes_on(world: &mut Small<'_>) -> bool {
+    let failed = SessionState::Failed(Cause::Answer);
+    failures(world, DEVICE) == 1
+        && world.history().is_empty()
+        && stands(world, DEVICE, State::Ready, failed)
+        && takes_worked(world, DEVICE, 0, WHOLE)
 }
 
 /// Holds whichever single allocation is refused.
@@ -137,37 +166,12 @@ fn refused_memory_leaves_the_world(rt: HostRuntime) -> Result<(), Fail> {
         Ok(bytes) => bytes,
         Err(_) => file(rt.alloc(), ONE)?,
     };
-    let packages = [Package::read(&bytes)?];
-    let steps = match worked_update(rt.alloc(), DEVICE) {
-        Ok(steps) => steps,
-        Err(_) => worked_update(rt.alloc(), DEVICE)?,
-    };
-    let mut world = MessageWorld::new(rt.alloc(), AGENT, &packages);
-    if let Err(fault) = join(rt.alloc(), &mut world, DEVICE) {
-        assert_eq!(rt; fault, MessageStepFault::Memory);
-        assert!(rt; world.device(DEVICE).is_none());
-        join(rt.alloc(), &mut world, DEVICE)?;
+    let packages = [package(&bytes)?];
+    let mut world = joined(rt.alloc(), &packages)?;
+    assert!(rt; takes_until_failed(&mut world));
+    if failures(&world, DEVICE) > 0 {
+        assert!(rt; is_failed_and_goes_on(&mut world));
     }
-    for step in &steps {
-        let before = glance(&world);
-        let mut answer = replay(&mut world, &[*step]);
-        if answer == Err((0, MessageStepFault::Memory)) {
-            assert!(rt; glance(&world) == before, "{step:?}");
-            answer = replay(&mut world, &[*step]);
-        }
-        assert_eq!(rt; answer, Ok(()), "{step:?}");
-        if failures(&world) > 0 && world.cell(DEVICE, Way::Down).is_none() {
-            break;
-        }
-    }
-    if failures(&world) > 0 {
-        let failed = (State::Ready, SessionState::Failed(Cause::Answer));
-        assert_eq!(rt; states(&world, DEVICE), Some(failed));
-        assert_eq!(rt; (failures(&world), world.history().len()), (1, 0));
-        assert_eq!(rt; replay(&mut world, &steps), Ok(()));
-    }
-    assert_eq!(rt; states(&world, DEVICE), Some(DONE));
-    assert_eq!(rt; world.history().len(), 3);
-    assert!(rt; has_worked_images(world.history()));
+    assert!(rt; is_done(&world) && happened(&world, &NOTES));
     Ok(())
 }

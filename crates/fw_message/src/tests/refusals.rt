@@ -2,12 +2,12 @@
 
 use crate::tests::packages::file;
 use crate::tests::seeing::seen;
-use crate::tests::setup::{AGENT, NOBODY, ONE, world};
+use crate::tests::setup::{AGENT, NOBODY, ONE, Small, opening, package};
 use crate::tests::steps::{
     ACTIVATE, ACTIVATING, ALL_APPLIED, ANSWERED, APPLIED, APPLY, ASK_DOWN, ASK_UP, ASKED, CANCEL,
     DATA_ANSWERED, DATA_ASKED, DEVICE, DOWNLOAD, DROP_DOWN, DROP_UP, GIVE_UP_DOWN, GIVE_UP_UP,
     LEARN_DOWN, LEARN_UP, RESTART_AGENT, START, TAKE_BUSY, TAKE_DOWN, TAKE_UP, TIME_OUT_DEVICE,
-    TIME_OUT_SESSION, VERIFIED, VERIFY, WHOLE, replay, worked_then,
+    TIME_OUT_SESSION, VERIFIED, VERIFY, WHOLE, led, replay, takes,
 };
 use crate::{MessageStep, MessageStepFault, Side, Way};
 use fd_core::Verdict;
@@ -152,34 +152,54 @@ const CALLS: [Row<'static>; 15] = [
     ("in Cancelling", ALL_APPLIED, &[CANCEL], ACTIVATE),
 ];
 
-/// What a replay answers that goes on behind a step, and whether the world is then the one before that step.
-fn refused(
+/// Of the four verdicts, those that are awaited behind so many of the worked steps.
+const AWAITED: [(usize, &[Verdict]); 8] = [
+    (0, &[]),
+    (DOWNLOAD, &[]),
+    (VERIFY, &[Verdict::VerifyOk, Verdict::VerifyFail]),
+    (VERIFIED, &[]),
+    (APPLY, &[Verdict::ApplyOk, Verdict::ApplyFail]),
+    (APPLIED, &[]),
+    (ALL_APPLIED, &[]),
+    (WHOLE, &[]),
+];
+
+/// Whether a replay stops at this step for this cause, and leaves the world as it was.
+fn is_refused(
     alloc: Global,
     packages: &[Package<'_>],
     row: Row<'_>,
-) -> Result<(usize, Result<(), (usize, MessageStepFault)>, bool), Fail> {
+    fault: MessageStepFault,
+) -> Result<bool, Fail> {
     let (_, count, then, step) = row;
-    let mut steps = worked_then(alloc, count, then)?;
-    let number = steps.len();
-    let mut before = world(alloc, packages, &[DEVICE])?;
-    let taken = replay(&mut before, &steps).is_ok();
-    let mut after = world(alloc, packages, &[DEVICE])?;
-    steps.extend_from_slice(&[step, CANCEL, START])?;
-    let answer = replay(&mut after, &steps);
-    let unchanged = seen(alloc, &after, DEVICE)? == seen(alloc, &before, DEVICE)?;
-    Ok((number, answer, taken && unchanged))
+    let mut world = led(alloc, packages, count, then)?;
+    let before = seen(alloc, &world, DEVICE)?;
+    let stops = stops(&mut world, &[step, CANCEL, START], 0, fault);
+    let after = seen(alloc, &world, DEVICE)?;
+    Ok(stops && before == after)
+}
+
+/// Whether a replay stops at the step of this number for this cause.
+fn stops(
+    world: &mut Small<'_>,
+    steps: &[MessageStep],
+    number: usize,
+    fault: MessageStepFault,
+) -> bool {
+    match replay(world, steps) {
+        Err((i, cause)) => i == number && cause == fault,
+        Ok(()) => false,
+    }
 }
 
 #[test]
 fn steps_out_of_time_leave_the_world(rt: HostRuntime) -> Result<(), Fail> {
     let one = file(rt.alloc(), ONE)?;
-    let packages = [Package::read(&one)?];
+    let packages = [package(&one)?];
     for rows in [ASKS.as_slice(), &TAKES, &LEARNS, &ENDS] {
         for row in rows {
-            let (number, answer, unchanged) = refused(rt.alloc(), &packages, *row)?;
-            let fault = (number, MessageStepFault::NotNow);
-            assert_eq!(rt; answer, Err(fault), "{row:?}");
-            assert!(rt; unchanged, "{row:?}");
+            let refused = is_refused(rt.alloc(), &packages, *row, MessageStepFault::NotNow)?;
+            assert!(rt; refused, "{}", row.0);
         }
     }
     Ok(())
@@ -188,12 +208,10 @@ fn steps_out_of_time_leave_the_world(rt: HostRuntime) -> Result<(), Fail> {
 #[test]
 fn refused_calls_leave_the_world(rt: HostRuntime) -> Result<(), Fail> {
     let one = file(rt.alloc(), ONE)?;
-    let packages = [Package::read(&one)?];
+    let packages = [package(&one)?];
     for row in &CALLS {
-        let (number, answer, unchanged) = refused(rt.alloc(), &packages, *row)?;
-        let fault = (number, MessageStepFault::Refused);
-        assert_eq!(rt; answer, Err(fault), "{row:?}");
-        assert!(rt; unchanged, "{row:?}");
+        let refused = is_refused(rt.alloc(), &packages, *row, MessageStepFault::Refused)?;
+        assert!(rt; refused, "{}", row.0);
     }
     Ok(())
 }
@@ -201,33 +219,20 @@ fn refused_calls_leave_the_world(rt: HostRuntime) -> Result<(), Fail> {
 #[test]
 fn verdicts_that_nobody_awaits_leave_the_world(rt: HostRuntime) -> Result<(), Fail> {
     let one = file(rt.alloc(), ONE)?;
-    let packages = [Package::read(&one)?];
-    // of the four verdicts, those that are awaited behind so many of the worked steps
-    let rows: [(usize, &[Verdict]); 8] = [
-        (0, &[]),
-        (DOWNLOAD, &[]),
-        (VERIFY, &[Verdict::VerifyOk, Verdict::VerifyFail]),
-        (VERIFIED, &[]),
-        (APPLY, &[Verdict::ApplyOk, Verdict::ApplyFail]),
-        (APPLIED, &[]),
-        (ALL_APPLIED, &[]),
-        (WHOLE, &[]),
-    ];
-    for (count, awaited) in rows {
+    let packages = [package(&one)?];
+    for (count, awaited) in AWAITED {
         for verdict in VERDICTS {
-            let step = MessageStep::Verdict(DEVICE, verdict);
-            let (number, answer, unchanged) = refused(
-                rt.alloc(),
-                &packages,
-                ("", count, &[], step),
-            )?;
-            if awaited.contains(&verdict) {
-                assert!(rt; answer != Err((number, MessageStepFault::Refused)) && !unchanged);
-            } else {
-                let fault = (number, MessageStepFault::Refused);
-                assert_eq!(rt; answer, Err(fault), "{verdict:?} behind {count}");
-                assert!(rt; unchanged, "{verdict:?} behind {count}");
-            }
+            let row = (
+                "",
+                count,
+                [].as_slice(),
+                MessageStep::Verdict(DEVICE, verdict),
+            );
+            let refused = is_refused(rt.alloc(), &packages, row, MessageStepFault::Refused)?;
+            assert!(rt;
+                refused != awaited.contains(&verdict),
+                "{verdict:?} behind {count}"
+            );
         }
     }
     Ok(())
@@ -257,30 +262,48 @@ fn of_device(eid: u8) -> [MessageStep; 18] {
     ]
 }
 
+/// Whether all steps of a device of this identifier are refused behind so many of the worked steps.
+fn is_no_device(
+    alloc: Global,
+    packages: &[Package<'_>],
+    count: usize,
+    eid: u8,
+) -> Result<bool, Fail> {
+    let mut all = true;
+    for step in of_device(eid) {
+        let row = ("", count, [].as_slice(), step);
+        all = all && is_refused(alloc, packages, row, MessageStepFault::NoSuchNode)?;
+    }
+    Ok(all)
+}
+
 #[test]
 fn a_step_of_no_device_is_known_before_all_else(rt: HostRuntime) -> Result<(), Fail> {
     let one = file(rt.alloc(), ONE)?;
-    let packages = [Package::read(&one)?];
+    let packages = [package(&one)?];
     for count in [0, ASKED, DATA_ASKED] {
         for eid in [NOBODY, AGENT] {
-            for step in of_device(eid) {
-                let row = ("", count, [].as_slice(), step);
-                let (number, answer, unchanged) = refused(rt.alloc(), &packages, row)?;
-                let fault = (number, MessageStepFault::NoSuchNode);
-                assert_eq!(rt; answer, Err(fault), "{step:?} behind {count}");
-                assert!(rt; unchanged, "{step:?} behind {count}");
-            }
+            assert!(rt;
+                is_no_device(rt.alloc(), &packages, count, eid)?,
+                "{eid} behind {count}"
+            );
         }
         let row = ("", count, [].as_slice(), MessageStep::Restart(NOBODY));
-        let (number, answer, unchanged) = refused(rt.alloc(), &packages, row)?;
-        assert_eq!(rt; answer, Err((number, MessageStepFault::NoSuchNode)));
-        assert!(rt; unchanged);
+        assert!(rt; is_refused(rt.alloc(), &packages, row, MessageStepFault::NoSuchNode)?);
     }
-    let mut world = world(rt.alloc(), &packages, &[])?;
-    assert_eq!(rt; replay(&mut world, &[RESTART_AGENT]), Ok(()));
-    assert_eq!(rt;
-        replay(&mut world, &[START]),
-        Err((0, MessageStepFault::NoSuchNode))
-    );
+    Ok(())
+}
+
+#[test]
+fn a_replay_stops_at_the_first_step_that_is_refused(rt: HostRuntime) -> Result<(), Fail> {
+    let one = file(rt.alloc(), ONE)?;
+    let packages = [package(&one)?];
+    let mut alone = opening(rt.alloc(), &packages);
+    let steps = [RESTART_AGENT, START, START];
+    assert!(rt; stops(&mut alone, &steps, 1, MessageStepFault::NoSuchNode));
+    let mut world = led(rt.alloc(), &packages, 0, &[])?;
+    let steps = [CANCEL, START, ASK_DOWN, START, CANCEL];
+    assert!(rt; stops(&mut world, &steps, 3, MessageStepFault::Refused));
+    assert!(rt; takes(&mut world, &[TAKE_DOWN, LEARN_DOWN]));
     Ok(())
 }

@@ -2,22 +2,21 @@
 
 use crate::tests::packages::file;
 use crate::tests::seeing::{
-    Note, cell_of, has_worked_images, images_of, is_worked_image, notes, states,
+    Cell, Note, applied, happened, happened_last, has_first_record, holds, is_worked_image,
+    runs_first, stands,
 };
-use crate::tests::setup::{AGENT, KEY, ONE, OTHER, SECOND, Small, TWO, world, world_of_two};
+use crate::tests::setup::{AGENT, KEY, ONE, OTHER, SECOND, Small, TWO, package, world};
 use crate::tests::steps::{
     APPLIED, ASK_DOWN, ASKED, CANCEL, DEVICE, RESTART_AGENT, RESTART_DEVICE, START, TAKE_BUSY,
-    go_on, halfway_of_two, replay, worked_update,
+    go_on, halfway_of_two, takes, takes_worked,
 };
 use crate::{MessageStep, Way};
 use fd_core::State;
 use fw_package::Package;
 use fwup_wire::code::command::{CANCEL_UPDATE, QUERY_DEVICE_IDENTIFIERS, REQUEST_FIRMWARE_DATA};
+use std::alloc::Global;
 use std::test::Fail;
-use ua_core::{Recorded, Session, SessionState};
-
-/// A cell: the code of its command, that of its answer, and whether its asker waits.
-type Cell = Option<(u8, Option<u8>, bool)>;
+use ua_core::SessionState;
 
 /// What is behind a restart: where device and session stand, both cells, and whether the first image is still applied.
 type Row<'a> = (
@@ -109,122 +108,100 @@ const WHOLE_OF_TWO: [Note; 6] = [
     Note::Activated(DEVICE, SECOND, 241),
 ];
 
-/// The record of the first component.
-const FIRST: Recorded = Recorded {
-    package: 1,
-    component: 0,
-};
+/// Whether the world halfway stands as this row says behind its restart, and then goes on to a whole update.
+fn is_so(alloc: Global, packages: &[Package<'_>], row: Row<'_>) -> Result<bool, Fail> {
+    let (_, then, (device, session), down, up, is_applied) = row;
+    let mut world = halfway_of_two(alloc, packages)?;
+    let restarted = holds(&world, DEVICE, Way::Up, REQUESTED) && takes(&mut world, then);
+    let stands = stands(&world, DEVICE, device, session)
+        && holds(&world, DEVICE, Way::Down, down)
+        && holds(&world, DEVICE, Way::Up, up);
+    Ok(restarted && stands && keeps_half(&world, is_applied) && is_updated_anew(&mut world))
+}
+
+/// Whether the first component is applied, or isn't any longer, and its record stands.
+fn keeps_half(world: &Small<'_>, is_applied: bool) -> bool {
+    runs_first(world, DEVICE)
+        && applied(world, DEVICE, KEY).is_empty() != is_applied
+        && has_first_record(world, DEVICE)
+        && happened(world, &HALF)
+}
+
+/// Whether an update that is started then ends well.
+fn is_updated_anew(world: &mut Small<'_>) -> bool {
+    let cancelled = takes(world, &[CANCEL]);
+    go_on(world);
+    let started = takes(world, &[START]);
+    go_on(world);
+    cancelled
+        && started
+        && stands(world, DEVICE, State::Activate, SessionState::Done)
+        && world.history().len() == HALF.len() + WHOLE_OF_TWO.len()
+        && happened_last(world, &WHOLE_OF_TWO)
+}
 
 #[test]
 fn a_restart_leaves_records_and_what_the_other_asked(rt: HostRuntime) -> Result<(), Fail> {
-    let one = file(rt.alloc(), TWO)?;
-    let packages = [Package::read(&one)?];
-    for (restarted, then, after, down, up, is_applied) in ROWS {
-        let mut world = world_of_two(rt.alloc(), &packages, DEVICE)?;
-        let steps = halfway_of_two(rt.alloc())?;
-        assert_eq!(rt; replay(&mut world, &steps), Ok(()));
-        assert_eq!(rt; cell_of(&world, DEVICE, Way::Up), REQUESTED);
-        assert_eq!(rt; replay(&mut world, then), Ok(()));
-        assert_eq!(rt; states(&world, DEVICE), Some(after), "{restarted}");
-        assert_eq!(rt; cell_of(&world, DEVICE, Way::Down), down, "{restarted}");
-        assert_eq!(rt; cell_of(&world, DEVICE, Way::Up), up, "{restarted}");
-        let (active, applied) = images_of(&world, DEVICE, KEY);
-        assert_eq!(rt; active, Some([0xAA].as_slice()));
-        assert_eq!(rt; applied.is_some(), is_applied, "{restarted}");
-        let records = world.session(DEVICE).map(Session::records);
-        assert_eq!(rt; records, Some([FIRST].as_slice()));
-        assert_eq!(rt;
-            notes(rt.alloc(), world.history())?.as_slice(),
-            HALF.as_slice()
-        );
+    let two = file(rt.alloc(), TWO)?;
+    let packages = [package(&two)?];
+    for row in ROWS {
+        assert!(rt; is_so(rt.alloc(), &packages, row)?, "{}", row.0);
     }
     Ok(())
 }
 
-#[test]
-fn a_new_update_behind_a_restart_ends_well(rt: HostRuntime) -> Result<(), Fail> {
-    let one = file(rt.alloc(), TWO)?;
-    let packages = [Package::read(&one)?];
-    for (restarted, then, ..) in ROWS {
-        let mut world = world_of_two(rt.alloc(), &packages, DEVICE)?;
-        let steps = halfway_of_two(rt.alloc())?;
-        assert_eq!(rt; replay(&mut world, &steps), Ok(()));
-        assert_eq!(rt; replay(&mut world, then), Ok(()));
-        assert_eq!(rt; replay(&mut world, &[CANCEL]), Ok(()));
-        go_on(&mut world);
-        let state = world.session(DEVICE).map(Session::state);
-        assert_eq!(rt; state, Some(SessionState::Idle), "{restarted}");
-        assert_eq!(rt; replay(&mut world, &[START]), Ok(()));
-        go_on(&mut world);
-        let done = (State::Activate, SessionState::Done);
-        assert_eq!(rt; states(&world, DEVICE), Some(done), "{restarted}");
-        let notes = notes(rt.alloc(), world.history())?;
-        assert_eq!(rt; notes.get(..2), Some(HALF.as_slice()));
-        assert_eq!(rt;
-            notes.get(2..),
-            Some(WHOLE_OF_TWO.as_slice()),
-            "{restarted}"
-        );
-        assert!(rt; has_worked_images(world.history()));
+/// What the agent asked.
+const OPEN: Cell = Some((QUERY_DEVICE_IDENTIFIERS, None, true));
+/// The same, when its session waits for it no longer.
+const CLOSED: Cell = Some((QUERY_DEVICE_IDENTIFIERS, None, false));
+
+/// Both devices behind so many of the worked steps, and a restart of this node.
+fn both_behind<'a>(
+    alloc: Global,
+    packages: &'a [Package<'a>],
+    count: usize,
+    node: u8,
+) -> Result<Small<'a>, Fail> {
+    let mut both = world(alloc, packages, &[DEVICE, OTHER])?;
+    for eid in [DEVICE, OTHER] {
+        let _ = takes_worked(&mut both, eid, 0, count);
     }
-    Ok(())
+    let _ = takes(&mut both, &[MessageStep::Restart(node)]);
+    Ok(both)
+}
+
+/// Whether the session of a device has asked its first command, or has restarted since.
+fn is_session_so(world: &Small<'_>, eid: u8, restarted: bool) -> bool {
+    if restarted {
+        stands(world, eid, State::Idle, SessionState::Idle) && holds(world, eid, Way::Down, CLOSED)
+    } else {
+        stands(world, eid, State::Idle, SessionState::Query) && holds(world, eid, Way::Down, OPEN)
+    }
+}
+
+/// Whether a device has applied its image, or has restarted since.
+fn is_device_so(world: &Small<'_>, eid: u8, restarted: bool) -> bool {
+    if restarted {
+        stands(world, eid, State::Idle, SessionState::Apply) && applied(world, eid, KEY).is_empty()
+    } else {
+        stands(world, eid, State::Apply, SessionState::Apply)
+            && is_worked_image(applied(world, eid, KEY))
+    }
 }
 
 #[test]
 fn the_agent_restarts_each_session_and_a_device_itself_alone(rt: HostRuntime) -> Result<(), Fail> {
     let one = file(rt.alloc(), ONE)?;
-    let packages = [Package::read(&one)?];
-    let open = Some((QUERY_DEVICE_IDENTIFIERS, None, true));
-    let closed = Some((QUERY_DEVICE_IDENTIFIERS, None, false));
-    // whether the sessions of both devices are restarted
-    let rows = [
-        (AGENT, true, true),
-        (DEVICE, false, false),
-        (OTHER, false, false),
-    ];
-    for (node, first, second) in rows {
-        let mut world = world(rt.alloc(), &packages, &[DEVICE, OTHER])?;
-        for eid in [DEVICE, OTHER] {
-            let steps = worked_update(rt.alloc(), eid)?;
-            let steps = steps.get(..ASKED).unwrap_or(&[]);
-            assert_eq!(rt; replay(&mut world, steps), Ok(()));
-        }
-        assert_eq!(rt; replay(&mut world, &[MessageStep::Restart(node)]), Ok(()));
-        for (eid, restarted) in [(DEVICE, first), (OTHER, second)] {
-            let (state, cell) = if restarted {
-                (SessionState::Idle, closed)
-            } else {
-                (SessionState::Query, open)
-            };
-            assert_eq!(rt; states(&world, eid), Some((State::Idle, state)));
-            assert_eq!(rt; cell_of(&world, eid, Way::Down), cell);
-        }
+    let packages = [package(&one)?];
+    for node in [AGENT, DEVICE, OTHER] {
+        let both = both_behind(rt.alloc(), &packages, ASKED, node)?;
+        assert!(rt; is_session_so(&both, DEVICE, node == AGENT), "{node}");
+        assert!(rt; is_session_so(&both, OTHER, node == AGENT), "{node}");
     }
-    Ok(())
-}
-
-#[test]
-fn a_restarted_device_forgets_its_update_and_no_other_does(rt: HostRuntime) -> Result<(), Fail> {
-    let one = file(rt.alloc(), ONE)?;
-    let packages = [Package::read(&one)?];
-    for (node, other) in [(DEVICE, OTHER), (OTHER, DEVICE)] {
-        let mut world = world(rt.alloc(), &packages, &[DEVICE, OTHER])?;
-        for eid in [DEVICE, OTHER] {
-            let steps = worked_update(rt.alloc(), eid)?;
-            let steps = steps.get(..APPLIED).unwrap_or(&[]);
-            assert_eq!(rt; replay(&mut world, steps), Ok(()));
-        }
-        assert_eq!(rt; replay(&mut world, &[MessageStep::Restart(node)]), Ok(()));
-        assert_eq!(rt;
-            states(&world, node),
-            Some((State::Idle, SessionState::Apply))
-        );
-        assert_eq!(rt;
-            states(&world, other),
-            Some((State::Apply, SessionState::Apply))
-        );
-        assert_eq!(rt; images_of(&world, node, KEY).1, None);
-        assert!(rt; images_of(&world, other, KEY).1.is_some_and(is_worked_image));
+    for node in [DEVICE, OTHER] {
+        let both = both_behind(rt.alloc(), &packages, APPLIED, node)?;
+        assert!(rt; is_device_so(&both, DEVICE, node == DEVICE), "{node}");
+        assert!(rt; is_device_so(&both, OTHER, node == OTHER), "{node}");
     }
     Ok(())
 }

@@ -1,13 +1,14 @@
 //! The worked devices and packages, and worlds of them.
 
-ghost use Rattle.std.specs.Prelude.{IfOk};
+ghost use Rattle.std.specs.Prelude.{◌≡◌, ◌∷◌, [], IfOk, map};
 ghost use Rattle.fd_core.specs.Components.{HasComponents};
+ghost use Rattle.fd_core.specs.Images.{key_of};
 
 use crate::tests::packages::{Draft, Item};
 use crate::{MessageStepFault, MessageWorld};
 use arrayvec::ArrayVec;
 use fd_core::{BankFault, Component, Device, Key, Label, MemBank};
-use fw_package::Package;
+use fw_package::{Package, PackageFault};
 use fwup_wire::{Descriptor, DescriptorList, Text, Version};
 use std::alloc::Global;
 
@@ -68,6 +69,16 @@ pub const TWO: Draft<'static> = Draft {
 /// A world of the tests.
 pub type Small<'a> = MessageWorld<'a, MemBank>;
 
+/// `Package::read`: the proofs of the tests need nothing of its contract.
+pub fn package(bytes: &[u8]) -> Result<Package<'_>, PackageFault> {
+    Package::read(bytes)
+}
+
+/// The packages of two files.
+pub fn packages_of<'a>(one: &'a [u8], other: &'a [u8]) -> Result<[Package<'a>; 2], PackageFault> {
+    Ok([package(one)?, package(other)?])
+}
+
 /// The worked device's descriptors: type 0, data 34 12.
 fn descriptors() -> DescriptorList {
     let mut descriptors = DescriptorList::new();
@@ -89,49 +100,69 @@ fn label() -> Label {
     })
 }
 
-/// The worked device: component (10, 1), stamp 1, `1.0`, image AA.
-fn worked_device(alloc: Global) -> Result<Device<MemBank>, BankFault>
-    ensures { IfOk result (λ d. HasComponents d.device) }
+/// The worked device's bank: image AA.
+fn bank_of_one(alloc: Global) -> Result<MemBank, BankFault>
+    ensures { IfOk result (λ b. map key_of b.rows ≡ KEY ∷ []) }
 {
     let mut bank = MemBank::new(alloc);
     bank.add(KEY, &label(), &[0xAA])?;
-    let mut components = ArrayVec::new();
-    components.push(Component { key: KEY, index: 0 });
-    Ok(Device::new(descriptors(), components, bank))
+    Ok(bank)
 }
 
-/// A device that has component (10, 2) too, with image BB.
-fn device_of_two(alloc: Global) -> Result<Device<MemBank>, BankFault>
-    ensures { IfOk result (λ d. HasComponents d.device) }
+/// The same with component (10, 2), image BB.
+fn bank_of_two(alloc: Global) -> Result<MemBank, BankFault>
+    ensures { IfOk result (λ b. map key_of b.rows ≡ KEY ∷ SECOND ∷ []) }
 {
-    let mut bank = MemBank::new(alloc);
-    bank.add(KEY, &label(), &[0xAA])?;
+    let mut bank = bank_of_one(alloc)?;
     bank.add(SECOND, &label(), &[0xBB])?;
+    Ok(bank)
+}
+
+/// The worked device.
+fn device_of_one(bank: MemBank) -> Device<MemBank>
+    requires { map key_of bank.rows ≡ KEY ∷ [] }
+    ensures { HasComponents result.device }
+{
+    let mut components = ArrayVec::new();
+    components.push(Component { key: KEY, index: 0 });
+    Device::new(descriptors(), components, bank)
+}
+
+/// A device with two components.
+fn device_of_two(bank: MemBank) -> Device<MemBank>
+    requires { map key_of bank.rows ≡ KEY ∷ SECOND ∷ [] }
+    ensures { HasComponents result.device }
+{
     let mut components = ArrayVec::new();
     components.push(Component { key: KEY, index: 0 });
     components.push(Component {
         key: SECOND,
         index: 1,
     });
-    Ok(Device::new(descriptors(), components, bank))
+    Device::new(descriptors(), components, bank)
 }
 
 /// A worked device of this identifier joins a world that has none.
 pub fn join(alloc: Global, world: &mut Small<'_>, eid: u8) -> Result<(), MessageStepFault> {
-    let Ok(device) = worked_device(alloc) else {
+    let Ok(bank) = bank_of_one(alloc) else {
         return Err(MessageStepFault::Memory);
     };
-    add(world, eid, device)
+    add(world, eid, device_of_one(bank))
 }
 
-/// A device joins a world that has none of its identifier.
+/// A device joins a world that has no node of its identifier.
 fn add(world: &mut Small<'_>, eid: u8, device: Device<MemBank>) -> Result<(), MessageStepFault>
     requires { HasComponents device.device }
 {
-    if world.device(eid).is_some() {
+    if eid == world.agent() || world.device(eid).is_some() {
         return Err(MessageStepFault::NoSuchNode);
     }
     world.add(eid, device)
+}
+
+/// The agent without devices.
+pub fn opening<'a>(alloc: Global, packages: &'a [Package<'a>]) -> Small<'a> {
+    MessageWorld::new(alloc, AGENT, packages)
 }
 
 /// The agent, and worked devices of these identifiers.
@@ -140,7 +171,7 @@ pub fn world<'a>(
     packages: &'a [Package<'a>],
     devices: &[u8],
 ) -> Result<Small<'a>, MessageStepFault> {
-    let mut world = MessageWorld::new(alloc, AGENT, packages);
+    let mut world = opening(alloc, packages);
     for eid in devices {
         join(alloc, &mut world, *eid)?;
     }
@@ -153,10 +184,10 @@ pub fn world_of_two<'a>(
     packages: &'a [Package<'a>],
     eid: u8,
 ) -> Result<Small<'a>, MessageStepFault> {
-    let mut world = MessageWorld::new(alloc, AGENT, packages);
-    let Ok(device) = device_of_two(alloc) else {
+    let mut world = opening(alloc, packages);
+    let Ok(bank) = bank_of_two(alloc) else {
         return Err(MessageStepFault::Memory);
     };
-    add(&mut world, eid, device)?;
+    add(&mut world, eid, device_of_two(bank))?;
     Ok(world)
 }

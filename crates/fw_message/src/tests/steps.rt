@@ -1,9 +1,10 @@
 //! The steps of the worked update.
 
-use crate::tests::setup::{AGENT, Small};
+use crate::tests::setup::{AGENT, Small, world, world_of_two};
 use crate::{MessageStep, MessageStepFault, Side, Way, message_replay};
 use fd_core::Verdict;
-use std::alloc::{AllocError, Global};
+use fw_package::Package;
+use std::alloc::Global;
 
 /// The worked device.
 pub const DEVICE: u8 = 9;
@@ -31,6 +32,10 @@ pub const DROP_UP: MessageStep = MessageStep::Drop(DEVICE, Way::Up);
 pub const START: MessageStep = MessageStep::Start(DEVICE, 1);
 
 pub const CANCEL: MessageStep = MessageStep::Cancel(DEVICE);
+
+pub const VERIFY_OK: MessageStep = MessageStep::Verdict(DEVICE, Verdict::VerifyOk);
+
+pub const APPLY_OK: MessageStep = MessageStep::Verdict(DEVICE, Verdict::ApplyOk);
 
 pub const ACTIVATE: MessageStep = MessageStep::Activate(DEVICE);
 
@@ -99,51 +104,17 @@ fn up(device: u8) -> [MessageStep; 3] {
 /// The forty steps of an update of one component of 241 bytes. Down go QueryDeviceIdentifiers, GetFirmwareParameters,
 /// CancelUpdate, RequestUpdate, PassComponentTable and UpdateComponent, and ActivateFirmware at the end; up go two
 /// RequestFirmwareData and TransferComplete, then VerifyComplete, then ApplyComplete.
-pub fn worked_update(alloc: Global, device: u8) -> Result<Vec<MessageStep>, AllocError> {
-    let mut steps = Vec::with_capacity(alloc, WHOLE)?;
-    steps.extend_from_slice(&[MessageStep::Start(device, 1)])?;
-    for _ in 0..6 {
-        steps.extend_from_slice(&down(device))?;
-    }
-    for _ in 0..3 {
-        steps.extend_from_slice(&up(device))?;
-    }
-    steps.extend_from_slice(&[MessageStep::Verdict(device, Verdict::VerifyOk)])?;
-    steps.extend_from_slice(&up(device))?;
-    steps.extend_from_slice(&[MessageStep::Verdict(device, Verdict::ApplyOk)])?;
-    steps.extend_from_slice(&up(device))?;
-    steps.extend_from_slice(&[MessageStep::Activate(device)])?;
-    steps.extend_from_slice(&down(device))?;
-    Ok(steps)
-}
-
-/// The first of the worked steps of the worked device, and then these.
-pub fn worked_then(
-    alloc: Global,
-    count: usize,
-    then: &[MessageStep],
-) -> Result<Vec<MessageStep>, AllocError> {
-    let mut steps = Vec::new(alloc);
-    let worked = worked_update(alloc, DEVICE)?;
-    steps.extend_from_slice(worked.get(..count).unwrap_or(&[]))?;
-    steps.extend_from_slice(then)?;
-    Ok(steps)
-}
-
-/// The steps of an update of two components, until the second piece of the second image is asked for: the first is
-/// recorded.
-pub fn halfway_of_two(alloc: Global) -> Result<Vec<MessageStep>, AllocError> {
-    let mut steps = Vec::new(alloc);
-    steps.extend_from_slice(&[START])?;
-    for _ in 0..7 {
-        steps.extend_from_slice(&down(DEVICE))?;
-    }
-    let worked = worked_update(alloc, DEVICE)?;
-    steps.extend_from_slice(worked.get(DOWNLOAD..ALL_APPLIED).unwrap_or(&[]))?;
-    steps.extend_from_slice(&down(DEVICE))?;
-    steps.extend_from_slice(&up(DEVICE))?;
-    steps.extend_from_slice(&[ASK_UP])?;
-    Ok(steps)
+pub fn worked(device: u8) -> [MessageStep; WHOLE] {
+    let start = MessageStep::Start(device, 1);
+    let verify = MessageStep::Verdict(device, Verdict::VerifyOk);
+    let apply = MessageStep::Verdict(device, Verdict::ApplyOk);
+    let activate = MessageStep::Activate(device);
+    let [a, b, c] = down(device);
+    let [x, y, z] = up(device);
+    [
+        start, a, b, c, a, b, c, a, b, c, a, b, c, a, b, c, a, b, c, x, y, z, x, y, z, x, y, z,
+        verify, x, y, z, apply, x, y, z, activate, a, b, c,
+    ]
 }
 
 /// `message_replay`: the proofs of the tests need nothing of its contract.
@@ -154,26 +125,68 @@ pub fn replay(
     message_replay(world, steps)
 }
 
-/// Goes on with the worked device as long as anything can be asked, taken, learnt or emptied, with good verdicts and
-/// activations.
+/// Whether each of these steps is taken.
+pub fn takes(world: &mut Small<'_>, steps: &[MessageStep]) -> bool {
+    replay(world, steps).is_ok()
+}
+
+/// Whether each of the worked steps of a device is taken, from this number to that one.
+pub fn takes_worked(world: &mut Small<'_>, device: u8, from: usize, to: usize) -> bool {
+    let steps = worked(device);
+    takes(world, steps.get(from..to).unwrap_or(&[]))
+}
+
+/// The worked device behind so many of the worked steps, and these.
+pub fn led<'a>(
+    alloc: Global,
+    packages: &'a [Package<'a>],
+    count: usize,
+    then: &[MessageStep],
+) -> Result<Small<'a>, MessageStepFault> {
+    let mut world = world(alloc, packages, &[DEVICE])?;
+    if takes_worked(&mut world, DEVICE, 0, count) && takes(&mut world, then) {
+        Ok(world)
+    } else {
+        Err(MessageStepFault::NotNow)
+    }
+}
+
+/// A device of two components in its update, until the second piece of the second image is asked for: the first is
+/// recorded.
+pub fn halfway_of_two<'a>(
+    alloc: Global,
+    packages: &'a [Package<'a>],
+) -> Result<Small<'a>, MessageStepFault> {
+    let mut world = world_of_two(alloc, packages, DEVICE)?;
+    let one = takes_worked(&mut world, DEVICE, 0, DOWNLOAD)
+        && takes(&mut world, &down(DEVICE))
+        && takes_worked(&mut world, DEVICE, DOWNLOAD, ALL_APPLIED);
+    let other = takes(&mut world, &down(DEVICE))
+        && takes(&mut world, &up(DEVICE))
+        && takes(&mut world, &[ASK_UP]);
+    if one && other {
+        Ok(world)
+    } else {
+        Err(MessageStepFault::NotNow)
+    }
+}
+
+/// All that the worked device and its session may do next, with good verdicts.
+const ROUND: [MessageStep; 12] = [
+    ASK_DOWN, TAKE_DOWN, TAKE_BUSY, LEARN_DOWN, DROP_DOWN, ASK_UP, TAKE_UP, LEARN_UP, DROP_UP,
+    VERIFY_OK, APPLY_OK, ACTIVATE,
+];
+
+/// Goes on with the worked device as long as it may take.
 pub fn go_on(world: &mut Small<'_>) {
     for _ in 0..40 {
-        let quiet = world.cell(DEVICE, Way::Up).is_none();
-        let round = [
-            ASK_DOWN,
-            MessageStep::Take(DEVICE, Way::Down, quiet),
-            LEARN_DOWN,
-            DROP_DOWN,
-            ASK_UP,
-            TAKE_UP,
-            LEARN_UP,
-            DROP_UP,
-            MessageStep::Verdict(DEVICE, Verdict::VerifyOk),
-            MessageStep::Verdict(DEVICE, Verdict::ApplyOk),
-            ACTIVATE,
-        ];
-        for step in round {
-            let _ = replay(world, &[step]);
-        }
+        try_each(world, &ROUND);
+    }
+}
+
+/// Each of these steps that may be taken.
+fn try_each(world: &mut Small<'_>, steps: &[MessageStep]) {
+    for step in steps {
+        let _ = takes(world, &[*step]);
     }
 }

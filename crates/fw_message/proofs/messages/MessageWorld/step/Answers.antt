@@ -4,8 +4,9 @@ use Rattle.std.proofs.lemmas.Option.{slice_get_read}
 use Rattle.fw_message.specs.Entries.{entry_of}
 use Rattle.fw_message.specs.Replays.{place_at}
 use Rattle.fw_message.specs.Worlds.{WorldOf, device_of, restarts_agent}
+use Rattle.fw_message.proofs.Apart.{absent_put, absent_restarted}
 use Rattle.fw_message.proofs.Places.{not_at}
-use Rattle.fw_message.proofs.Stepping.{agent_restarts, bank_failed, device_refuses, device_steps}
+use Rattle.fw_message.proofs.Stepping.{agent_restarts, bank_failed, device_refuses, device_steps, faults_restarted, faults_same}
 use Rattle.fw_message.proofs.messages.MessageWorld.step.Goals as goal
 
 pub returns-then-restarts-clause-step : goal.returns-then-restarts-clause-step
@@ -49,3 +50,26 @@ returns-clause-failed g c =
     let found : slice_get c.self.inside.pairs.items c.in-Some.place ≡ Some c.index_mut-pair.result.now =
     slice_get_read c.self.inside.pairs.items (length c.self.inside.pairs.items) c.in-Some.place c.index_mut-pair.result.now refl lt c.index_mut-pair.ensures.value in
     λ e. rw (sym c.self.view_is) (bank_failed w later c.self.inside.pairs.items c.index_mut-pair.result.now c.step.new.self c.in-Some.place (device_of c.args.step) at found (c.in-Ok.ensures.failed e))
+
+pub returns-then-restarts-clause-worked : goal.returns-then-restarts-clause-worked
+returns-then-restarts-clause-worked g c =
+    λ e. rw (sym c.self.view_is, c.restart_each.ensures) (faults_restarted c.self.inside.packages.now c.self.inside.pairs.items)
+
+pub returns-clause-worked : goal.returns-clause-worked
+returns-clause-worked g c =
+    let lt : c.in-Some.place < length c.self.inside.pairs.items = search rules in
+    let found : slice_get c.self.inside.pairs.items c.in-Some.place ≡ Some c.index_mut-pair.result.now =
+    slice_get_read c.self.inside.pairs.items (length c.self.inside.pairs.items) c.in-Some.place c.index_mut-pair.result.now refl lt c.index_mut-pair.ensures.value in
+    λ e. rw (sym c.self.view_is) (faults_same c.self.inside.pairs.items c.index_mut-pair.result.now c.step.new.self c.in-Some.place found (c.in-Ok.ensures.worked e))
+
+-- no device has the agent's identifier
+pub invariant_of-self : goal.invariant_of-self
+invariant_of-self g c =
+    rw c.restart_each.ensures (absent_restarted c.self.inside.packages.now c.self.inside.pairs.items c.self.inside.agent c.self.invariant)
+
+pub invariant_of-self-2 : goal.invariant_of-self-2
+invariant_of-self-2 g c =
+    let lt : c.in-Some.place < length c.self.inside.pairs.items = search rules in
+    let found : slice_get c.self.inside.pairs.items c.in-Some.place ≡ Some c.index_mut-pair.result.now =
+    slice_get_read c.self.inside.pairs.items (length c.self.inside.pairs.items) c.in-Some.place c.index_mut-pair.result.now refl lt c.index_mut-pair.ensures.value in
+    absent_put c.self.inside.pairs.items c.index_mut-pair.result.now c.step.new.self c.in-Some.place c.self.inside.agent found c.in-Ok.ensures.eid c.self.invariant
