@@ -1,5 +1,5 @@
 -- What a session reads from the package that it is lent.
-use Rattle.std.specs.Prelude.{Bool, List, None, Option, Some, [], if◌then◌else◌, length, nat_lt, slice_index_or, suc, zero, ◌%◌, ◌/◌, ◌==◌, ℕ}
+use Rattle.std.specs.Prelude.{Bool, List, None, Option, Some, [], if◌then◌else◌, length, nat_lt, slice_index_or, suc, take, zero, ◌%◌, ◌/◌, ◌==◌, ℕ}
 use Rattle.std.specs.Borrow.{Bor}
 use Rattle.fw_package.specs.Package.{ComponentOf, PackageText}
 use Rattle.fw_package.specs.Package.{DescriptorOf as DescriptorKnown, TextOf as TextKept}
@@ -36,9 +36,9 @@ sent_stamp c = if uses_stamp c then c.stamp else 0xFFFFFFFF
 abbrev pub sent_size : ComponentOf → ℕ
 sent_size c = if nat_lt 0xFFFFFFFF (length c.image) then 0xFFFFFFFF else length c.image
 
--- a text as it is sent
+-- A text as it is sent: what a message carries of it. No planned text is longer.
 abbrev pub sent_text : TextKept → TextOf
-sent_text t = record { text_type = t.kind; bytes = t.bytes }
+sent_text t = record { text_type = t.kind; bytes = take 200 t.bytes }
 
 -- what the component's new image calls itself
 abbrev pub sent_version : ComponentOf → VersionOf

@@ -1,7 +1,7 @@
 //! What a session reads from the package that it is lent. A component or a record that the package doesn't have reads as one
 //! without bytes; a session that is lent the package of its number never asks for such a one.
 
-ghost use Rattle.std.specs.Prelude.{◌≡◌, ◌<◌, IfSome, length, map, take};
+ghost use Rattle.std.specs.Prelude.{◌≡◌, ◌<◌, ◌≤◌, IfSome, length, map, take};
 ghost use Rattle.std.specs.Result.{result_map_both};
 ghost use Rattle.fw_package.specs.Choice.{component_at, plan_of, record_at, record_number};
 ghost use Rattle.fw_package.specs.Lent.{component_seen};
@@ -34,6 +34,9 @@ impl<'a> Model for Lent<'a> {
 
 /// The comparison stamp that stands for none.
 const NO_STAMP: u32 = 0xFFFF_FFFF;
+
+/// The most bytes of a text that a message carries. A plan has no longer one.
+const TEXT_LIMIT: usize = 200;
 
 /// The most descriptors of a device: their number stands in one byte.
 const DESCRIPTOR_LIMIT: usize = 255;
@@ -133,7 +136,8 @@ impl<'a> Lent<'a> {
 
     /// The set text of a record.
     pub(crate) fn set_text(&self, number: usize) -> Text<'a>
-        ensures { text_of result ≡ sent_text (record_at self.now number).set_text }
+        ensures value { text_of result ≡ sent_text (record_at self.now number).set_text }
+        ensures short { length result.bytes.now ≤ TEXT_LIMIT }
     {
         match self.package {
             Some(package) if number < package.record_count() => {
@@ -200,7 +204,8 @@ pub(crate) fn key(component: Component<'_>) -> Key
 
 /// A component's version, as it is sent: its stamp only where option bit 1 says that it is used.
 pub(crate) fn version<'a>(component: Component<'a>) -> Version<'a>
-    ensures { version_of result ≡ sent_version (component_seen component.entry) }
+    ensures value { version_of result ≡ sent_version (component_seen component.entry) }
+    ensures short { length result.text.bytes.now ≤ TEXT_LIMIT }
 {
     Version {
         stamp: if component.options / 2 % 2 == 1 {
@@ -226,12 +231,14 @@ pub(crate) fn size(component: Component<'_>) -> u32
     u32::try_from(component.image.len()).unwrap_or(u32::MAX)
 }
 
-/// A text of a package, as it is sent.
+/// A text of a package, as it is sent: no more than a message carries.
+#[tactic(auto, using(std::proofs::lemmas::List::take_min))]
 fn as_sent<'a>(text: fw_package::Text<'a>) -> Text<'a>
-    ensures { text_of result ≡ sent_text (package_text_of text.entry) }
+    ensures value { text_of result ≡ sent_text (package_text_of text.entry) }
+    ensures short { length result.bytes.now ≤ TEXT_LIMIT }
 {
     Text {
         text_type: text.kind,
-        bytes: text.bytes,
+        bytes: &text.bytes[..TEXT_LIMIT.min(text.bytes.len())],
     }
 }
