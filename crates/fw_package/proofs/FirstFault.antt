@@ -1,7 +1,7 @@
 -- What stops the reading of bytes is their first fault.
-use Rattle.std.proofs.Common.{◌≡◌, ◌≢◌, ℕ, zero, suc, ◌+◌, ◌-◌, ◌/◌, ◌%◌, ◌<◌, ◌≤◌, ◌∙◌, ◌==◌, ◌||◌, not, nat_eq, nat_lt, if◌then◌else◌, Bool, true, false, List, [], ◌∷◌, ◌++◌, Result, Ok, Err, Option, Some, None, IfErr, IsOk, length, take, drop, slice_index, refl, sym, ap, subst, arith, lt-ltb, le-ltb}
+use Rattle.std.proofs.Common.{◌≡◌, ◌≢◌, ℕ, zero, suc, ◌+◌, ◌-◌, ◌/◌, ◌%◌, ◌≤◌, ◌∙◌, ◌==◌, ◌||◌, not, nat_eq, nat_lt, if◌then◌else◌, Bool, true, false, List, ◌++◌, Result, Ok, Err, Option, Some, None, IfErr, IsOk, length, take, drop, slice_index, refl, sym, ap, subst, arith}
 use borrow.Author.Tests.{ltb-false, ltb-true}
-use Rattle.std.proofs.lemmas.Bool.{eq-eqb, eqb-true}
+use Rattle.std.proofs.lemmas.Bool.{eqb-true}
 use Rattle.std.proofs.lemmas.Bool.Decides.{Decides-eqb}
 use Rattle.std.proofs.lemmas.List.{take-append-drop}
 use Rattle.std.proofs.lemmas.Slice.Eq.{starts_is}
@@ -11,13 +11,13 @@ use Rattle.fw_package.specs.Components.{component_of, components_of, place_of, p
 use Rattle.fw_package.specs.Crc.{crc_of}
 use Rattle.fw_package.specs.Faults.{HasBitmaps, HasImages, HasRecords, IsFirstFault, IsIdentified, IsLaidOut, IsRevised, IsSigned, bits_in, header_in, size_in}
 use Rattle.fw_package.specs.Layout.{LayoutOf, layout_of, text_size_of}
-use Rattle.fw_package.specs.Package.{ComponentOf, DescriptorOf, PackageText, RecordOf}
+use Rattle.fw_package.specs.Package.{ComponentOf}
 use Rattle.fw_package.specs.Reading.{bitmap_size_of, checked, header_of, package_identifier, package_of, parts_of}
 use Rattle.fw_package.specs.Records.{◌>>=◌, descriptor_split, descriptors_split, record_of, records_of, split_after}
 use Rattle.fw_package.specs.declared.fault.PackageFault.{PackageFault}
 use Rattle.fw_package.specs.declared.fault.PackageFault.TheVariants as faults
 use Rattle.fw_package.proofs.OnePackage.{bitmap_reads}
-use Rattle.fw_package.proofs.WholeBuilt.{BitmapBuilt, HeaderBuilt, bitmap_built, header_built, not_equal, not_false, some_layout}
+use Rattle.fw_package.proofs.WholeBuilt.{bitmap_built, header_built, not_equal, not_false, some_layout}
 
 -- a chain stops at its first step, or later
 stops : {A B : Type 0} (P : Type 0) (r : Result A PackageFault) (f : A → Result B PackageFault) (e : PackageFault) → (r >>= f) ≡ Err e
