@@ -1,13 +1,12 @@
 -- Where a session gets into AllApplied from, row by row.
-use Rattle.std.specs.Prelude.{Bool, Err, List, None, Ok, Option, Result, Some, [], false, if◌then◌else◌, nat_lt, true, ◌&&◌, ◌||◌, ◌+◌, ◌==◌, ◌∷◌, ◌≡◌, ℕ, length, map}
+use Rattle.std.specs.Prelude.{Bool, Err, List, Ok, Result, [], false, if◌then◌else◌, nat_lt, true, ◌&&◌, ◌||◌, ◌+◌, ◌==◌, ◌∷◌, ◌≡◌, ℕ, length, map}
 use Rattle.std.proofs.Common.{refl}
-use Rattle.fw_package.specs.Choice.{component_at, plan_of, record_number}
+use Rattle.fw_package.specs.Choice.{component_at, record_number}
 use Rattle.fw_package.specs.Package.{PackageText}
-use Rattle.fw_package.specs.declared.fault.PlanFault.{PlanFault}
 use Rattle.fwup_wire.specs.Values.{AnswerOf, CommandOf}
 use Rattle.fwup_wire.specs.declared.answer.Malformed.{Malformed}
 use Rattle.ua_core.specs.Laws.{AppliesAll, IsAllApplied, IsApplyingLast, LearnsAllAppliedNowhere}
-use Rattle.ua_core.specs.Learn.{LearnRow, begun, fails, first_pass, first_task, job_of, learn_by, learn_row, next_pass, planned, with_passed}
+use Rattle.ua_core.specs.Learn.{LearnRow, begun, fails, first_pass, first_task, job_of, learn_by, learn_row, next_pass, with_passed}
 use Rattle.ua_core.specs.Lent.{told_descriptor}
 use Rattle.ua_core.specs.Serve.{ServeRow, after_by, data_of, refuses, serve_row, task_after, unexpected, window}
 use Rattle.ua_core.specs.Session.{JobOf, SessionOf, Stage, TaskOf}
