@@ -1,6 +1,7 @@
 mod Built
 mod ByteSteps
 mod Chosen
+mod FirstFault
 mod Lists
 mod OnePackage
 mod Parts

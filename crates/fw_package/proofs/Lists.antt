@@ -1,7 +1,5 @@
 -- Descriptors that are read one after the other, and the components that a bitmap names.
-use Rattle.std.proofs.Common.{◌≡◌, ◌≢◌, ℕ, zero, suc, ◌+◌, ◌-◌, ◌<◌, ◌≤◌, ◌∙◌, Bool, true, false, List, [], ◌∷◌, Result, Ok, Err, IsOk, length, refl, sym, ap, subst, arith, if◌then◌else◌}
-use Rattle.std.specs.Prelude.{filter}
-use Rattle.std.specs.List.{range_with_len}
+use Rattle.std.proofs.Common.{◌≡◌, ◌≢◌, ℕ, zero, suc, ◌+◌, ◌-◌, ◌<◌, ◌≤◌, true, false, List, [], ◌∷◌, Result, Ok, Err, IsOk, length, refl, ap, arith}
 use Rattle.fw_package.specs.Package.{DescriptorOf}
 use Rattle.fw_package.specs.Records.{◌>>=◌, descriptor_split, descriptors_split, is_named}
 use Rattle.fw_package.specs.Views.{front_of, named_from}

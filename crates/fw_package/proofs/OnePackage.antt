@@ -97,7 +97,7 @@ layout_reads h0 h1 b0 b1 kind m n0 n1 size count release version records compone
     ap (λ n. after_components n (components ++ sum)) ns ∙ components_walked file components sum cs composed in
     rw (at.text, there, from, records_end, after_front (n0 ∷ n1 ∷ []) (components ++ sum) 2 refl, components_end, four) refl
 
-bitmap_reads : (bits count : ℕ) → bits ≢ 0 → bits % 8 ≡ 0 → count ≤ bits → bitmap_size_of bits count ≡ Ok (bits / 8)
+pub bitmap_reads : (bits count : ℕ) → bits ≢ 0 → bits % 8 ≡ 0 → count ≤ bits → bitmap_size_of bits count ≡ Ok (bits / 8)
 unfolding bitmap_size_of
 bitmap_reads bits count there whole enough = rw (ne_eqb bits 0 there, eq-eqb (bits % 8) 0 whole, le-ltb bits count enough) refl
 

@@ -1,5 +1,5 @@
 -- The components that a record uses are rising, and there.
-use Rattle.std.proofs.Common.{◌≡◌, ℕ, zero, suc, ◌+◌, ◌<◌, ◌∙◌, ◌==◌, Bool, true, false, if◌then◌else◌, All, List, ◌∷◌, Result, Ok, Err, IfOk, length, take, drop, sym, ap, subst, arith, get_or, slice_index, length-drop}
+use Rattle.std.proofs.Common.{◌≡◌, ℕ, zero, suc, ◌+◌, ◌<◌, ◌∙◌, ◌==◌, Bool, true, false, if◌then◌else◌, All, List, Result, Ok, Err, IfOk, length, take, drop, sym, ap, subst, arith, slice_index}
 use Rattle.std.specs.List.{range_with_len}
 use Rattle.std.specs.List.Sorted.{IsStrictlyIncreasing}
 use Rattle.std.proofs.lemmas.List.Elements.{All-cons, All-filter}
@@ -8,7 +8,7 @@ use Rattle.std.proofs.lemmas.List.Kept.{IsStrictlyIncreasing-filter}
 use Rattle.std.specs.Result.{is_ok}
 use Rattle.std.proofs.lemmas.Result.{IfOk-at_ok}
 use Rattle.byteorder.specs.Endian.{little_number}
-use Rattle.fw_package.specs.Components.{component_of, components_of}
+use Rattle.fw_package.specs.Components.{components_of}
 use Rattle.fw_package.specs.Package.{ComponentOf, RecordOf}
 use Rattle.fw_package.specs.Reading.{IsUsing}
 use Rattle.fw_package.specs.Records.{◌>>=◌, descriptors_split, is_named, named, record_of, records_of, split_after}

@@ -1,5 +1,5 @@
 -- The components of a record's numbers, found in one walk, and what a plan asks of them.
-use Rattle.std.proofs.Common.{◌≡◌, ℕ, zero, suc, ◌+◌, ◌-◌, ◌<◌, ◌≤◌, ◌∙◌, ◌||◌, Bool, true, false, if◌then◌else◌, nat_lt, All, List, [], ◌∷◌, ◌++◌, Result, Ok, Err, Option, Some, None, length, map, drop, get_or, refl, sym, ap, subst, arith, length-drop, length-append, append-nil, lt-ltb, le-ltb, cond}
+use Rattle.std.proofs.Common.{◌≡◌, ℕ, suc, ◌+◌, ◌-◌, ◌<◌, ◌≤◌, ◌∙◌, ◌||◌, Bool, true, false, if◌then◌else◌, nat_lt, All, List, [], ◌∷◌, ◌++◌, Ok, Err, Some, None, length, map, drop, get_or, refl, sym, ap, subst, arith, length-drop, length-append, append-nil, lt-ltb, le-ltb, cond}
 use borrow.Author.Tests.{ltb-false, ltb-true}
 use Rattle.std.specs.List.{AllPairs, list_any, position, position_or_len}
 use Rattle.std.specs.List.Sorted.{IsStrictlyIncreasing}
@@ -10,7 +10,6 @@ use Rattle.fw_package.specs.Choice.{component_at, has_key, has_large_image, has_
 use Rattle.fw_package.specs.Package.{ComponentOf, PackageText, RecordOf}
 use Rattle.fw_package.specs.Reading.{IsUsing}
 use Rattle.fw_package.specs.Views.{AreUsed, twins, used_from}
-use Rattle.fw_package.specs.declared.fault.PlanFault.{PlanFault}
 use Rattle.fw_package.specs.declared.fault.PlanFault.TheVariants as faults
 
 -- a list has fewer behind its first

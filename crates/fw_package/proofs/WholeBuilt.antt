@@ -44,17 +44,17 @@ then_some : {A : Type 0} (b : Bool) (x y : A) → (if b then Some x else None) �
 then_some true x y h = (refl, cc)
 then_some false x y h = absurd (cc)
 
-not_false : (b : Bool) → not b ≡ false → b ≡ true
+pub not_false : (b : Bool) → not b ≡ false → b ≡ true
 not_false true h = refl
 not_false false h = absurd (cc)
 
-record HeaderBuilt (bytes header : List ℕ) : Type 0 where
-  identified : starts_with nat_eq bytes package_identifier ≡ true
-  revised : slice_index bytes 16 ≡ 1
-  fits : little_number 2 (drop 17 bytes) ≤ length bytes
-  is : take (little_number 2 (drop 17 bytes)) bytes ≡ header
+pub record HeaderBuilt (bytes header : List ℕ) : Type 0 where
+  pub identified : starts_with nat_eq bytes package_identifier ≡ true
+  pub revised : slice_index bytes 16 ≡ 1
+  pub fits : little_number 2 (drop 17 bytes) ≤ length bytes
+  pub is : take (little_number 2 (drop 17 bytes)) bytes ≡ header
 
-header_built : (bytes header : List ℕ) → header_of bytes ≡ Ok header → HeaderBuilt bytes header
+pub header_built : (bytes header : List ℕ) → header_of bytes ≡ Ok header → HeaderBuilt bytes header
 unfolding header_of
 header_built bytes header h =
     let long = else_ok (nat_lt (length bytes) 36) faults.Short _ header h in
@@ -130,16 +130,16 @@ either_false : (a b : Bool) → (a || b) ≡ false → (a ≡ false) × (b ≡ f
 either_false false b h = (refl, h)
 either_false true b h = absurd (cc)
 
-not_equal : (a b : ℕ) → (a == b) ≡ false → a ≢ b
+pub not_equal : (a b : ℕ) → (a == b) ≡ false → a ≢ b
 not_equal a b h e = let same : (a == b) ≡ true = eq-eqb a b e in absurd (cc)
 
-record BitmapBuilt (bits count size : ℕ) : Type 0 where
-  there : bits ≢ 0
-  whole : bits % 8 ≡ 0
-  enough : count ≤ bits
-  is : bits / 8 ≡ size
+pub record BitmapBuilt (bits count size : ℕ) : Type 0 where
+  pub there : bits ≢ 0
+  pub whole : bits % 8 ≡ 0
+  pub enough : count ≤ bits
+  pub is : bits / 8 ≡ size
 
-bitmap_built : (bits count size : ℕ) → bitmap_size_of bits count ≡ Ok size → BitmapBuilt bits count size
+pub bitmap_built : (bits count size : ℕ) → bitmap_size_of bits count ≡ Ok size → BitmapBuilt bits count size
 unfolding bitmap_size_of
 bitmap_built bits count size h =
     let tests = else_ok ((bits == 0) || (not (bits % 8 == 0) || nat_lt bits count)) faults.BitmapLength (Ok (bits / 8)) size h in
@@ -174,7 +174,7 @@ two_more xs two = absurd (omega (arith, two))
 four_more : (xs : List ℕ) → length xs ≡ 4 → xs ≡ slice_index xs 0 ∷ slice_index xs 1 ∷ slice_index xs 2 ∷ slice_index xs 3 ∷ []
 four_more = four (λ xs. xs ≡ slice_index xs 0 ∷ slice_index xs 1 ∷ slice_index xs 2 ∷ slice_index xs 3 ∷ []) (λ a b c d. refl)
 
-some_layout : (o : Option LayoutOf) (l : LayoutOf) → parts_of o ≡ Ok l → o ≡ Some l
+pub some_layout : (o : Option LayoutOf) (l : LayoutOf) → parts_of o ≡ Ok l → o ≡ Some l
 some_layout (Some x) l h = cc
 some_layout None l h = absurd (cc)
 

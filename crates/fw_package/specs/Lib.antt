@@ -1,6 +1,7 @@
 pub mod Choice
 pub mod Components
 pub mod Crc
+pub mod Faults
 pub mod Grammar
 pub mod Laws
 pub mod Layout

@@ -4,7 +4,7 @@ use Rattle.fw_package.specs.Choice.{component_at}
 use Rattle.fw_package.specs.Package.{PackageText}
 use Rattle.fwup_wire.specs.Answers.{answer_bytes, answer_in}
 use Rattle.fwup_wire.specs.Commands.{command_code}
-use Rattle.fwup_wire.specs.Values.{AnswerOf, CommandOf}
+use Rattle.fwup_wire.specs.Values.{CommandOf}
 use Rattle.ua_core.specs.Serve.{ServeRow, agent_answer, answer_by, apply_row, data_of, data_row, refuses, transfer_row, verify_row, window}
 use Rattle.ua_core.specs.Session.{SessionOf, Stage}
 

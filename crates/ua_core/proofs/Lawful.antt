@@ -1,12 +1,12 @@
 -- The laws, row by row.
 use Rattle.std.specs.Prelude.{Bool, IsSome, List, [], false, if◌then◌else◌, length, nat_lt, true, ◌&&◌, ◌||◌, ◌+◌, ◌++◌, ◌==◌, ◌∷◌, ◌≡◌, ℕ}
-use Rattle.std.proofs.Common.{refl, sym, append-nil}
+use Rattle.std.proofs.Common.{refl, subst, sym, append-nil}
 use Rattle.fw_package.specs.Choice.{component_at}
 use Rattle.fw_package.specs.Package.{PackageText}
 use Rattle.fwup_wire.specs.Values.{AnswerOf, CommandOf}
-use Rattle.ua_core.specs.Laws.{IsApplying, IsLoose, LearnsNoRecord, LooseRecordsNothing, RecordsGrow, RecordsInApply, WishStands}
+use Rattle.ua_core.specs.Laws.{IsApplying, IsLoose, LearnsNoRecord, LooseRecordsNothing, RecordsGoodApply, RecordsGrow, RecordsInApply, WishStands}
 use Rattle.ua_core.specs.Learn.{LearnRow, learn_by, learn_row}
-use Rattle.ua_core.specs.Serve.{ServeRow, after_by, data_of, recorded_with, refuses, serve_row, task_after, unexpected, window}
+use Rattle.ua_core.specs.Serve.{ServeRow, after_by, data_of, record_of, recorded_with, refuses, serve_row, task_after, unexpected, window}
 use Rattle.ua_core.specs.Session.{SessionOf, Stage, TaskOf}
 use Rattle.ua_core.specs.Wish.{stage_wish}
 use Rattle.ua_core.specs.declared.planned.Planned.{Planned}
@@ -97,3 +97,8 @@ nothing_in p s g c h = refl
 
 pub records_in_apply : RecordsInApply
 records_in_apply p s c h = nothing_in p s s.stage c h
+
+-- and there at every good ApplyComplete
+pub records_good_apply : RecordsGoodApply
+records_good_apply p s t methods is =
+    subst (λ g. recorded_with s (serve_row p g (CommandOf.ApplyComplete 0 methods)) ≡ record_of s t ∷ []) (sym is) refl

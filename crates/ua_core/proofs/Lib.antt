@@ -1,3 +1,4 @@
+mod AllApplied
 mod Answering
 pub mod Padding
 pub mod Known

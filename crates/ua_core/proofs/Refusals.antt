@@ -5,7 +5,7 @@ use Rattle.fw_package.specs.Package.{PackageText}
 use Rattle.fwup_wire.specs.Values.{AnswerOf, CommandOf}
 use Rattle.ua_core.specs.Laws.{RefusalsKeepTheSession, RefusalsRecordNothing, RefusalsStirNothing}
 use Rattle.ua_core.specs.Serve.{ServeRow, after_by, answer_by, apply_row, data_of, data_row, idle_after, recorded_with, refuses, serve_row, transfer_row, verify_row, window}
-use Rattle.ua_core.specs.Session.{SessionOf, Stage, TaskOf}
+use Rattle.ua_core.specs.Session.{Stage, TaskOf}
 use Rattle.ua_core.specs.declared.state.Cause.TheVariants as causes
 
 -- what refuses does nothing else

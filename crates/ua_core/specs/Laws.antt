@@ -1,12 +1,12 @@
 -- What holds of every session, as the proof over a pair of agent and device needs it.
-use Rattle.std.specs.Prelude.{[], All, Contains, IsSome, List, Ok, Result, Some, length, map, take, ◌++◌, ◌≡◌, ◌+◌, ℕ}
+use Rattle.std.specs.Prelude.{[], All, Contains, IsSome, List, Ok, Result, Some, length, map, take, ◌++◌, ◌∷◌, ◌≡◌, ◌+◌, ℕ}
 use Rattle.fw_package.specs.Choice.{component_at, plan_of, record_number}
 use Rattle.fw_package.specs.Package.{PackageText}
 use Rattle.fwup_wire.specs.Values.{AnswerOf, CommandOf, DescriptorOf}
 use Rattle.fwup_wire.specs.declared.answer.Malformed.{Malformed}
 use Rattle.ua_core.specs.Learn.{agent_learn}
 use Rattle.ua_core.specs.Lent.{key_of, told_descriptor}
-use Rattle.ua_core.specs.Serve.{agent_after, agent_answer, agent_idle, recorded_by, window}
+use Rattle.ua_core.specs.Serve.{agent_after, agent_answer, agent_idle, record_of, recorded_by, window}
 use Rattle.ua_core.specs.Session.{JobOf, SessionOf, Stage, TaskOf}
 use Rattle.ua_core.specs.Wish.{agent_wish}
 use Rattle.ua_core.specs.declared.planned.Planned.{Planned}
@@ -87,9 +87,34 @@ IsApplying _ = ⊥
 abbrev pub RecordsInApply : Type 0
 RecordsInApply = (p : PackageText) (s : SessionOf) (c : CommandOf) → (IsApplying s.stage → ⊥) → recorded_by p s c ≡ []
 
+-- there it is made at every good ApplyComplete, of the component at hand
+abbrev pub RecordsGoodApply : Type 0
+RecordsGoodApply = (p : PackageText) (s : SessionOf) (t : TaskOf) (methods : ℕ) → s.stage ≡ Stage.Apply t
+    → recorded_by p s (CommandOf.ApplyComplete 0 methods) ≡ record_of s t ∷ []
+
 -- an answer records nothing
 abbrev pub LearnsNoRecord : Type 0
 LearnsNoRecord = (p : PackageText) (s : SessionOf) (a : Result AnswerOf Malformed) → (agent_learn p s a).records ≡ s.records
+
+-- every component is applied
+abbrev pub IsAllApplied : Stage → Type 0
+IsAllApplied (Stage.AllApplied _) = Unit {0}
+IsAllApplied _ = ⊥
+
+-- the component at hand is being applied, and none is left to do
+abbrev pub IsApplyingLast : Stage → Type 0
+IsApplyingLast (Stage.Apply t) = t.todo ≡ []
+IsApplyingLast _ = ⊥
+
+-- a command leads to AllApplied from where the last component is applied, and from nowhere else
+abbrev pub AppliesAll : Type 0
+AppliesAll = (p : PackageText) (s : SessionOf) (c : CommandOf) → (IsAllApplied s.stage → ⊥) → IsAllApplied (agent_after p s c).stage
+    → IsApplyingLast s.stage
+
+-- and no answer leads there
+abbrev pub LearnsAllAppliedNowhere : Type 0
+LearnsAllAppliedNowhere = (p : PackageText) (s : SessionOf) (a : Result AnswerOf Malformed) → (IsAllApplied s.stage → ⊥)
+    → IsAllApplied (agent_learn p s a).stage → ⊥
 
 -- while the session wishes a command, the device's commands leave it as it is
 abbrev pub WishStands : Type 0

@@ -1,14 +1,22 @@
 //! What holds of every session, whatever the device says.
 
-ghost use Rattle.ua_core.specs.Laws.{ChoosesRecord, LearnsInPlan, LearnsNoRecord, LooseRecordsNothing, PlansKeysOnce, RecordsGrow, RecordsInApply, RefusalsKeepTheSession, RefusalsRecordNothing, RefusalsStirNothing, ServesInPlan, WindowContinues, WishStands};
+ghost use Rattle.ua_core.specs.Laws.{AppliesAll, ChoosesRecord, LearnsAllAppliedNowhere, LearnsInPlan, LearnsNoRecord, LooseRecordsNothing, PlansKeysOnce, RecordsGoodApply, RecordsGrow, RecordsInApply, RefusalsKeepTheSession, RefusalsRecordNothing, RefusalsStirNothing, ServesInPlan, WindowContinues, WishStands};
 
-/// The records grow only where the device applied the component at hand, by that component; no answer adds one, and no command
-/// that leads to Idle, Query, Done, Cancelling or Failed.
+/// The records grow where the device applied the component at hand, by that component, and nowhere else; no answer adds one, and
+/// no command that leads to Idle, Query, Done, Cancelling or Failed.
 pub fn records_what_is_applied()
     ensures grow { RecordsGrow }
     ensures applying { RecordsInApply }
+    ensures applied { RecordsGoodApply }
     ensures loose { LooseRecordsNothing }
     ensures learnt { LearnsNoRecord }
+{}
+
+/// A session is in AllApplied with nothing left to do: a command of the device leads there where it applied the last component,
+/// and from nowhere else, and no answer does.
+pub fn applies_all()
+    ensures served { AppliesAll }
+    ensures learnt { LearnsAllAppliedNowhere }
 {}
 
 /// While a session wishes a command, the device's commands leave it as it is, and so its wish.

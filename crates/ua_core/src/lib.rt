@@ -19,7 +19,8 @@ mod tests;
 pub use fault::{NotReady, StartFault};
 pub use happening::{Happening, happened};
 pub use laws::{
-    pieces_continue, records_what_is_applied, refusals_change_nothing, stays_in_plan, wish_stands,
+    applies_all, pieces_continue, records_what_is_applied, refusals_change_nothing, stays_in_plan,
+    wish_stands,
 };
 pub use lent::Lent;
 pub use mark::Mark;

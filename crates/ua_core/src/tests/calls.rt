@@ -2,7 +2,7 @@
 
 use crate::tests::packages::file;
 use crate::tests::situations::{ONE, go_on, session_after};
-use crate::{Cause, Happening, Lent, Mark, NotReady, Session, SessionState, StartFault, happened};
+use crate::{Cause, Happening, Lent, Mark, Session, SessionState, StartFault, happened};
 use fw_package::Package;
 use std::alloc::Global;
 use std::test::Fail;
@@ -23,56 +23,15 @@ const PATH: [SessionState; 12] = [
     SessionState::Done,
 ];
 
-#[test]
-fn a_new_session_is_idle(rt: HostRuntime) {
-    let session = Session::new(rt.alloc());
-    assert_eq!(rt; session.state(), SessionState::Idle);
-    assert_eq!(rt; session.package(), 0);
-    assert!(rt; session.records().is_empty());
-    assert!(rt; session.wish(&Lent::none()).is_none());
-}
-
-#[test]
-fn each_call_in_each_state(rt: HostRuntime) -> Result<(), Fail> {
-    let bytes = file(rt.alloc(), ONE)?;
-    let package = Package::read(&bytes)?;
-    let lent = Lent::some(&package);
-    for (turns, state) in PATH.iter().enumerate() {
-        let state = *state;
-        let mut session = session_after(rt.alloc(), &lent, turns);
-        assert_eq!(rt; session.state(), state);
-        session.cancel();
-        assert_eq!(rt; session.state(), SessionState::Cancelling);
-        session.cancel();
-        assert_eq!(rt; session.state(), SessionState::Cancelling);
-        assert_eq!(rt; session.activate(), Err(NotReady));
-        assert_eq!(rt; session.start(2), Err(StartFault::Busy));
-        assert_eq!(rt; session.package(), 1);
-        session.silent();
-        assert_eq!(rt; session.state(), SessionState::Idle);
-        session.cancel();
-        assert_eq!(rt; session.state(), SessionState::Idle);
-
-        let mut session = session_after(rt.alloc(), &lent, turns);
-        session.silent();
-        assert_eq!(rt; session.state(), SessionState::Failed(Cause::Silent));
-
-        let mut session = session_after(rt.alloc(), &lent, turns);
-        let activated = session.activate();
-        assert_eq!(rt; activated.is_ok(), state == SessionState::AllApplied);
-        let after = if activated.is_ok() {
-            SessionState::Activate
-        } else {
-            state
-        };
-        assert_eq!(rt; session.state(), after);
-
-        let mut session = session_after(rt.alloc(), &lent, turns);
-        let started = session.start(2);
-        assert_eq!(rt; started.is_ok(), state == SessionState::Done);
-        assert_eq!(rt; session.package(), if started.is_ok() { 2 } else { 1 });
+/// The states after 239 and 240 ticks of a session that was led on so many times.
+fn idled(alloc: Global, lent: &Lent<'_>, turns: usize) -> (SessionState, SessionState) {
+    let mut session = session_after(alloc, lent, turns);
+    for _ in 0..239 {
+        session.idle_tick();
     }
-    Ok(())
+    let before = session.state();
+    session.idle_tick();
+    (before, session.state())
 }
 
 #[test]
@@ -81,68 +40,15 @@ fn time_ends_what_is_under_way_in_the_240th_tick(rt: HostRuntime) -> Result<(), 
     let package = Package::read(&bytes)?;
     let lent = Lent::some(&package);
     for (turns, state) in PATH.iter().enumerate() {
-        let mut session = session_after(rt.alloc(), &lent, turns);
-        for _ in 0..239 {
-            session.idle_tick();
-        }
-        assert_eq!(rt; session.state(), *state);
-        session.idle_tick();
-        let after = if *state == SessionState::Done {
+        let ended = if *state == SessionState::Done {
             SessionState::Done
         } else {
             SessionState::Failed(Cause::TimeOut)
         };
-        assert_eq!(rt; session.state(), after);
+        let (before, after) = idled(rt.alloc(), &lent, turns);
+        assert_eq!(rt; before, *state);
+        assert_eq!(rt; after, ended);
     }
-    let mut session = session_after(rt.alloc(), &lent, 3);
-    session.cancel();
-    for _ in 0..240 {
-        session.idle_tick();
-    }
-    assert_eq!(rt; session.state(), SessionState::Idle);
-    Ok(())
-}
-
-#[test]
-fn served_data_count_as_progress(rt: HostRuntime) -> Result<(), Fail> {
-    let bytes = file(rt.alloc(), ONE)?;
-    let package = Package::read(&bytes)?;
-    let lent = Lent::some(&package);
-    for (length, after) in [
-        (32, SessionState::Download),
-        (31, SessionState::Failed(Cause::TimeOut)),
-    ] {
-        let mut session = session_after(rt.alloc(), &lent, 6);
-        for _ in 0..239 {
-            session.idle_tick();
-        }
-        let asked = fwup_wire::Command::RequestFirmwareData { offset: 0, length };
-        session.take(&asked, &lent);
-        session.idle_tick();
-        assert_eq!(rt; session.state(), after);
-    }
-    Ok(())
-}
-
-#[test]
-fn a_restart_keeps_the_records(rt: HostRuntime) -> Result<(), Fail> {
-    let bytes = file(rt.alloc(), ONE)?;
-    let package = Package::read(&bytes)?;
-    let lent = Lent::some(&package);
-    let mut session = session_after(rt.alloc(), &lent, 9);
-    assert_eq!(rt; session.records().len(), 1);
-    session.restart();
-    assert_eq!(rt; session.state(), SessionState::Idle);
-    assert_eq!(rt; session.records().len(), 1);
-    assert!(rt; session.start(2).is_ok());
-    assert_eq!(rt; session.records().len(), 1);
-    assert_eq!(rt;
-        session.mark(),
-        Mark {
-            state: SessionState::Query,
-            records: 1
-        }
-    );
     Ok(())
 }
 
@@ -249,13 +155,6 @@ fn tells_what_happened(rt: HostRuntime) {
     for (situation, before, after, happening) in rows {
         assert_eq!(rt; happened(before, after), happening, "{situation}");
     }
-}
-
-#[test]
-fn causes_are_numbered_from_1(rt: HostRuntime) {
-    assert_eq!(rt; Cause::Silent.number(), 1);
-    assert_eq!(rt; Cause::NothingToUpdate.number(), 5);
-    assert_eq!(rt; Cause::Apply.number(), 10);
 }
 
 /// Holds whichever single allocation is refused: the first start takes memory for its records, and the second beside those

@@ -1,10 +1,11 @@
 //! The device's commands in every state, and the data that it is served.
 
 use crate::tests::packages::{Draft, Item, file};
-use crate::tests::situations::{ITEM, ONE, TWO, session_after, session_in};
+use crate::tests::situations::{ITEM, ONE, session_after, session_in};
 use crate::{Cause, Lent, Session, SessionState};
 use fw_package::Package;
 use fwup_wire::Command;
+use pldm_base::Reply;
 use std::alloc::Global;
 use std::test::Fail;
 
@@ -73,22 +74,32 @@ fn answers_each_command_in_each_state(rt: HostRuntime) -> Result<(), Fail> {
     ];
     for (state, codes) in rows {
         for (command, code) in SAYINGS.iter().zip(codes) {
-            let mut session = led(rt.alloc(), &lent, state);
-            assert_eq!(rt; session.state(), state);
-            let reply = session.take(command, &lent);
-            assert_eq!(rt;
-                reply.as_slice().first().copied(),
-                Some(code),
-                "{state:?} {command:?}"
-            );
-            assert_eq!(rt;
-                session.state(),
-                led_on(state, command),
-                "{state:?} {command:?}"
-            );
+            let (answer, after) = said(rt.alloc(), &lent, state, command);
+            assert_eq!(rt; answer, code, "{state:?} {command:?}");
+            assert_eq!(rt; after, led_on(state, command), "{state:?} {command:?}");
         }
     }
     Ok(())
+}
+
+/// The code that a command is answered by in this state, and the state after it.
+fn said(
+    alloc: Global,
+    lent: &Lent<'_>,
+    state: SessionState,
+    command: &Command<'_>,
+) -> (u8, SessionState) {
+    let mut session = led(alloc, lent, state);
+    if session.state() != state {
+        return (u8::MAX, state);
+    }
+    let reply = session.take(command, lent);
+    (code_of(reply.as_slice()), session.state())
+}
+
+/// The code with which an answer begins.
+fn code_of(reply: &[u8]) -> u8 {
+    reply.first().copied().unwrap_or(u8::MAX)
 }
 
 /// Where these commands lead: elsewhere only in Download, Verify and Apply.
@@ -117,48 +128,6 @@ fn led_on(state: SessionState, command: &Command<'_>) -> SessionState {
         }
         _ => state,
     }
-}
-
-#[test]
-fn other_commands_are_unsupported(rt: HostRuntime) -> Result<(), Fail> {
-    let bytes = file(rt.alloc(), ONE)?;
-    let package = Package::read(&bytes)?;
-    let lent = Lent::some(&package);
-    for command in [
-        Command::QueryDeviceIdentifiers,
-        Command::GetStatus,
-        Command::CancelUpdate,
-    ] {
-        let mut session = session_after(rt.alloc(), &lent, 6);
-        assert_eq!(rt; session.take(&command, &lent).as_slice(), [5].as_slice());
-        assert_eq!(rt; session.state(), SessionState::Download);
-    }
-    Ok(())
-}
-
-#[test]
-fn takes_a_repeated_apply_complete_after_a_record_alone(rt: HostRuntime) -> Result<(), Fail> {
-    let bytes = file(rt.alloc(), TWO)?;
-    let package = Package::read(&bytes)?;
-    let lent = Lent::some(&package);
-    let applied = Command::ApplyComplete {
-        result: 0,
-        methods: 0,
-    };
-    let mut session = session_after(rt.alloc(), &lent, 10);
-    assert_eq!(rt; session.state(), SessionState::Update);
-    assert_eq!(rt; session.records().len(), 1);
-    assert_eq!(rt; session.take(&applied, &lent).as_slice(), [0].as_slice());
-    assert_eq!(rt; session.records().len(), 1);
-    assert_eq!(rt; session.state(), SessionState::Update);
-    session.restart();
-    assert!(rt; session.start(1).is_ok());
-    for _ in 0..6 {
-        crate::tests::situations::go_on(&mut session, &lent);
-    }
-    assert_eq!(rt; session.state(), SessionState::Update);
-    assert_eq!(rt; session.take(&applied, &lent).as_slice(), [0x88].as_slice());
-    Ok(())
 }
 
 /// A request of data from an image of so many bytes: the code, and how many bytes of the image come before the zeros.
@@ -198,26 +167,33 @@ fn serves_the_image_and_zeros_past_its_end(rt: HostRuntime) -> Result<(), Fail> 
         };
         let bytes = file(rt.alloc(), draft)?;
         let package = Package::read(&bytes)?;
-        let lent = Lent::some(&package);
-        let mut session = session_after(rt.alloc(), &lent, 6);
-        assert_eq!(rt; session.state(), SessionState::Download);
-        let reply = session.take(&Command::RequestFirmwareData { offset, length }, &lent);
-        assert_eq!(rt;
-            reply.as_slice().first().copied(),
-            Some(code),
-            "{situation}"
-        );
+        let reply = served(rt.alloc(), &Lent::some(&package), offset, length);
+        assert_eq!(rt; code_of(reply.as_slice()), code, "{situation}");
         let expected = if code == 0 { length as usize } else { 0 };
         assert_eq!(rt; reply.len().saturating_sub(1), expected, "{situation}");
-        let first = offset as usize;
-        for (place, byte) in reply.as_slice().iter().skip(1).enumerate() {
-            let image = if place < known {
-                (first.saturating_add(place) % 256) as u8
-            } else {
-                0
-            };
-            assert_eq!(rt; *byte, image, "{situation}, byte {place}");
-        }
+        let piece = reply.as_slice().get(1..).unwrap_or(&[]);
+        assert!(rt; is_piece(piece, offset as usize, known), "{situation}");
     }
     Ok(())
+}
+
+/// The answer to a request of data in Download.
+fn served(alloc: Global, lent: &Lent<'_>, offset: u32, length: u32) -> Reply {
+    let mut session = session_after(alloc, lent, 6);
+    session.take(&Command::RequestFirmwareData { offset, length }, lent)
+}
+
+/// Whether these are so many bytes of the image from an offset on, and zeros after them.
+fn is_piece(piece: &[u8], offset: usize, known: usize) -> bool {
+    for (place, byte) in piece.iter().enumerate() {
+        let expected = if place < known {
+            (offset.saturating_add(place) % 256) as u8
+        } else {
+            0
+        };
+        if *byte != expected {
+            return false;
+        }
+    }
+    true
 }

@@ -1,5 +1,5 @@
 use Rattle.std.proofs.Common.{◌∙◌, ◌++◌, ap, sym}
-use Rattle.fw_package.proofs.Walked.{fits, too_many}
+use Rattle.fw_package.proofs.Walked.{fits}
 use Rattle.fw_package.proofs.plans.Plan.new.Goals as goal
 
 pub returns : goal.returns

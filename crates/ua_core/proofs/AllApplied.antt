@@ -1,0 +1,141 @@
+-- Where a session gets into AllApplied from, row by row.
+use Rattle.std.specs.Prelude.{Bool, Err, List, Ok, Result, [], false, if◌then◌else◌, nat_lt, true, ◌&&◌, ◌||◌, ◌+◌, ◌==◌, ◌∷◌, ◌≡◌, ℕ, length, map}
+use Rattle.std.proofs.Common.{refl}
+use Rattle.fw_package.specs.Choice.{component_at, record_number}
+use Rattle.fw_package.specs.Package.{PackageText}
+use Rattle.fwup_wire.specs.Values.{AnswerOf, CommandOf}
+use Rattle.fwup_wire.specs.declared.answer.Malformed.{Malformed}
+use Rattle.ua_core.specs.Laws.{AppliesAll, IsAllApplied, IsApplyingLast, LearnsAllAppliedNowhere}
+use Rattle.ua_core.specs.Learn.{LearnRow, begun, fails, first_pass, first_task, job_of, learn_by, learn_row, next_pass, with_passed}
+use Rattle.ua_core.specs.Lent.{told_descriptor}
+use Rattle.ua_core.specs.Serve.{ServeRow, after_by, data_of, refuses, serve_row, task_after, unexpected, window}
+use Rattle.ua_core.specs.Session.{JobOf, SessionOf, Stage, TaskOf}
+use Rattle.ua_core.specs.declared.planned.Planned.{Planned}
+use Rattle.ua_core.specs.declared.state.Cause.{Cause}
+use Rattle.ua_core.specs.declared.state.Cause.TheVariants as causes
+
+-- the row leads there
+abbrev LeadsToAll : ServeRow → Type 0
+LeadsToAll (ServeRow.Move g a) = IsAllApplied g
+LeadsToAll (ServeRow.Record t) = t.todo ≡ []
+LeadsToAll _ = ⊥
+
+-- after a record nothing is left to do
+nothing_left : (t : TaskOf) (todo : List Planned) → IsAllApplied (task_after t todo) → todo ≡ []
+nothing_left t [] h = refl
+nothing_left t (i ∷ is) h = absurd h
+
+leads_by : (s : SessionOf) (r : ServeRow) → (IsAllApplied s.stage → ⊥) → IsAllApplied (after_by s r).stage → LeadsToAll r
+leads_by s (ServeRow.Record t) out h = nothing_left t t.todo h
+leads_by s (ServeRow.Move g a) out h = h
+leads_by s (ServeRow.Say a) out h = out h
+leads_by s (ServeRow.Give bytes) out h = out h
+
+-- two rows that don't lead there
+leads_both : (b : Bool) (r q : ServeRow) → (LeadsToAll r → ⊥) → (LeadsToAll q → ⊥) → LeadsToAll (if b then r else q) → ⊥
+leads_both true r q x y h = x h
+leads_both false r q x y h = y h
+
+-- two such stages
+stage_both : (b : Bool) (g f : Stage) → (IsAllApplied g → ⊥) → (IsAllApplied f → ⊥) → IsAllApplied (if b then g else f) → ⊥
+stage_both true g f x y h = x h
+stage_both false g f x y h = y h
+
+-- the record of the last component leads there, a bad result doesn't
+applied_leads : (t : TaskOf) (b : Bool)
+    → LeadsToAll (if b then ServeRow.Record t else ServeRow.Move (Stage.Failed causes.Apply) AnswerOf.ApplyComplete) → t.todo ≡ []
+applied_leads t true h = h
+applied_leads t false h = absurd h
+
+data_leads : (image : List ℕ) (offset size : ℕ) → LeadsToAll (data_of image offset size) → ⊥
+data_leads image offset size =
+    leads_both (nat_lt size 32 || nat_lt 240 size) (refuses 0x83)
+    (if nat_lt (length image + 32) (offset + size) then refuses 0x82 else ServeRow.Give (window image offset size)) (λ h. h)
+    (leads_both (nat_lt (length image + 32) (offset + size)) (refuses 0x82) (ServeRow.Give (window image offset size)) (λ h. h) (λ h. h))
+
+leads_in : (p : PackageText) (g : Stage) (c : CommandOf) → LeadsToAll (serve_row p g c) → IsApplyingLast g
+leads_in p (Stage.Apply t) (CommandOf.ApplyComplete result methods) h = applied_leads t (result == 0) h
+leads_in p (Stage.Apply t) (CommandOf.VerifyComplete result) h =
+    absurd (leads_both (result == 0) (ServeRow.Say AnswerOf.VerifyComplete) unexpected (λ x. x) (λ x. x) h)
+leads_in p (Stage.Download t) (CommandOf.RequestFirmwareData offset size) h =
+    absurd (data_leads (component_at p t.at_hand.component).image offset size h)
+leads_in p (Stage.Download t) (CommandOf.TransferComplete result) h =
+    absurd (stage_both (result == 0) (Stage.Verify t) (Stage.Failed causes.Transfer) (λ x. x) (λ x. x) h)
+leads_in p (Stage.Verify t) (CommandOf.TransferComplete result) h =
+    absurd (leads_both (result == 0) (ServeRow.Say AnswerOf.TransferComplete) unexpected (λ x. x) (λ x. x) h)
+leads_in p (Stage.Verify t) (CommandOf.VerifyComplete result) h =
+    absurd (stage_both (result == 0) (Stage.Apply t) (Stage.Failed causes.Verify) (λ x. x) (λ x. x) h)
+leads_in p (Stage.Update t) (CommandOf.ApplyComplete result methods) h =
+    absurd (leads_both ((result == 0) && nat_lt 0 t.made) (ServeRow.Say AnswerOf.ApplyComplete) unexpected (λ x. x) (λ x. x) h)
+leads_in p (Stage.AllApplied j) (CommandOf.ApplyComplete result methods) h =
+    absurd (leads_both (result == 0) (ServeRow.Say AnswerOf.ApplyComplete) unexpected (λ x. x) (λ x. x) h)
+leads_in p (Stage.Activate j) (CommandOf.ApplyComplete result methods) h =
+    absurd (leads_both (result == 0) (ServeRow.Say AnswerOf.ApplyComplete) unexpected (λ x. x) (λ x. x) h)
+leads_in p g (CommandOf.RequestFirmwareData offset size) h = absurd h
+leads_in p g (CommandOf.TransferComplete result) h = absurd h
+leads_in p g (CommandOf.VerifyComplete result) h = absurd h
+leads_in p g (CommandOf.ApplyComplete result methods) h = absurd h
+leads_in p g c h = absurd h
+
+pub applies_all : AppliesAll
+applies_all p s c out h = leads_in p s.stage c (leads_by s (serve_row p s.stage c) out h)
+
+-- another stage
+abbrev IsElsewhere : Stage → Type 0
+IsElsewhere (Stage.AllApplied _) = ⊥
+IsElsewhere _ = Unit {0}
+
+not_all_applied : (g : Stage) → IsElsewhere g → IsAllApplied g → ⊥
+not_all_applied (Stage.AllApplied j) x h = x
+not_all_applied g x h = h
+
+-- what an answer brings is another stage
+abbrev LeadsElsewhere : LearnRow → Type 0
+LeadsElsewhere LearnRow.Stay = Unit {0}
+LeadsElsewhere (LearnRow.Go g) = IsElsewhere g
+
+learnt_both : (b : Bool) (r q : LearnRow) → LeadsElsewhere r → LeadsElsewhere q → LeadsElsewhere (if b then r else q)
+learnt_both true r q x y = x
+learnt_both false r q x y = y
+
+begun_elsewhere : (r : Result JobOf Cause) → IsElsewhere (begun r)
+begun_elsewhere (Ok j) = tt
+begun_elsewhere (Err cause) = tt
+
+first_elsewhere : (j : JobOf) (is : List Planned) → IsElsewhere (first_pass j is)
+first_elsewhere j [] = tt
+first_elsewhere j (i ∷ is) = tt
+
+task_elsewhere : (j : JobOf) (todo : List Planned) → IsElsewhere (first_task j todo)
+task_elsewhere j [] = tt
+task_elsewhere j (i ∷ is) = tt
+
+next_elsewhere : (j : JobOf) (left todo : List Planned) → IsElsewhere (next_pass j left todo)
+next_elsewhere j [] todo = task_elsewhere j todo
+next_elsewhere j (i ∷ is) todo = tt
+
+learns_elsewhere : (p : PackageText) (g : Stage) (a : Result AnswerOf Malformed) → LeadsElsewhere (learn_row p g a)
+learns_elsewhere p Stage.Query (Ok (AnswerOf.QueryDeviceIdentifiers ds)) =
+    begun_elsewhere (job_of p (record_number p (map told_descriptor ds)))
+learns_elsewhere p (Stage.Params j) (Ok (AnswerOf.GetFirmwareParameters devices)) = tt
+learns_elsewhere p (Stage.ClearOld j) (Ok (AnswerOf.Refused code)) =
+    learnt_both (code == 0x80) (LearnRow.Go (Stage.Request j)) (fails causes.Answer) tt tt
+learns_elsewhere p (Stage.Request j) (Ok AnswerOf.RequestUpdate) = first_elsewhere j j.plan
+learns_elsewhere p (Stage.Request j) (Ok (AnswerOf.Refused code)) =
+    learnt_both (code == 4) LearnRow.Stay (fails causes.Answer) tt tt
+learns_elsewhere p (Stage.Pass j i left todo) (Ok (AnswerOf.PassComponentTable response)) =
+    next_elsewhere j left (with_passed (component_at p i.component) response.code i todo)
+learns_elsewhere p (Stage.Update t) (Ok (AnswerOf.UpdateComponent response)) =
+    learnt_both (response.compatibility == 0) (LearnRow.Go (Stage.Download t)) (fails causes.Refused) tt tt
+learns_elsewhere p (Stage.Update t) (Ok (AnswerOf.Refused code)) =
+    learnt_both ((code == 4) || (code == 0x84)) LearnRow.Stay (fails causes.Answer) tt tt
+learns_elsewhere p (Stage.Activate j) (Ok (AnswerOf.Refused code)) =
+    learnt_both (code == 0x84) LearnRow.Stay (fails causes.Answer) tt tt
+learns_elsewhere p g a = tt
+
+learnt_elsewhere : (s : SessionOf) (r : LearnRow) → (IsAllApplied s.stage → ⊥) → LeadsElsewhere r → IsAllApplied (learn_by s r).stage → ⊥
+learnt_elsewhere s LearnRow.Stay out x h = out h
+learnt_elsewhere s (LearnRow.Go g) out x h = not_all_applied g x h
+
+pub learns_nowhere : LearnsAllAppliedNowhere
+learns_nowhere p s a out h = learnt_elsewhere s (learn_row p s.stage a) out (learns_elsewhere p s.stage a) h
