@@ -1,13 +1,19 @@
 //! Runs of the programs over byte readers and writers.
 
 use crate::command_line::{Job, parse};
-use crate::faults::{RunFault, package_fault};
+use crate::faults::{RunFault, inspection_fault};
+use crate::inspection::InspectFault;
 use crate::stream::{AnswerFault, answer_stream};
 use fw_package::PackageFault;
 use mctp_ctl::Endpoint;
 use std::io::{self, Read, Write};
 use std::test::Fail;
 use uuid::Uuid;
+
+/// What is told of a file that holds no package.
+fn package_fault(fault: PackageFault) -> RunFault<'static> {
+    inspection_fault(InspectFault::Package(fault))
+}
 
 /// Gives a text, and then an error.
 #[derive(Drop)]
@@ -232,7 +238,7 @@ fn faults_are_told_by_their_names(rt: HostRuntime) -> Result<(), Fail> {
         (RunFault::Answer(AnswerFault::Memory), "memory"),
         (RunFault::Unreadable("a b"), "a b: unreadable"),
         (RunFault::Output, "output"),
-        (package_fault(PackageFault::Memory), "memory"),
+        (inspection_fault(InspectFault::Memory), "memory"),
         (package_fault(PackageFault::Short), "package: Short"),
         (
             package_fault(PackageFault::Identifier),
