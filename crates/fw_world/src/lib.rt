@@ -3,6 +3,6 @@
 #![tactic(auto)]
 
 pub use fw_message::{
-    Entry, Event, Held, Image, MessageStep, MessageStepFault, MessageWorld, Side, Way, message_replay,
-    messages_are_safe, runs_stay_tied, worlds_are_safe,
+    Entry, Event, Held, Image, MessageStep, MessageStepFault, MessageWorld, Side, Way,
+    message_replay, messages_are_safe, runs_stay_tied, worlds_are_safe,
 };
