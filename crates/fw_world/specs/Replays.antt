@@ -1,0 +1,164 @@
+-- Replays: which steps may be taken, and runs of the packet world.
+use Rattle.std.specs.Prelude.{ℕ, ◌≡◌, ◌≢◌, ◌≤◌, ◌⊎◌, ◌+◌, ◌-◌, ◌^◌, ◌==◌, ◌&&◌, ◌||◌, ◌∷◌, [], Bool, true, false, not, if◌then◌else◌, nat_lt, nat_le, is_some, List, length, map, Option, Some, None}
+use Rattle.std.specs.List.{All}
+use Rattle.mctp_ctl.specs.declared.answers.Endpoint.{Endpoint}
+use Rattle.exch_lane.specs.Lanes.{IsEid, Sent, numbered}
+use Rattle.fw_package.specs.Package.{PackageText}
+use Rattle.fd_core.specs.Banks.{Rose}
+use Rattle.fd_core.specs.Components.{HasComponents}
+use Rattle.fd_core.specs.States.{DeviceOf, Phase}
+use Rattle.fd_core.specs.Steps.{device_verdict}
+use Rattle.fd_core.specs.declared.states.Verdict.{Verdict}
+use Rattle.ua_core.specs.Calls.{agent_activated, is_free}
+use Rattle.ua_core.specs.Session.{SessionOf}
+use Rattle.fw_message.specs.Laws.{IsUnapplied}
+use Rattle.fw_node.specs.Agents.{half_for, new_agent}
+use Rattle.fw_node.specs.Halves.{HalfOf}
+use Rattle.fw_node.specs.Nodes.{DeviceNodeOf, new_device_node}
+use Rattle.ua_core.specs.Session.{TimedOf}
+use Rattle.fw_world.specs.Worlds.{SiteOf, WorldOf, packets_of, site_for, world_after}
+use Rattle.fw_world.specs.declared.step.Refusal.TheVariants as refusals
+use Rattle.fw_world.specs.declared.step.Step.{Step}
+use Rattle.fw_world.specs.declared.step.Step.TheVariants as steps
+use Rattle.fw_world.specs.declared.step.StepFault.{StepFault}
+use Rattle.fw_world.specs.declared.step.StepFault.TheVariants as faults
+
+-- the world has this device, or this node
+abbrev pub is_device : WorldOf → ℕ → Bool
+is_device w eid = is_some (site_for w.sites eid)
+
+abbrev pub is_node : WorldOf → ℕ → Bool
+is_node w eid = (eid == w.agent.endpoint.eid) || is_device w eid
+
+-- where there is such a node: why else the step isn't taken
+abbrev pub where_known : Bool → Option StepFault → Option StepFault
+where_known true fault = fault
+where_known false fault = Some faults.NoSuchNode
+
+-- a packet lives for 8 ticks after its sending
+abbrev pub packet_fault : ℕ → Option Sent → Option StepFault
+packet_fault now None = Some faults.NoSuchPacket
+packet_fault now (Some p) = if nat_lt (p.date + 8) now then Some faults.Dead else None
+
+abbrev pub start_fault : List PackageText → (number : ℕ) → Option (HalfOf TimedOf) → Option StepFault
+start_fault packages number None = Some faults.NoSuchNode
+start_fault packages number (Some h) =
+    if not (nat_lt 0 number && nat_le number (length packages)) then Some (faults.Refused refusals.NoSuchPackage)
+    else if is_free h.core.session then None
+    else Some (faults.Refused refusals.Busy)
+
+abbrev pub ready_fault : Option SessionOf → Option StepFault
+ready_fault None = Some (faults.Refused refusals.NotReady)
+ready_fault (Some s) = None
+
+abbrev pub activate_fault : Option (HalfOf TimedOf) → Option StepFault
+activate_fault None = Some faults.NoSuchNode
+activate_fault (Some h) = ready_fault (agent_activated h.core.session)
+
+abbrev pub verdict_fault : Verdict → Option SiteOf → Option StepFault
+verdict_fault verdict None = Some faults.NoSuchNode
+verdict_fault verdict (Some x) =
+    if is_some (device_verdict x.node.half.core.device verdict true) then None else Some (faults.Refused refusals.NotNow)
+
+-- Why a step may not be taken; None where it may.
+abbrev pub may_step : WorldOf → Step → Option StepFault
+may_step w (steps.Deliver device number node) =
+    where_known (is_device w device && is_node w node) (packet_fault w.now (numbered (packets_of w device) number))
+may_step w steps.Tick = if nat_lt w.now (2 ^ 32 - 1) then None else Some (faults.Refused refusals.ClockEnd)
+may_step w (steps.Start device number) = start_fault w.packages number (half_for w.agent device)
+may_step w (steps.Cancel device) = where_known (is_device w device) None
+may_step w (steps.Activate device) = activate_fault (half_for w.agent device)
+may_step w (steps.Verdict device verdict) = verdict_fault verdict (site_for w.sites device)
+may_step w (steps.Restart node) = where_known (is_node w node) None
+may_step w (steps.Sel bytes) = None
+
+-- a step that adds packets, entries of the history or records of a session needs memory for them
+abbrev pub needs_memory : Step → Bool
+needs_memory (steps.Deliver device number node) = true
+needs_memory steps.Tick = true
+needs_memory (steps.Start device number) = true
+needs_memory (steps.Verdict device verdict) = true
+needs_memory s = false
+
+-- the bank's count of failures of the device that a step is for
+abbrev pub faults_of : Option SiteOf → ℕ
+faults_of None = 0
+faults_of (Some x) = x.node.faults
+
+-- the node of a step
+abbrev pub node_of : Step → ℕ
+node_of (steps.Deliver device number node) = node
+node_of steps.Tick = 0
+node_of (steps.Start device number) = device
+node_of (steps.Cancel device) = device
+node_of (steps.Activate device) = device
+node_of (steps.Verdict device verdict) = device
+node_of (steps.Restart node) = node
+node_of (steps.Sel bytes) = 0
+
+abbrev pub faults_before : WorldOf → Step → ℕ
+faults_before w s = faults_of (site_for w.sites (node_of s))
+
+-- A step leads from one world to another: it may be taken, and a call of a bank fails only where that bank's count of
+-- failures tells so.
+pub record Leads (w : WorldOf) (s : Step) (v : WorldOf) : Type 0 where
+  pub may : may_step w s ≡ None
+  pub works : Bool
+  pub faults : ℕ
+  pub after : v ≡ world_after works faults w s
+  pub worked : works ≡ true → faults ≡ faults_before w s
+  pub failed : works ≡ false → Rose (faults_before w s) faults
+
+-- each step leads on from where the one before it led
+abbrev pub Run : WorldOf → List Step → WorldOf → Type 0
+Run w [] v = v ≡ w
+Run w (s ∷ ss) v = (mid : WorldOf) × Leads w s mid × Run mid ss v
+
+-- Why a step isn't taken: it may not be, for this reason; or it may, and memory that it needs is refused.
+abbrev pub Refuses : WorldOf → Step → StepFault → Type 0
+Refuses w s e = (may_step w s ≡ Some e) ⊎ ((e ≡ faults.Memory) × (needs_memory s ≡ true) × (may_step w s ≡ None))
+
+-- A device's node as it is made: idle, with its bank's components, and nothing applied.
+pub record IsNewNode (agent : ℕ) (n : DeviceNodeOf) : Type 0 where
+  pub device : DeviceOf
+  pub is : n ≡ new_device_node n.endpoint agent device
+  pub idle : device.device.phase ≡ Phase.Idle
+  pub unapplied : All IsUnapplied device.device.rows
+  pub components : HasComponents device.device
+  pub eid : IsEid n.endpoint.eid
+
+-- no identifier stands twice
+abbrev pub AreDifferent : List ℕ → Type 0
+AreDifferent [] = Unit {0}
+AreDifferent (x ∷ xs) = All (λ y. x ≢ y) xs × AreDifferent xs
+
+-- the nodes of 1 to 16 devices, as they are made, with endpoint identifiers of their own
+pub record AreNewNodes (agent : ℕ) (nodes : List DeviceNodeOf) : Type 0 where
+  pub some : 1 ≤ length nodes
+  pub few : length nodes ≤ 16
+  pub agent_eid : IsEid agent
+  pub new : All (IsNewNode agent) nodes
+  pub apart : AreDifferent (agent ∷ map (λ n. n.endpoint.eid) nodes)
+
+-- a device's node to which nothing was sent
+abbrev pub new_site : DeviceNodeOf → SiteOf
+new_site n = record { node = n; packets = [] }
+
+-- the world of these nodes before its first step
+abbrev pub new_world : Endpoint → List DeviceNodeOf → List PackageText → WorldOf
+new_world agent nodes packages =
+    record {
+      packages = packages;
+      now = 0;
+      agent = new_agent agent (map (λ n. n.endpoint.eid) nodes);
+      sites = map new_site nodes;
+      answer = None;
+      history = [];
+    }
+
+-- how a world begins
+pub record IsOpeningWorld (w : WorldOf) : Type 0 where
+  pub agent : Endpoint
+  pub nodes : List DeviceNodeOf
+  pub are : AreNewNodes agent.eid nodes
+  pub is : w ≡ new_world agent nodes w.packages
