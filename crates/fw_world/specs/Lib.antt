@@ -1,3 +1,4 @@
 pub mod Links
 pub mod Replays
+pub mod Sites
 pub mod Worlds

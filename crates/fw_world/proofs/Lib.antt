@@ -1,0 +1,2 @@
+mod Components
+mod Rooms

@@ -1,0 +1,34 @@
+-- A device's node in the world, as the code has it.
+use Rattle.std.specs.Prelude.{ℕ, ◌≡◌, ◌++◌, Bool, false, true, List, map}
+use Rattle.exch_lane.specs.Lanes.{Sent}
+use Rattle.fd_core.specs.Banks.{Rose}
+use Rattle.fd_core.specs.Steps.{applied_by}
+use Rattle.fd_core.specs.declared.states.Verdict.{Verdict}
+use Rattle.fw_message.specs.History.{EntryOf}
+use Rattle.fw_message.specs.Worlds.{NotedOf, noted_of}
+use Rattle.fw_node.specs.Nodes.{DeviceNodeOf, device_hears, device_judges}
+use Rattle.fw_node.specs.Packets.{all_packets}
+use Rattle.fw_world.specs.Worlds.{SiteOf, activated_at, node_becomes, sent_now}
+
+-- a device's node with its packets, and the room that there is for more
+pub record RoomyOf : Type 0 where
+  pub site : SiteOf
+  pub room : ℕ
+
+-- What a packet makes of a device's node, its packets and the history.
+pub record Hears (now : ℕ) (old : SiteOf) (bytes : List ℕ) (new : SiteOf) (before after : List NotedOf) : Type 0 where
+  pub works : Bool
+  pub node : new.node ≡ node_becomes old.node new.node.faults (device_hears works old.node bytes).tid (device_hears works old.node bytes).half
+  pub packets : new.packets ≡ old.packets ++ sent_now now (all_packets (device_hears works old.node bytes).sent)
+  pub history : after ≡ before ++ map (λ p. noted_of old.node.endpoint.eid (EntryOf.Activated p)) (activated_at works old.node bytes)
+  pub worked : works ≡ true → new.node.faults ≡ old.node.faults
+  pub failed : works ≡ false → Rose old.node.faults new.node.faults
+
+-- what a verdict makes of them
+pub record Judges (old : SiteOf) (verdict : Verdict) (new : SiteOf) (before after : List NotedOf) : Type 0 where
+  pub works : Bool
+  pub node : new.node ≡ node_becomes old.node new.node.faults old.node.tid (device_judges works old.node verdict)
+  pub packets : new.packets ≡ old.packets
+  pub history : after ≡ before ++ map (λ p. noted_of old.node.endpoint.eid (EntryOf.Applied p)) (applied_by old.node.half.core.device verdict works)
+  pub worked : works ≡ true → new.node.faults ≡ old.node.faults
+  pub failed : works ≡ false → Rose old.node.faults new.node.faults
