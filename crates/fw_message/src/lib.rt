@@ -13,6 +13,7 @@ mod side;
 mod step;
 #[cfg(test)]
 mod tests;
+mod verdicts;
 
 pub use cell::Held;
 pub use entry::{Entry, Event, Image};
@@ -22,3 +23,4 @@ pub use messages::MessageWorld;
 pub use replay::message_replay;
 pub use side::{Side, Way};
 pub use step::{MessageStep, MessageStepFault};
+pub use verdicts::{awaits, copied, has_failed, room_for};

@@ -1,2 +1,5 @@
+mod Activating
 mod Components
+mod Noting
 mod Rooms
+mod Ticking

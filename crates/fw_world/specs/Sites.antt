@@ -1,7 +1,9 @@
 -- A device's node in the world, as the code has it.
-use Rattle.std.specs.Prelude.{ℕ, ◌≡◌, ◌++◌, Bool, false, true, List, map}
+use Rattle.std.specs.Prelude.{ℕ, ◌≡◌, ◌++◌, Bool, false, true, List, map, Option, Some, None}
 use Rattle.exch_lane.specs.Lanes.{Sent}
 use Rattle.fd_core.specs.Banks.{Rose}
+use Rattle.fd_core.specs.States.{DeviceState, Phase}
+use Rattle.fd_core.specs.Images.{Put, puts}
 use Rattle.fd_core.specs.Steps.{applied_by}
 use Rattle.fd_core.specs.declared.states.Verdict.{Verdict}
 use Rattle.fw_message.specs.History.{EntryOf}
@@ -15,14 +17,19 @@ pub record RoomyOf : Type 0 where
   pub site : SiteOf
   pub room : ℕ
 
--- What a packet makes of a device's node, its packets and the history.
-pub record Hears (now : ℕ) (old : SiteOf) (bytes : List ℕ) (new : SiteOf) (before after : List NotedOf) : Type 0 where
+-- What a packet makes of a device's node and its packets: `works` says whether its bank's one call succeeded, and a call fails
+-- only where its bank's count of failures tells so.
+pub record Hears (now : ℕ) (old : SiteOf) (bytes : List ℕ) (new : SiteOf) : Type 0 where
   pub works : Bool
   pub node : new.node ≡ node_becomes old.node new.node.faults (device_hears works old.node bytes).tid (device_hears works old.node bytes).half
   pub packets : new.packets ≡ old.packets ++ sent_now now (all_packets (device_hears works old.node bytes).sent)
-  pub history : after ≡ before ++ map (λ p. noted_of old.node.endpoint.eid (EntryOf.Activated p)) (activated_at works old.node bytes)
   pub worked : works ≡ true → new.node.faults ≡ old.node.faults
   pub failed : works ≡ false → Rose old.node.faults new.node.faults
+
+-- and of the history: what is activated is noted
+pub record HearsNoting (now : ℕ) (old : SiteOf) (bytes : List ℕ) (new : SiteOf) (before after : List NotedOf) : Type 0 where
+  pub heard : Hears now old bytes new
+  pub history : after ≡ before ++ map (λ p. noted_of old.node.endpoint.eid (EntryOf.Activated p)) (activated_at heard.works old.node bytes)
 
 -- what a verdict makes of them
 pub record Judges (old : SiteOf) (verdict : Verdict) (new : SiteOf) (before after : List NotedOf) : Type 0 where
@@ -32,3 +39,18 @@ pub record Judges (old : SiteOf) (verdict : Verdict) (new : SiteOf) (before afte
   pub history : after ≡ before ++ map (λ p. noted_of old.node.endpoint.eid (EntryOf.Applied p)) (applied_by old.node.half.core.device verdict works)
   pub worked : works ≡ true → new.node.faults ≡ old.node.faults
   pub failed : works ≡ false → Rose old.node.faults new.node.faults
+
+-- the device waits for the next component, or for its activation
+abbrev pub is_ready : Phase → Bool
+is_ready (Phase.Ready u) = true
+is_ready p = false
+
+-- the device has activated
+abbrev pub is_activated : Phase → Bool
+is_activated Phase.Activated = true
+is_activated p = false
+
+-- these copies, if there are any, are what is applied
+abbrev pub AreReady : DeviceState → Option (List Put) → Type 0
+AreReady v None = Unit {0}
+AreReady v (Some images) = (is_ready v.phase ≡ true) × (images ≡ puts v.rows)
