@@ -1,5 +1,6 @@
 mod Activating
 mod Components
+mod Judging
 mod Noting
 mod Rooms
 mod Ticking
