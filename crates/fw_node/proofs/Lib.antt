@@ -1,7 +1,7 @@
 mod AgentTicks
 mod Calls
 mod Controls
-mod Loops
+pub mod Loops
 mod NodeHears
 mod NodeServes
 mod NodeTicks

@@ -2,5 +2,6 @@ mod Activating
 mod Components
 mod Judging
 mod Noting
+mod Places
 mod Rooms
 mod Ticking

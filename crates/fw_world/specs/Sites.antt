@@ -65,3 +65,12 @@ AreReady v (Some images) = (is_ready v.phase ≡ true) × (images ≡ puts v.row
 abbrev pub IsCopyOf : List RowOf → (capacity : ℕ) → List Put → Option (Key × ℕ) → Type 0
 IsCopyOf rows capacity images None = Unit {0}
 IsCopyOf rows capacity images (Some s) = IfSome (applied_of (row_of rows s.0)) (λ image. length image.bytes ≤ capacity → images ≡ record { key = s.0; bytes = image.bytes } ∷ [])
+
+-- each of these has room for so many packets
+abbrev pub HaveRoom : ℕ → List RoomyOf → Type 0
+HaveRoom n [] = Unit {0}
+HaveRoom n (s ∷ ss) = (n ≤ s.room) × HaveRoom n ss
+
+-- the nodes with their packets
+abbrev pub sites_of : List RoomyOf → List SiteOf
+sites_of ss = map (λ s. s.site) ss

@@ -3,6 +3,7 @@
 #![tactic(auto)]
 
 mod site;
+mod sites;
 mod step;
 
 pub use fw_message::{
