@@ -5,9 +5,11 @@
 mod site;
 mod sites;
 mod step;
+mod world;
 
 pub use fw_message::{
     Entry, Event, Held, Image, MessageStep, MessageStepFault, MessageWorld, Side, Way,
     message_replay, messages_are_safe, runs_stay_tied, worlds_are_safe,
 };
 pub use step::{LogRequest, Refusal, Step, StepFault};
+pub use world::World;
