@@ -1,7 +1,9 @@
 mod Activating
 mod Components
 mod Judging
+mod Leading
 mod Noting
 mod Places
+mod Recording
 mod Rooms
 mod Ticking

@@ -3,9 +3,10 @@ use Rattle.std.proofs.Common.{◌≡◌, ◌≤◌, ◌<◌, ◌+◌, ◌∙◌,
 use Rattle.std.proofs.lemmas.List.{drop-set-lt, map-set}
 use Rattle.exch_lane.specs.Steps.{sent_at}
 use Rattle.fw_world.specs.Sites.{HaveRoom, RoomyOf, sites_of}
-use Rattle.fw_world.specs.Worlds.{SiteOf, place_for, place_of, post, post_at, site_at, site_for}
+use Rattle.fw_world.specs.Worlds.{SiteOf, place_for, place_of, post, post_at, site_at, site_for, site_restarts}
+use Rattle.fw_node.specs.Nodes.{device_restarts}
 
-found_at : (ss : List RoomyOf) (i : ℕ) (x : RoomyOf) → i < length ss → x ≡ get_or ss i x → slice_get (sites_of ss) i ≡ Some x.site
+pub found_at : (ss : List RoomyOf) (i : ℕ) (x : RoomyOf) → i < length ss → x ≡ get_or ss i x → slice_get (sites_of ss) i ≡ Some x.site
 found_at [] i x lt is = absurd (omega arith)
 found_at (s ∷ ss) zero x lt is = ap (λ y. Some y.site) (sym is)
 found_at (s ∷ ss) (suc i) x lt is = found_at ss i x (omega arith) is
@@ -75,3 +76,8 @@ room_none n ss h = less_room n (n + 0) ss (omega arith) h
 pub popped : (xs : List (List ℕ)) (p : List ℕ) → Some p ≡ slice_get xs 0 → xs ≡ p ∷ drop 1 xs
 popped [] p e = absurd (cc)
 popped (x ∷ xs) p e = let same : p ≡ x = cc in ap (λ y. y ∷ xs) (sym same)
+
+pub restart_there : (ss : List RoomyOf) (i : ℕ) (x y : RoomyOf) → i < length ss → x ≡ get_or ss i x → y.site ≡ record x.site { node = device_restarts x.site.node }
+    → sites_of (slice_set ss i y) ≡ site_restarts (sites_of ss) (Some i) (slice_get (sites_of ss) i)
+restart_there ss i x y lt is e =
+    map-set (λ s. s.site) ss i y ∙ ap (slice_set (sites_of ss) i) e ∙ sym (ap (site_restarts (sites_of ss) (Some i)) (found_at ss i x lt is))

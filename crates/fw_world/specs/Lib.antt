@@ -1,3 +1,4 @@
+pub mod Deliveries
 pub mod Links
 pub mod Replays
 pub mod Sites

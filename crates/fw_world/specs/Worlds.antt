@@ -76,23 +76,25 @@ abbrev pub posts : ℕ → List SiteOf → List (List ℕ) → List SiteOf
 posts now xs [] = xs
 posts now xs (packet ∷ packets) = posts now (post now xs packet) packets
 
--- what the agent records: the record that stands behind those that a session had
-abbrev pub risen : TimedOf → TimedOf → Option Recorded
-risen before after = slice_get after.session.records (length before.session.records)
+-- how many records a session has, and the one that stands behind so many
+abbrev pub made_by : Option (HalfOf TimedOf) → ℕ
+made_by None = 0
+made_by (Some h) = length h.core.session.records
 
-abbrev pub recorded_for : (device : ℕ) → Option (HalfOf TimedOf) → Option (HalfOf TimedOf) → List NotedOf
-recorded_for device (Some before) (Some after) =
-    map (λ r. noted_of device (EntryOf.Recording r)) (option_to_list (risen before.core after.core))
-recorded_for device before after = []
+abbrev pub record_behind : ℕ → Option (HalfOf TimedOf) → Option Recorded
+record_behind made None = None
+record_behind made (Some h) = slice_get h.core.session.records made
 
 -- with the sender of a packet
 abbrev pub sender_of : Result (Head × List ℕ) WireFault → Option ℕ
 sender_of (Ok p) = Some p.0.source
 sender_of (Err fault) = None
 
+-- what the agent records in a call: the record that stands behind those of before
 abbrev pub recorded_from : AgentOf → AgentOf → Option ℕ → List NotedOf
 recorded_from before after None = []
-recorded_from before after (Some device) = recorded_for device (half_for before device) (half_for after device)
+recorded_from before after (Some device) =
+    map (λ r. noted_of device (EntryOf.Recording r)) (option_to_list (record_behind (made_by (half_for before device)) (half_for after device)))
 
 -- The agent hears these bytes.
 abbrev pub at_agent : WorldOf → List ℕ → WorldOf
@@ -205,7 +207,7 @@ asks_log w (command ∷ bytes) =
 
 -- The world after a step. `works` says whether the one call of a bank that the step makes succeeds, and `faults` is that
 -- bank's count of failures then.
-unfoldable pub world_after : (works : Bool) → (faults : ℕ) → WorldOf → Step → WorldOf
+abbrev pub world_after : (works : Bool) → (faults : ℕ) → WorldOf → Step → WorldOf
 world_after works faults w (steps.Deliver device number node) =
     delivers works faults w node (numbered (packets_of w device) number)
 world_after works faults w steps.Tick = ticks w

@@ -1,14 +1,18 @@
 //! The nodes of all devices in the world, in their order.
 
-ghost use Rattle.std.specs.Prelude.{[], ◌≡◌, ◌≤◌, ◌<◌, ◌+◌, IfSome, OnOk, Some, ℕ, length, map, option_map, slice_get};
-ghost use Rattle.fw_world.specs.Sites.{HaveRoom, sites_of};
-ghost use Rattle.fw_world.specs.Worlds.{place_for, place_of, post, posts, site_at, site_for, site_ticks};
+ghost use Rattle.std.specs.Prelude.{[], ◌≡◌, ◌≤◌, ◌<◌, ◌+◌, ◌⊎◌, IfErr, IfSome, None, OnErr, OnOk, Some, ℕ, length, map, option_map, slice_get};
+ghost use Rattle.fw_message.specs.Entries.{entry_of};
+ghost use Rattle.fw_world.specs.Replays.{verdict_fault};
+ghost use Rattle.fw_world.specs.Sites.{HaveRoom, HeardAt, JudgedAt, sites_of};
+ghost use Rattle.fw_world.specs.Worlds.{place_for, place_of, post, posts, site_at, site_for, site_restarts, site_ticks};
 
 use crate::site::Site;
-use fd_core::Bank;
+use crate::step::StepFault;
+use fd_core::{Bank, Verdict};
+use fw_message::Entry;
 use fw_node::Outbox;
 use mctp_wire::RawPacket;
-use std::alloc::AllocError;
+use std::alloc::{AllocError, Global};
 
 /// Where the device of this identifier stands.
 pub(crate) fn place_of<B: Bank>(sites: &[Site<B>], eid: u8) -> Option<usize>
@@ -131,4 +135,108 @@ fn tick_each<B: Bank>(sites: &mut [Site<B>], now: u32, outbox: &mut Outbox)
     for site in sites.iter_mut() {
         site.tick(now, outbox);
     }
+}
+
+/// The node at a place hears the bytes of a packet; what it sends is dated now, and what it activates is noted.
+pub(crate) fn hear_at<B: Bank>(
+    sites: &mut Vec<Site<B>>,
+    place: usize,
+    alloc: Global,
+    now: u32,
+    bytes: &[u8],
+    outbox: &mut Outbox,
+    history: &mut Vec<Entry>,
+) -> Result<(), AllocError>
+    requires place { place < length sites.old.items }
+    requires outbox { outbox.old ≡ [] }
+    ensures heard { OnOk result (HeardAt now (sites_of sites.old.items) place bytes.now (sites_of sites.new.items) (map entry_of history.old.items) (map entry_of history.new.items)) }
+    ensures same { OnErr result (sites_of sites.new.items ≡ sites_of sites.old.items) }
+    ensures unnoted { OnErr result (map entry_of history.new.items ≡ map entry_of history.old.items) }
+    ensures outbox { outbox.new ≡ [] }
+{
+    hear_in(sites.as_mut_slice(), place, alloc, now, bytes, outbox, history)
+}
+
+/// The same over a slice.
+fn hear_in<B: Bank>(
+    sites: &mut [Site<B>],
+    place: usize,
+    alloc: Global,
+    now: u32,
+    bytes: &[u8],
+    outbox: &mut Outbox,
+    history: &mut Vec<Entry>,
+) -> Result<(), AllocError>
+    requires place { place < length sites.old }
+    requires outbox { outbox.old ≡ [] }
+    ensures heard { OnOk result (HeardAt now (sites_of sites.old) place bytes.now (sites_of sites.new) (map entry_of history.old.items) (map entry_of history.new.items)) }
+    ensures same { OnErr result (sites_of sites.new ≡ sites_of sites.old) }
+    ensures unnoted { OnErr result (map entry_of history.new.items ≡ map entry_of history.old.items) }
+    ensures outbox { outbox.new ≡ [] }
+    ensures count { length sites.new ≡ length sites.old }
+{
+    match sites[place].hear(alloc, now, bytes, outbox, history) {
+        Ok(()) => {}
+        Err(error) => return Err(error),
+    }
+    Ok(())
+}
+
+/// The node at a place has a verdict; what it applies is noted.
+pub(crate) fn judge_at<B: Bank>(
+    sites: &mut Vec<Site<B>>,
+    place: usize,
+    alloc: Global,
+    verdict: Verdict,
+    history: &mut Vec<Entry>,
+) -> Result<(), StepFault>
+    requires place { place < length sites.old.items }
+    ensures judged { OnOk result (JudgedAt (sites_of sites.old.items) place verdict (sites_of sites.new.items) (map entry_of history.old.items) (map entry_of history.new.items)) }
+    ensures may { OnOk result (verdict_fault verdict (slice_get (sites_of sites.old.items) place) ≡ None) }
+    ensures refused { IfErr result (λ e. (verdict_fault verdict (slice_get (sites_of sites.old.items) place) ≡ Some e) ⊎ ((e ≡ StepFault.Memory) × (verdict_fault verdict (slice_get (sites_of sites.old.items) place) ≡ None))) }
+    ensures same { OnErr result (sites_of sites.new.items ≡ sites_of sites.old.items) }
+    ensures unnoted { OnErr result (map entry_of history.new.items ≡ map entry_of history.old.items) }
+{
+    judge_in(sites.as_mut_slice(), place, alloc, verdict, history)
+}
+
+/// The same over a slice.
+fn judge_in<B: Bank>(
+    sites: &mut [Site<B>],
+    place: usize,
+    alloc: Global,
+    verdict: Verdict,
+    history: &mut Vec<Entry>,
+) -> Result<(), StepFault>
+    requires place { place < length sites.old }
+    ensures judged { OnOk result (JudgedAt (sites_of sites.old) place verdict (sites_of sites.new) (map entry_of history.old.items) (map entry_of history.new.items)) }
+    ensures may { OnOk result (verdict_fault verdict (slice_get (sites_of sites.old) place) ≡ None) }
+    ensures refused { IfErr result (λ e. (verdict_fault verdict (slice_get (sites_of sites.old) place) ≡ Some e) ⊎ ((e ≡ StepFault.Memory) × (verdict_fault verdict (slice_get (sites_of sites.old) place) ≡ None))) }
+    ensures same { OnErr result (sites_of sites.new ≡ sites_of sites.old) }
+    ensures unnoted { OnErr result (map entry_of history.new.items ≡ map entry_of history.old.items) }
+    ensures count { length sites.new ≡ length sites.old }
+{
+    match sites[place].judge(alloc, verdict, history) {
+        Ok(()) => {}
+        Err(fault) => return Err(fault),
+    }
+    Ok(())
+}
+
+/// The node at a place starts anew.
+pub(crate) fn restart_at<B: Bank>(sites: &mut Vec<Site<B>>, place: usize)
+    requires { place < length sites.old.items }
+    ensures { sites_of sites.new.items ≡ site_restarts (sites_of sites.old.items) (Some place) (slice_get (sites_of sites.old.items) place) }
+{
+    restart_in(sites.as_mut_slice(), place);
+}
+
+/// The same over a slice.
+#[tactic(auto, using(crate::proofs::Places::restart_there))]
+fn restart_in<B: Bank>(sites: &mut [Site<B>], place: usize)
+    requires { place < length sites.old }
+    ensures sites { sites_of sites.new ≡ site_restarts (sites_of sites.old) (Some place) (slice_get (sites_of sites.old) place) }
+    ensures count { length sites.new ≡ length sites.old }
+{
+    sites[place].restart();
 }
