@@ -1,3 +1,4 @@
+pub mod Joins
 pub mod Links
 pub mod Replays
 pub mod Worlds

@@ -1,0 +1,3 @@
+-- Why each step of a link is steps of its pair over whole messages.
+pub mod Cells
+pub mod Sides

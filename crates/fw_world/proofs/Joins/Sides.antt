@@ -1,0 +1,90 @@
+-- What each half does, as steps of its pair over whole messages.
+use Rattle.std.proofs.Common.{◌≡◌, ◌∙◌, ℕ, ◌+◌, ◌==◌, ◌&&◌, not, nat_lt, Bool, true, false, if◌then◌else◌, List, [], ◌∷◌, ◌++◌, map, Option, Some, None, Ok, refl, sym, ap, subst}
+use Rattle.std.specs.Option.{option_map}
+use Rattle.fw_package.specs.Package.{PackageText}
+use Rattle.fwup_wire.specs.Values.{AnswerOf, CommandOf}
+use Rattle.fwup_wire.proofs.SameCommands.{same_self}
+use Rattle.fd_core.specs.Codes.{patience}
+use Rattle.fd_core.specs.Commands.{Taken, device_take}
+use Rattle.fd_core.specs.States.{DeviceState, Phase}
+use Rattle.fd_core.specs.Steps.{device_restart, device_tick, device_timeout, tick_at, times_out as device_times_out}
+use Rattle.fd_core.specs.Wishes.{device_learn, device_wish}
+use Rattle.ua_core.specs.Calls.{agent_restart, agent_silent, agent_timeout, idle_ticked, times_out as session_times_out}
+use Rattle.ua_core.specs.Learn.{agent_learn}
+use Rattle.ua_core.specs.Serve.{agent_after, agent_answer, recorded_by}
+use Rattle.ua_core.specs.Session.{SessionOf, TimedOf}
+use Rattle.fw_message.specs.History.{EntryOf}
+use Rattle.fw_message.specs.Pairs.{HeldOf, PairOf, PairRun, StepOf, Stepped, closed, closed_unless, closing, down_taken, down_wish, fresh_cell, is_empty, is_wished, message_along, noted, pair_after, quietly, ran_on, run_after, step_of, take_down, take_down_at, unwished_closed, up_taken}
+use Rattle.fw_message.specs.declared.side.Side.TheVariants as sides
+use Rattle.fw_message.specs.declared.side.Way.TheVariants as ways
+use Rattle.fw_node.specs.Cores.{TimedDevice, device_core, package_of, session_core}
+use Rattle.fw_node.specs.Halves.{CoreOf}
+use Rattle.fw_world.specs.Joins.{IsWishedIn}
+use Rattle.fw_world.proofs.Joins.Cells.{stays}
+
+-- Steps of whole messages lead from one pair to another, and add these entries to the history.
+pub record Leads (packages : List PackageText) (m : PairOf) (more : List EntryOf) (after : PairOf) : Type 0 where
+  pub steps : List StepOf
+  pub along : (es : List EntryOf) → message_along packages (Some (record { pair = m; entries = es })) steps
+      ≡ Some (record { pair = after; entries = noted es more })
+
+pub no_step : (packages : List PackageText) (m : PairOf) → Leads packages m [] m
+no_step packages m = record { steps = []; along = λ es. refl }
+
+pub one_step : (packages : List PackageText) (m : PairOf) (s : StepOf) (t : Stepped) → pair_after packages m s ≡ Some t → Leads packages m t.noted t.after
+one_step packages m s t e = record {
+  steps = s ∷ [];
+  along = λ es. ap (λ o. message_along packages (option_map (ran_on (record { pair = m; entries = es })) o) []) e;
+}
+
+along_more : (packages : List PackageText) (r : Option PairRun) (ss ts : List StepOf)
+    → message_along packages r (ss ++ ts) ≡ message_along packages (message_along packages r ss) ts
+along_more packages None ss ts = refl
+along_more packages (Some r) [] ts = refl
+along_more packages (Some r) (s ∷ ss) ts = along_more packages (run_after packages r s) ss ts
+
+noted_more : (es more later : List EntryOf) → noted es (more ++ later) ≡ noted (noted es more) later
+noted_more es [] later = refl
+noted_more es (x ∷ more) later = noted_more (es ++ x ∷ []) more later
+
+-- one after another
+pub leads_on : {packages : List PackageText} {m mid after : PairOf} {more later : List EntryOf} → Leads packages m more mid → Leads packages mid later after
+    → Leads packages m (more ++ later) after
+leads_on {packages} {m} {mid} {after} {more} {later} a b = record {
+  steps = a.steps ++ b.steps;
+  along = λ es. along_more packages (Some (record { pair = m; entries = es })) a.steps b.steps
+      ∙ ap (λ r. message_along packages r b.steps) (a.along es)
+      ∙ b.along (noted es more)
+      ∙ ap (λ x. Some (record { pair = after; entries = x })) (sym (noted_more es more later));
+}
+
+-- What a half with this core does, as steps of its pair: `place` is the pair by the core, what the half asks and what it is
+-- asked; `peer_wish` is the other's wish; `notes` are the entries of what it takes.
+pub record Sided {C : Type 0} (packages : List PackageText) (core : CoreOf C) (place : C → Option HeldOf → Option HeldOf → PairOf) (peer_wish : Option CommandOf) (notes : C → CommandOf → Bool → Bool → List EntryOf) : Type 0 where
+  pub drop : (x : C) (h : HeldOf) (other : Option HeldOf) → IsWishedIn other peer_wish → h.live ≡ false
+      → Leads packages (place x (Some h) other) [] (place x None other)
+  pub give : (x : C) (h : HeldOf) (other : Option HeldOf) → IsWishedIn other peer_wish → h.live ≡ true
+      → Leads packages (place x (Some h) other) [] (place (core.silent x) (Some (record h { live = false })) other)
+  pub tick : (x : C) (own other : Option HeldOf) → IsWishedIn other peer_wish → IsWishedIn own (core.wish x)
+      → Leads packages (place x own other) [] (place (core.ticked x) (closed_unless (core.wish (core.ticked x)) own) other)
+  pub ask : (x : C) (c : CommandOf) (other : Option HeldOf) → IsWishedIn other peer_wish → core.wish x ≡ Some c
+      → Leads packages (place x None other) [] (place x (Some (fresh_cell c)) other)
+  pub learn : (x : C) (h : HeldOf) (a : AnswerOf) (works : Bool) (other : Option HeldOf) → IsWishedIn other peer_wish → h.live ≡ true → h.reply ≡ Some a
+      → Leads packages (place x (Some h) other) [] (place (core.learn x (Ok a) works) None other)
+  pub restart : (x : C) (own other : Option HeldOf) → IsWishedIn other peer_wish
+      → Leads packages (place x own other) [] (place (core.restarted x) (closed own) other)
+  pub take : (x : C) (own : Option HeldOf) (h : HeldOf) (quiet works : Bool) → IsWishedIn (Some h) peer_wish → h.reply ≡ None → (quiet && not (is_empty own)) ≡ false
+      → Leads packages (place x own (Some h)) (notes x h.command quiet works)
+        (place (core.take x h.command quiet works).core (closed_unless (core.wish (core.take x h.command quiet works).core) own) (Some (record h { reply = Some (core.take x h.command quiet works).answer })))
+
+-- a step that leaves this is closed so
+closes : (packages : List PackageText) (m : PairOf) (t : Stepped) (after : PairOf) (s : StepOf) → step_of packages m s ≡ Some t → unwished_closed packages t.after ≡ after
+    → Leads packages m t.noted after
+unfolding pair_after
+closes packages m t after s e c =
+    one_step packages m s (record { after = after; noted = t.noted }) (ap (option_map (closing packages)) e ∙ rw c refl)
+
+-- THE AGENT'S HALF
+
+pub session_place : DeviceState → TimedOf → Option HeldOf → Option HeldOf → PairOf
+session_place d x own other = record { device = d; session = x.session; down = own; up = other }
