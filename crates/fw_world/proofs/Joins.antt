@@ -1,3 +1,4 @@
 -- Why each step of a link is steps of its pair over whole messages.
+pub mod AgentSide
 pub mod Cells
 pub mod Sides

@@ -78,13 +78,8 @@ pub record Sided {C : Type 0} (packages : List PackageText) (core : CoreOf C) (p
         (place (core.take x h.command quiet works).core (closed_unless (core.wish (core.take x h.command quiet works).core) own) (Some (record h { reply = Some (core.take x h.command quiet works).answer })))
 
 -- a step that leaves this is closed so
-closes : (packages : List PackageText) (m : PairOf) (t : Stepped) (after : PairOf) (s : StepOf) → step_of packages m s ≡ Some t → unwished_closed packages t.after ≡ after
+pub closes : (packages : List PackageText) (m : PairOf) (t : Stepped) (after : PairOf) (s : StepOf) → step_of packages m s ≡ Some t → unwished_closed packages t.after ≡ after
     → Leads packages m t.noted after
 unfolding pair_after
 closes packages m t after s e c =
     one_step packages m s (record { after = after; noted = t.noted }) (ap (option_map (closing packages)) e ∙ rw c refl)
-
--- THE AGENT'S HALF
-
-pub session_place : DeviceState → TimedOf → Option HeldOf → Option HeldOf → PairOf
-session_place d x own other = record { device = d; session = x.session; down = own; up = other }
