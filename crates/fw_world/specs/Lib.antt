@@ -1,3 +1,4 @@
+pub mod Lanes
 pub mod Links
 pub mod Replays
 pub mod Worlds
