@@ -1,4 +1,5 @@
 pub mod Joins
+pub mod Lanes
 pub mod Links
 pub mod Replays
 pub mod Worlds
