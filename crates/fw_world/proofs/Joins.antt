@@ -1,4 +1,5 @@
 -- Why each step of a link is steps of its pair over whole messages.
 pub mod AgentSide
 pub mod Cells
+pub mod DeviceSide
 pub mod Sides

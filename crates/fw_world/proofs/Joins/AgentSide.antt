@@ -15,7 +15,7 @@ use Rattle.fw_message.specs.declared.side.Side.TheVariants as sides
 use Rattle.fw_message.specs.declared.side.Way.TheVariants as ways
 use Rattle.fw_node.specs.Cores.{package_of, session_core}
 use Rattle.fw_world.specs.Joins.{IsWishedIn}
-use Rattle.fw_world.proofs.Joins.Cells.{stays}
+use Rattle.fw_world.proofs.Joins.Cells.{closed_stays, stays}
 use Rattle.fw_world.proofs.Joins.Sides.{Leads, Sided, closes, no_step}
 
 -- the pair by the agent's half, with this device
@@ -85,10 +85,6 @@ learns packages d x h a works other k live answered =
     closes packages (agent_place d x (Some h) other) (quietly (agent_place d ((session_core packages).learn x (Ok a) works) None other))
     (agent_place d ((session_core packages).learn x (Ok a) works) None other) StepOf.LearnDown
     (rw (live, answered) refl) (closed_so packages d ((session_core packages).learn x (Ok a) works).session None None other k refl)
-
-closed_stays : (wish : Option CommandOf) (own : Option HeldOf) → closed_unless wish (closed own) ≡ closed own
-closed_stays wish None = refl
-closed_stays wish (Some h) = refl
 
 restarts : (packages : List PackageText) (d : DeviceState) (x : TimedOf) (own other : Option HeldOf) → IsWishedIn other (device_wish d)
     → Leads packages (agent_place d x own other) [] (agent_place d ((session_core packages).restarted x) (closed own) other)

@@ -7,7 +7,7 @@ use Rattle.exch_lane.specs.Cells.{Cell, same_bytes}
 use Rattle.exch_lane.specs.Laws.{awaited}
 use Rattle.fwup_wire.specs.Values.{CommandOf}
 use Rattle.fwup_wire.specs.Commands.{command_read}
-use Rattle.fw_message.specs.Pairs.{HeldOf, closed_unless, is_wished}
+use Rattle.fw_message.specs.Pairs.{HeldOf, closed, closed_unless, is_wished}
 use Rattle.fw_node.specs.Halves.{still_wished, wished_read}
 use Rattle.fw_node.specs.Halves.{is_wished as is_wished_there}
 use Rattle.fw_world.specs.Joins.{IsAnsweredAs, IsAskedAs, IsHeldFor, IsSaid, IsWishedIn, StandsFor, cell_kept, cell_unless}
@@ -69,6 +69,11 @@ stays_by false wished k = refl
 pub stays : (wish : Option CommandOf) (held : Option HeldOf) → IsWishedIn held wish → closed_unless wish held ≡ held
 stays wish None k = refl
 stays wish (Some h) k = rw (stays_by h.live (is_wished h.command wish) k) refl
+
+-- what is closed stays closed
+pub closed_stays : (wish : Option CommandOf) (own : Option HeldOf) → closed_unless wish (closed own) ≡ closed own
+closed_stays wish None = refl
+closed_stays wish (Some h) = refl
 
 -- whom a command is for stays
 pub still_for : (agent : Bool) (wish : Option CommandOf) (held : Option HeldOf) → IsHeldFor agent held → IsHeldFor agent (closed_unless wish held)
