@@ -1,5 +1,5 @@
 -- What the agent's half does, as steps of its pair over whole messages.
-use Rattle.std.proofs.Common.{◌≡◌, ◌∙◌, ℕ, ◌+◌, ◌==◌, ◌&&◌, not, Bool, true, false, if◌then◌else◌, List, [], map, Option, Some, None, Ok, refl, sym, ap, subst}
+use Rattle.std.proofs.Common.{◌≡◌, ◌∙◌, ℕ, ◌+◌, ◌==◌, ◌&&◌, not, Bool, true, false, if◌then◌else◌, List, [], length, map, Option, Some, None, Ok, refl, sym, ap, subst}
 use Rattle.fw_package.specs.Package.{PackageText}
 use Rattle.fwup_wire.specs.Values.{AnswerOf, CommandOf}
 use Rattle.fwup_wire.proofs.SameCommands.{same_self}
@@ -8,14 +8,15 @@ use Rattle.fd_core.specs.Wishes.{device_wish}
 use Rattle.ua_core.specs.Calls.{agent_restart, agent_silent, agent_timeout, idle_ticked, times_out}
 use Rattle.ua_core.specs.Learn.{agent_learn}
 use Rattle.ua_core.specs.Serve.{agent_after, agent_answer, recorded_by}
-use Rattle.ua_core.specs.Session.{SessionOf, TimedOf}
+use Rattle.ua_core.specs.Session.{SessionOf, Stage, TimedOf}
+use Rattle.ua_core.specs.Wish.{entry_wish, offer_wish, request_wish, stage_wish}
 use Rattle.fw_message.specs.History.{EntryOf}
 use Rattle.fw_message.specs.Pairs.{HeldOf, PairOf, StepOf, Stepped, closed, closed_unless, down_wish, fresh_cell, is_empty, quietly, step_of, unwished_closed, up_taken}
 use Rattle.fw_message.specs.declared.side.Side.TheVariants as sides
 use Rattle.fw_message.specs.declared.side.Way.TheVariants as ways
 use Rattle.fw_node.specs.Cores.{package_of, session_core}
-use Rattle.fw_world.specs.Joins.{IsWishedIn}
-use Rattle.fw_world.proofs.Joins.Cells.{closed_stays, stays}
+use Rattle.fw_world.specs.Joins.{IsFor, IsWishedIn}
+use Rattle.fw_world.proofs.Joins.Cells.{closed_stays, stays, told_for}
 use Rattle.fw_world.proofs.Joins.Sides.{Leads, Sided, closes, no_step}
 
 -- the pair by the agent's half, with this device
@@ -125,7 +126,22 @@ takes packages d x own h quiet works k new may =
       (Some (record h { reply = Some (agent_answer (package_of packages x.session) x.session h.command) })))
     StepOf.TakeUp (rw new refl) (takes_closed packages d x own h k))
 
-pub agent_side : (packages : List PackageText) (d : DeviceState) → Sided packages (session_core packages) (agent_place d) (device_wish d) (agent_notes packages)
+-- what a session wishes is for a device
+wishes_at : (p : PackageText) (g : Stage) (c : CommandOf) → stage_wish p g ≡ Some c → IsFor false c
+wishes_at p Stage.Query c e = told_for false CommandOf.QueryDeviceIdentifiers c e refl
+wishes_at p (Stage.Params _) c e = told_for false CommandOf.GetFirmwareParameters c e refl
+wishes_at p (Stage.ClearOld _) c e = told_for false CommandOf.CancelUpdate c e refl
+wishes_at p (Stage.Request j) c e = told_for false (request_wish p j) c e refl
+wishes_at p (Stage.Pass j i left later) c e = told_for false (entry_wish p j i (length left)) c e refl
+wishes_at p (Stage.Update t) c e = told_for false (offer_wish p t.at_hand) c e refl
+wishes_at p (Stage.Activate _) c e = told_for false (CommandOf.ActivateFirmware true) c e refl
+wishes_at p Stage.Cancelling c e = told_for false CommandOf.CancelUpdate c e refl
+wishes_at p g c e = absurd (cc)
+
+wishes : (packages : List PackageText) (x : TimedOf) (c : CommandOf) → (session_core packages).wish x ≡ Some c → IsFor false c
+wishes packages x c e = wishes_at (package_of packages x.session) x.session.stage c e
+
+pub agent_side : (packages : List PackageText) (d : DeviceState) → Sided packages (session_core packages) false (agent_place d) (device_wish d) (agent_notes packages)
 agent_side packages d = record {
   drop = drops packages d;
   give = gives packages d;
@@ -134,4 +150,6 @@ agent_side packages d = record {
   learn = learns packages d;
   restart = restarts packages d;
   take = takes packages d;
+  wishes = wishes packages;
+  serves = λ c k. k;
 }

@@ -1,5 +1,5 @@
 -- What an asker's giving up is for the cells of both worlds.
-use Rattle.std.proofs.Common.{◌≡◌, ◌∙◌, ℕ, ◌==◌, ◌&&◌, Bool, true, false, List, [], ◌∷◌, Option, Some, None, Ok, Err, Result, refl, sym, ap, inl, inr}
+use Rattle.std.proofs.Common.{◌≡◌, ◌∙◌, ℕ, ◌==◌, ◌&&◌, Bool, true, false, List, [], ◌∷◌, Option, Some, None, Ok, Err, Result, refl, sym, ap, subst, inl, inr}
 use Rattle.std.specs.Option.{option_map}
 use Rattle.std.proofs.lemmas.Bool.Decides.{eqb_tells}
 use Rattle.pldm_exch.specs.Caller.{Open, asking}
@@ -10,7 +10,7 @@ use Rattle.fwup_wire.specs.Commands.{command_read}
 use Rattle.fw_message.specs.Pairs.{HeldOf, closed, closed_unless, is_wished}
 use Rattle.fw_node.specs.Halves.{still_wished, wished_read}
 use Rattle.fw_node.specs.Halves.{is_wished as is_wished_there}
-use Rattle.fw_world.specs.Joins.{IsAnsweredAs, IsAskedAs, IsHeldFor, IsSaid, IsWishedIn, StandsFor, cell_kept, cell_unless}
+use Rattle.fw_world.specs.Joins.{IsAnsweredAs, IsAskedAs, IsFor, IsHeldFor, IsSaid, IsWishedIn, StandsFor, cell_kept, cell_unless}
 
 -- a node and a pair ask the same of a wish
 same_wish : (c : CommandOf) (wish : Option CommandOf) → is_wished_there c wish ≡ is_wished c wish
@@ -101,3 +101,9 @@ bytes_are (x ∷ xs) (y ∷ ys) e =
 -- equal numbers
 pub numbers_are : (m n : ℕ) → (m == n) ≡ true → m ≡ n
 numbers_are m n e = elim (eqb_tells m n) [ inl same ↦ same.1 | inr other ↦ absurd (let o = other.0 in cc) ]
+
+-- whom a command is for that is this one
+pub told_for : (agent : Bool) (c d : CommandOf) → Some c ≡ Some d → IsFor agent c → IsFor agent d
+told_for agent c d e k =
+    let same : c ≡ d = cc in
+    subst (λ x. IsFor agent x) same k

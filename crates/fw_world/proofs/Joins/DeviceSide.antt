@@ -1,21 +1,24 @@
 -- What a device's half does, as steps of its pair over whole messages.
-use Rattle.std.proofs.Common.{◌≡◌, ◌∙◌, ℕ, ◌+◌, ◌==◌, ◌&&◌, not, nat_lt, Bool, true, false, if◌then◌else◌, List, [], map, Option, Some, None, Ok, refl, sym, ap, subst}
+use Rattle.std.proofs.Common.{◌≡◌, ◌∙◌, ℕ, ◌+◌, ◌==◌, ◌&&◌, not, nat_lt, Bool, true, false, if◌then◌else◌, List, [], length, map, Option, Some, None, Ok, refl, sym, ap, subst}
 use Rattle.fw_package.specs.Package.{PackageText}
+use Rattle.fwup_wire.specs.Commands.{command_code}
 use Rattle.fwup_wire.specs.Values.{AnswerOf, CommandOf}
 use Rattle.fwup_wire.proofs.SameCommands.{same_self}
-use Rattle.fd_core.specs.Codes.{patience}
+use Rattle.fd_core.specs.Codes.{application_failed, patience, transfer_failed, verification_failed}
 use Rattle.fd_core.specs.Commands.{device_take}
-use Rattle.fd_core.specs.States.{DeviceState, Phase}
+use Rattle.fd_core.specs.States.{DeviceState, Phase, UpdateOf, WorkOf}
 use Rattle.fd_core.specs.Steps.{device_restart, device_timeout, tick_at, times_out}
-use Rattle.fd_core.specs.Wishes.{device_wish}
+use Rattle.fd_core.specs.Wishes.{apply_report, asked_length, device_wish, download_wish, report_of, reports, wish_at}
+use Rattle.fd_core.specs.declared.states.Progress.{Progress}
+use Rattle.fd_core.specs.declared.states.Progress.TheVariants as progress
 use Rattle.ua_core.specs.Session.{SessionOf}
 use Rattle.fw_message.specs.History.{EntryOf}
 use Rattle.fw_message.specs.Pairs.{HeldOf, PairOf, StepOf, closed, closed_unless, down_taken, down_wish, fresh_cell, is_empty, quietly, step_of, unwished_closed}
 use Rattle.fw_message.specs.declared.side.Side.TheVariants as sides
 use Rattle.fw_message.specs.declared.side.Way.TheVariants as ways
 use Rattle.fw_node.specs.Cores.{TimedDevice, device_core}
-use Rattle.fw_world.specs.Joins.{IsWishedIn}
-use Rattle.fw_world.proofs.Joins.Cells.{closed_stays, stays}
+use Rattle.fw_world.specs.Joins.{IsFor, IsWishedIn}
+use Rattle.fw_world.proofs.Joins.Cells.{closed_stays, stays, told_for}
 use Rattle.fw_world.proofs.Joins.Sides.{Leads, Sided, closes, no_step}
 
 -- the pair by the device's half, with this session
@@ -139,7 +142,29 @@ takes packages s x own h quiet works k new may =
     (closes packages (device_place s x own (Some h)) (down_taken (device_place s x own (Some h)) h (device_take x.device h.command quiet works))
     (took s x own h quiet works) (StepOf.TakeDown quiet works) (rw (new, may) refl) (takes_closed packages s x own h quiet works k))
 
-pub device_side : (packages : List PackageText) (s : SessionOf) → Sided packages device_core (device_place s) (down_wish packages s) device_notes
+-- what a device wishes is for the agent
+reports_at : (command : ℕ → CommandOf) (result : Option ℕ) (c : CommandOf) → reports command result ≡ Some c → ((n : ℕ) → IsFor true (command n)) → IsFor true c
+reports_at command None c e k = absurd (cc)
+reports_at command (Some n) c e k = told_for true (command n) c e (k n)
+
+download_at : (u : UpdateOf) (w : WorkOf) (p : Progress) (have : ℕ) (c : CommandOf) → download_wish u w p have ≡ Some c → IsFor true c
+download_at u w progress.InProgress have c e = told_for true (CommandOf.RequestFirmwareData have (asked_length u w have)) c e refl
+download_at u w progress.Succeeded have c e = reports_at CommandOf.TransferComplete (report_of progress.Succeeded transfer_failed) c e (λ n. refl)
+download_at u w (progress.Failed told) have c e = reports_at CommandOf.TransferComplete (report_of (progress.Failed told) transfer_failed) c e (λ n. refl)
+
+wishes_at : (p : Phase) (have : ℕ) (c : CommandOf) → wish_at p have ≡ Some c → IsFor true c
+wishes_at (Phase.Download u w p) have c e = download_at u w p have c e
+wishes_at (Phase.Verify u w p) have c e = reports_at CommandOf.VerifyComplete (report_of p verification_failed) c e (λ n. refl)
+wishes_at (Phase.Apply u w p) have c e = reports_at apply_report (report_of p application_failed) c e (λ n. refl)
+wishes_at p have c e = absurd (cc)
+
+wishes : (x : TimedDevice) (c : CommandOf) → device_wish x.device ≡ Some c → IsFor true c
+wishes x c e = wishes_at x.device.phase (length x.device.stage) c e
+
+serves : (c : CommandOf) → IsFor false c → device_core.serves (command_code c) ≡ true
+serves c k = rw k refl
+
+pub device_side : (packages : List PackageText) (s : SessionOf) → Sided packages device_core true (device_place s) (down_wish packages s) device_notes
 device_side packages s = record {
   drop = drops packages s;
   give = gives packages s;
@@ -148,4 +173,6 @@ device_side packages s = record {
   learn = learns packages s;
   restart = restarts packages s;
   take = takes packages s;
+  wishes = wishes;
+  serves = serves;
 }

@@ -2,6 +2,7 @@
 use Rattle.std.proofs.Common.{◌≡◌, ◌∙◌, ℕ, ◌+◌, ◌==◌, ◌&&◌, not, nat_lt, Bool, true, false, if◌then◌else◌, List, [], ◌∷◌, ◌++◌, map, Option, Some, None, Ok, refl, sym, ap, subst}
 use Rattle.std.specs.Option.{option_map}
 use Rattle.fw_package.specs.Package.{PackageText}
+use Rattle.fwup_wire.specs.Commands.{command_code}
 use Rattle.fwup_wire.specs.Values.{AnswerOf, CommandOf}
 use Rattle.fwup_wire.proofs.SameCommands.{same_self}
 use Rattle.fd_core.specs.Codes.{patience}
@@ -19,7 +20,7 @@ use Rattle.fw_message.specs.declared.side.Side.TheVariants as sides
 use Rattle.fw_message.specs.declared.side.Way.TheVariants as ways
 use Rattle.fw_node.specs.Cores.{TimedDevice, device_core, package_of, session_core}
 use Rattle.fw_node.specs.Halves.{CoreOf}
-use Rattle.fw_world.specs.Joins.{IsWishedIn}
+use Rattle.fw_world.specs.Joins.{IsFor, IsWishedIn}
 use Rattle.fw_world.proofs.Joins.Cells.{stays}
 
 -- Steps of whole messages lead from one pair to another, and add these entries to the history.
@@ -58,9 +59,16 @@ leads_on {packages} {m} {mid} {after} {more} {later} a b = record {
       ∙ ap (λ x. Some (record { pair = after; entries = x })) (sym (noted_more es more later));
 }
 
--- What a half with this core does, as steps of its pair: `place` is the pair by the core, what the half asks and what it is
--- asked; `peer_wish` is the other's wish; `notes` are the entries of what it takes.
-pub record Sided {C : Type 0} (packages : List PackageText) (core : CoreOf C) (place : C → Option HeldOf → Option HeldOf → PairOf) (peer_wish : Option CommandOf) (notes : C → CommandOf → Bool → Bool → List EntryOf) : Type 0 where
+-- the pair by a half's core, what the half asks and what it is asked; and the entries of what it takes
+abbrev pub Place : Type 0 → Type 0
+Place C = C → Option HeldOf → Option HeldOf → PairOf
+
+abbrev pub Notes : Type 0 → Type 0
+Notes C = C → CommandOf → Bool → Bool → List EntryOf
+
+-- What a half with this core does, as steps of its pair: what it asks is for the agent or for a device, and `peer_wish` is
+-- the other's wish.
+pub record Sided {C : Type 0} (packages : List PackageText) (core : CoreOf C) (agent : Bool) (place : Place C) (peer_wish : Option CommandOf) (notes : Notes C) : Type 0 where
   pub drop : (x : C) (h : HeldOf) (other : Option HeldOf) → IsWishedIn other peer_wish → h.live ≡ false
       → Leads packages (place x (Some h) other) [] (place x None other)
   pub give : (x : C) (h : HeldOf) (other : Option HeldOf) → IsWishedIn other peer_wish → h.live ≡ true
@@ -76,6 +84,8 @@ pub record Sided {C : Type 0} (packages : List PackageText) (core : CoreOf C) (p
   pub take : (x : C) (own : Option HeldOf) (h : HeldOf) (quiet works : Bool) → IsWishedIn (Some h) peer_wish → h.reply ≡ None → (quiet && not (is_empty own)) ≡ false
       → Leads packages (place x own (Some h)) (notes x h.command quiet works)
         (place (core.take x h.command quiet works).core (closed_unless (core.wish (core.take x h.command quiet works).core) own) (Some (record h { reply = Some (core.take x h.command quiet works).answer })))
+  pub wishes : (x : C) (c : CommandOf) → core.wish x ≡ Some c → IsFor agent c
+  pub serves : (c : CommandOf) → IsFor (not agent) c → core.serves (command_code c) ≡ true
 
 -- a step that leaves this is closed so
 pub closes : (packages : List PackageText) (m : PairOf) (t : Stepped) (after : PairOf) (s : StepOf) → step_of packages m s ≡ Some t → unwished_closed packages t.after ≡ after
