@@ -2,4 +2,5 @@
 pub mod AgentSide
 pub mod Cells
 pub mod DeviceSide
+pub mod Rows
 pub mod Sides
