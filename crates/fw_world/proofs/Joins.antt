@@ -2,5 +2,7 @@
 pub mod AgentSide
 pub mod Cells
 pub mod DeviceSide
+pub mod Goes
 pub mod Rows
 pub mod Sides
+pub mod Ticks
