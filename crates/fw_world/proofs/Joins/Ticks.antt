@@ -18,7 +18,8 @@ use Rattle.fwup_wire.proofs.SameCommands.{same_self}
 use Rattle.fw_node.specs.Halves.{CoreOf, HalfOf, begins_if, begins_wish, called, half_ticks, hears_if, unwished_abandoned, with_caller}
 use Rattle.fw_world.specs.Joins.{IsHeldFor, IsWishedIn, StandsFor}
 use Rattle.fw_world.specs.Lanes.{begin_steps, called_steps, counted_steps, hearing_steps, wish_steps}
-use Rattle.fw_world.proofs.Joins.Goes.{Goes, Holds, Went, abandoned, settles, went}
+use Rattle.fw_world.proofs.Joins.Asks.{after_hearing, goes_on, hears_from}
+use Rattle.fw_world.proofs.Joins.Goes.{Goes, Holds, went}
 use Rattle.fw_world.proofs.Joins.Rows.{RowWaits, row_waits}
 use Rattle.fw_world.proofs.Joins.Sides.{Leads, Notes, Place, Sided, leads_on, no_step}
 
@@ -106,3 +107,67 @@ gives_from side x own other run after (Cell.Answered command body reply false) k
 gives_from side x own other run after Cell.Empty k holds e = absurd (cc)
 gives_from side x None other run after (Cell.Asked command body true) k holds e = absurd holds.stands
 gives_from side x None other run after (Cell.Answered command body reply true) k holds e = absurd holds.stands
+
+-- the core after a row of the tick
+abbrev after_row : {C : Type 0} → CoreOf C → C → AskerTick → C
+after_row core x (AskerTick.Waits a) = after_hearing (a.deaf == 0) core x
+after_row core x (AskerTick.Resends a m) = after_hearing (a.deaf == 0) core x
+after_row core x (AskerTick.GivesUp a) = after_hearing (a.deaf == 0) core (core.silent x)
+
+-- a part that rests or gives up, and the last part
+then_hears : {C : Type 0} {packages : List PackageText} {core : CoreOf C} {agent : Bool} {place : Place C} {peer_wish : Option CommandOf} {notes : Notes C} (side : Sided packages core agent place peer_wish notes)
+    (m : PairOf) (other : Option HeldOf) (x : C) (w : LaneOf) (run last : CellRun) (waits : Option (ℕ × List ℕ)) (hears : Bool) (caller : CallerState) → WritesCommands → IsWishedIn other peer_wish
+    → IfSome (core.wish (after_hearing hears core x)) IsSpoken
+    → Rests packages core agent place m other x run.cell waits → option_map asking caller.asked ≡ waits
+    → cells_along w (hearing_steps hears core x caller) (Some run) ≡ Some last
+    → Goes packages core agent place m other (after_hearing hears core x) last.cell
+then_hears side m other x w run last waits hears caller written k spoken r is e =
+    goes_on r.goes.leads (hears_from side hears caller x r.goes.own other w run last written k spoken r.goes.holds (r.waiting ∙ sym is) e)
+
+calls_from : {C : Type 0} {packages : List PackageText} {core : CoreOf C} {agent : Bool} {place : Place C} {peer_wish : Option CommandOf} {notes : Notes C} (side : Sided packages core agent place peer_wish notes)
+    (row : AskerTick) (x : C) (own other : Option HeldOf) (w : LaneOf) (run mid last : CellRun) → WritesCommands → IsWishedIn other peer_wish → IfSome (core.wish (after_row core x row)) IsSpoken
+    → Holds core agent x run.cell own → RowWaits row (awaited run.cell) → cell_ticks row run ≡ Some mid
+    → cells_along w (called_steps core x row) (Some mid) ≡ Some last
+    → Goes packages core agent place (place x own other) other (after_row core x row) last.cell
+calls_from {C} {packages} {core} {agent} {place} side (AskerTick.Waits a) x own other w run mid last written k spoken holds waits rests e =
+    then_hears side (place x own other) other x w mid last (awaited run.cell) (a.deaf == 0) a.caller written k spoken (rests_if side x own other run mid (hears_quiet a) k holds rests) waits e
+calls_from {C} {packages} {core} {agent} {place} side (AskerTick.Resends a m) x own other w run mid last written k spoken holds waits rests e =
+    then_hears side (place x own other) other x w mid last (awaited run.cell) (a.deaf == 0) a.caller written k spoken (unmoved x own other run mid holds rests) waits e
+calls_from {C} {packages} {core} {agent} {place} side (AskerTick.GivesUp a) x own other w run mid last written k spoken holds waits gives e =
+    then_hears side (place x own other) other (core.silent x) w mid last None (a.deaf == 0) a.caller written k spoken (gives_from side x own other run mid run.cell k holds gives) (ap (option_map asking) waits) e
+
+-- the core of a half after a tick
+core_begun : {C : Type 0} (may : Bool) (h : HalfOf C) (c : CommandOf) (ms : List MessageOf) → (begins_if may h c ms).half.core ≡ h.core
+core_begun true h c ms = refl
+core_begun false h c ms = refl
+
+core_stays : {C : Type 0} (wish : Option CommandOf) (h : HalfOf C) (ms : List MessageOf) → (begins_wish wish h ms).half.core ≡ h.core
+core_stays None h ms = refl
+core_stays (Some c) h ms = core_begun (may_begin h.asker.caller) h c ms
+
+core_hears : {C : Type 0} (hears : Bool) (core : CoreOf C) (h : HalfOf C) (ms : List MessageOf) → (hears_if hears core h ms).half.core ≡ after_hearing hears core h.core
+core_hears true core h ms =
+    core_stays (core.wish (core.ticked h.core)) (with_caller (record h { core = core.ticked h.core }) (unwished_abandoned (core.wish (core.ticked h.core)) h.asker.caller)) ms
+core_hears false core h ms = refl
+
+core_called : {C : Type 0} (core : CoreOf C) (h : HalfOf C) (row : AskerTick) → (called core h row).half.core ≡ after_row core h.core row
+core_called core h (AskerTick.Waits a) = core_hears (a.deaf == 0) core (record h { asker = a }) []
+core_called core h (AskerTick.Resends a m) = core_hears (a.deaf == 0) core (record h { asker = a }) (m ∷ [])
+core_called core h (AskerTick.GivesUp a) = core_hears (a.deaf == 0) core (record h { asker = a; core = core.silent h.core }) []
+
+core_ticked : {C : Type 0} (core : CoreOf C) (h : HalfOf C) → (half_ticks core true h).half.core ≡ after_row core h.core (asker_counts h.asker)
+core_ticked core h = core_called core (record h { taker = taker_counts h.taker }) (asker_counts h.asker)
+
+-- A tick of a half, by its row and its cell.
+pub half_ticks_on : {C : Type 0} {packages : List PackageText} {core : CoreOf C} {agent : Bool} {place : Place C} {peer_wish : Option CommandOf} {notes : Notes C} (side : Sided packages core agent place peer_wish notes)
+    (h : HalfOf C) (own other : Option HeldOf) (w : LaneOf) (run last : CellRun) → WritesCommands → IsWishedIn other peer_wish → IfSome (core.wish (half_ticks core true h).half.core) IsSpoken
+    → Holds core agent h.core run.cell own → awaited run.cell ≡ option_map asking h.asker.caller.asked
+    → cells_along w (counted_steps core true h) (cell_ticks (asker_counts h.asker) run) ≡ Some last
+    → Goes packages core agent place (place h.core own other) other (half_ticks core true h).half.core last.cell
+half_ticks_on {C} {packages} {core} {agent} {place} side h own other w run last written k spoken holds waits e =
+    let on = went w (counted_steps core true h) (cell_ticks (asker_counts h.asker) run) last e in
+    subst (λ x. Goes packages core agent place (place h.core own other) other x last.cell) (sym (core_ticked core h))
+    (calls_from side (asker_counts h.asker) h.core own other w run on.run last written k
+    (subst (λ x. IfSome (core.wish x) IsSpoken) (core_ticked core h) spoken) holds
+    (subst (RowWaits (asker_counts h.asker)) (sym waits) (row_waits h.asker))
+    on.is (ap (cells_along w (counted_steps core true h)) (sym on.is) ∙ e))
