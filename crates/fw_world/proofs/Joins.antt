@@ -4,6 +4,7 @@ pub mod Asks
 pub mod Cells
 pub mod DeviceSide
 pub mod Goes
+pub mod Links
 pub mod Rows
 pub mod Sides
 pub mod Ticks

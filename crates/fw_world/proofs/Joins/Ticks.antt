@@ -5,7 +5,7 @@ use Rattle.std.specs.Option.{option_map}
 use Rattle.mctp_reasm.specs.Pieces.{MessageOf}
 use Rattle.pldm_exch.specs.Caller.{CallerState, Open, asking, may_begin}
 use Rattle.pldm_exch.specs.Ends.{AskerOf}
-use Rattle.pldm_exch.specs.Sides.{AskerTick, asker_counts, taker_counts}
+use Rattle.pldm_exch.specs.Sides.{AskerTick, asker_counts, asker_tick, taker_counts}
 use Rattle.exch_lane.specs.Cells.{Cell, CellRun, ask_in, cell_give_up, cell_rests, cell_ticks, cells_along, close_in, drop_in, hears_quiet, is_empty_cell}
 use Rattle.exch_lane.specs.Lanes.{EntryOf, LaneOf, StepOf}
 use Rattle.exch_lane.specs.Laws.{awaited}
@@ -158,16 +158,25 @@ core_called core h (AskerTick.GivesUp a) = core_hears (a.deaf == 0) core (record
 core_ticked : {C : Type 0} (core : CoreOf C) (h : HalfOf C) → (half_ticks core true h).half.core ≡ after_row core h.core (asker_counts h.asker)
 core_ticked core h = core_called core (record h { taker = taker_counts h.taker }) (asker_counts h.asker)
 
--- A tick of a half, by its row and its cell.
-pub half_ticks_on : {C : Type 0} {packages : List PackageText} {core : CoreOf C} {agent : Bool} {place : Place C} {peer_wish : Option CommandOf} {notes : Notes C} (side : Sided packages core agent place peer_wish notes)
+-- A tick of a half that counts it, by its row and its cell.
+counts_on : {C : Type 0} {packages : List PackageText} {core : CoreOf C} {agent : Bool} {place : Place C} {peer_wish : Option CommandOf} {notes : Notes C} (side : Sided packages core agent place peer_wish notes)
     (h : HalfOf C) (own other : Option HeldOf) (w : LaneOf) (run last : CellRun) → WritesCommands → IsWishedIn other peer_wish → IfSome (core.wish (half_ticks core true h).half.core) IsSpoken
     → Holds core agent h.core run.cell own → awaited run.cell ≡ option_map asking h.asker.caller.asked
     → cells_along w (counted_steps core true h) (cell_ticks (asker_counts h.asker) run) ≡ Some last
     → Goes packages core agent place (place h.core own other) other (half_ticks core true h).half.core last.cell
-half_ticks_on {C} {packages} {core} {agent} {place} side h own other w run last written k spoken holds waits e =
+counts_on {C} {packages} {core} {agent} {place} side h own other w run last written k spoken holds waits e =
     let on = went w (counted_steps core true h) (cell_ticks (asker_counts h.asker) run) last e in
     subst (λ x. Goes packages core agent place (place h.core own other) other x last.cell) (sym (core_ticked core h))
     (calls_from side (asker_counts h.asker) h.core own other w run on.run last written k
     (subst (λ x. IfSome (core.wish x) IsSpoken) (core_ticked core h) spoken) holds
     (subst (RowWaits (asker_counts h.asker)) (sym waits) (row_waits h.asker))
     on.is (ap (cells_along w (counted_steps core true h)) (sym on.is) ∙ e))
+
+-- A tick of a half, whether it counts it or not.
+pub half_ticks_on : {C : Type 0} {packages : List PackageText} {core : CoreOf C} {agent : Bool} {place : Place C} {peer_wish : Option CommandOf} {notes : Notes C} (side : Sided packages core agent place peer_wish notes)
+    (counts : Bool) (h : HalfOf C) (own other : Option HeldOf) (w : LaneOf) (run last : CellRun) → WritesCommands → IsWishedIn other peer_wish → IfSome (core.wish (half_ticks core counts h).half.core) IsSpoken
+    → Holds core agent h.core run.cell own → awaited run.cell ≡ option_map asking h.asker.caller.asked
+    → cells_along w (counted_steps core counts h) (cell_ticks (asker_tick counts h.asker) run) ≡ Some last
+    → Goes packages core agent place (place h.core own other) other (half_ticks core counts h).half.core last.cell
+half_ticks_on side true h own other w run last written k spoken holds waits e = counts_on side h own other w run last written k spoken holds waits e
+half_ticks_on side false h own other w run last written k spoken holds waits e = (rests_if side h.core own other run last (hears_quiet h.asker) k holds e).goes
