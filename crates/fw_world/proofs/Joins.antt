@@ -1,6 +1,7 @@
 -- Why each step of a link is steps of its pair over whole messages.
 pub mod AgentSide
 pub mod Asks
+pub mod Calls
 pub mod Cells
 pub mod DeviceSide
 pub mod Goes

@@ -94,6 +94,15 @@ restarts packages d x own other k =
     (agent_place d ((session_core packages).restarted x) (closed own) other) (StepOf.Restart sides.Agent)
     refl (closed_so packages d (agent_restart x.session) (closed own) (closed own) other k (closed_stays (down_wish packages (agent_restart x.session)) own))
 
+-- A call of the operator, which leaves the session so.
+pub session_calls : (packages : List PackageText) (d : DeviceState) (x after : TimedOf) (own other : Option HeldOf) (s : StepOf) → IsWishedIn other (device_wish d)
+    → step_of packages (agent_place d x own other) s ≡ Some (quietly (record { device = d; session = after.session; down = own; up = other }))
+    → Leads packages (agent_place d x own other) [] (agent_place d after (closed_unless (down_wish packages after.session) own) other)
+session_calls packages d x after own other s k e =
+    closes packages (agent_place d x own other) (quietly (record { device = d; session = after.session; down = own; up = other }))
+    (agent_place d after (closed_unless (down_wish packages after.session) own) other) s e
+    (closed_so packages d after.session own (closed_unless (down_wish packages after.session) own) other k refl)
+
 -- what the session took
 abbrev pub agent_took : List PackageText → TimedOf → CommandOf → TimedOf
 agent_took packages x c = ((session_core packages).take x c true true).core

@@ -115,6 +115,15 @@ restarts packages s x own other k =
     (device_place s (device_core.restarted x) (closed own) other) (StepOf.Restart sides.Device)
     refl (closed_so packages s (device_restart x.device) (closed own) (closed own) other k (closed_stays (device_wish (device_restart x.device)) own))
 
+-- A verdict, which leaves the device so.
+pub device_judged : (packages : List PackageText) (s : SessionOf) (x after : TimedDevice) (own other : Option HeldOf) (step : StepOf) (es : List EntryOf) → IsWishedIn other (down_wish packages s)
+    → step_of packages (device_place s x own other) step ≡ Some (record { after = record { device = after.device; session = s; down = other; up = own }; noted = es })
+    → Leads packages (device_place s x own other) es (device_place s after (closed_unless (device_wish after.device) own) other)
+device_judged packages s x after own other step es k e =
+    closes packages (device_place s x own other) (record { after = record { device = after.device; session = s; down = other; up = own }; noted = es })
+    (device_place s after (closed_unless (device_wish after.device) own) other) step e
+    (closed_so packages s after.device own (closed_unless (device_wish after.device) own) other k refl)
+
 -- the pair after the device took a command
 abbrev took : SessionOf → TimedDevice → Option HeldOf → HeldOf → Bool → Bool → PairOf
 took s x own h quiet works =

@@ -98,3 +98,19 @@ settles core agent x asked cell after own waits stands k is = record {
   wished = left_wished (core.wish x) own;
   is_for = still_for agent (core.wish x) own k;
 }
+
+-- the cell of a half whose core is another now
+pub settled_cell : (wish : Option CommandOf) (asked : Option Open) (w : LaneOf) (run last : CellRun) → cells_along w (abandon_steps wish asked []) (Some run) ≡ Some last
+    → last.cell ≡ cell_unless wish asked run.cell
+settled_cell wish asked w run last e =
+    let a = abandoned wish asked w [] run last e in
+    let along = a.along in
+    let same : a.mid ≡ last = cc in
+    ap (λ r. r.cell) (sym same) ∙ a.cell
+
+-- nothing happened to a core and its cell
+pub holds_still : {C : Type 0} (core : CoreOf C) (agent : Bool) (x : C) (run last : CellRun) (own : Option HeldOf) → Some run ≡ Some last → Holds core agent x run.cell own
+    → Holds core agent x last.cell own
+holds_still core agent x run last own e holds =
+    let same : run ≡ last = cc in
+    subst (λ r. Holds core agent x r.cell own) same holds
