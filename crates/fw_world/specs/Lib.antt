@@ -1,4 +1,5 @@
 pub mod Lanes
+pub mod LinkLaws
 pub mod Links
 pub mod Replays
 pub mod Worlds
