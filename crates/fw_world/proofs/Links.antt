@@ -4,3 +4,4 @@ pub mod Hears
 pub mod Routes
 pub mod Sorted
 pub mod Ticks
+pub mod Ways
