@@ -1,6 +1,7 @@
 -- Why a step of a link is steps of its two lanes.
 pub mod Goes
 pub mod Hears
+pub mod Moves
 pub mod Routes
 pub mod Sorted
 pub mod Ticks

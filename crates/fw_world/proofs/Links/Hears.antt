@@ -66,6 +66,8 @@ may_settle core x now a b ps es = abandons_may (core.wish x) a.asker.caller.aske
 -- isn't wished any more is given up.
 pub record TakesIn {A B : Type 0} (now : ℕ) (a : HalfOf A) (b : HalfOf B) (row : TakerRow) (reply : List ℕ) (settles : List StepOf) (heard : HalfHeard A) : Type 0 where
   pub passed : IsPassed heard
+  pub own : (half_in heard).own ≡ a.own
+  pub peer : (half_in heard).peer ≡ a.peer
   pub few : length reply ≤ 252
   pub more : List EntryOf
   pub answers : (ps : List Sent) (es : List EntryOf) → taker_does (lane_of now b a ps es) reply row ≡ lane_of now b (half_in heard) (posted now ps (sent_in heard)) (es ++ more)
@@ -79,6 +81,8 @@ takes_read_in : {A B : Type 0} (core : CoreOf A) (quiet works : Bool) (now : ℕ
     (settle_steps core a.asker.caller.asked (reply_read core quiet works a.core c).core) (takes_read core quiet works a requests m head c)
 takes_read_in core quiet works now a b requests m head body (Ok c) told = record {
   passed = tt;
+  own = refl;
+  peer = refl;
   few = told.fits;
   more = EntryOf.Taken head.command body (answer_bytes (core.take a.core c quiet works).answer) ∷ [];
   answers = λ ps es. refl;
@@ -87,6 +91,8 @@ takes_read_in core quiet works now a b requests m head body (Ok c) told = record
 }
 takes_read_in core quiet works now a b requests m head body (Err code) told = record {
   passed = tt;
+  own = refl;
+  peer = refl;
   few = omega arith;
   more = EntryOf.Taken head.command body (code ∷ []) ∷ [];
   answers = λ ps es. refl;
@@ -115,13 +121,13 @@ pub takes_in : {A B : Type 0} (core : CoreOf A) (works : Bool) (now : ℕ) (a : 
     → IsServed row → IsTold (half_takes core works a row)
     → TakesIn now a b row (reply_in core works a row) (take_steps core works a row) (half_takes core works a row)
 takes_in core works now a b (TakerRow.Silent requests) served told = record {
-  passed = tt; few = omega arith; more = [];
+  passed = tt; own = refl; peer = refl; few = omega arith; more = [];
   answers = λ ps es. rw (append-nil es) refl;
   asks = λ ps es. refl;
   may = λ ps es. tt;
 }
 takes_in core works now a b (TakerRow.Repeats requests answer) served told = record {
-  passed = tt; few = omega arith; more = [];
+  passed = tt; own = refl; peer = refl; few = omega arith; more = [];
   answers = λ ps es. rw (append-nil es) refl;
   asks = λ ps es. refl;
   may = λ ps es. tt;
@@ -134,6 +140,8 @@ takes_in core works now a b (TakerRow.Strays requests m) served told = absurd se
 -- which it answers, nothing happens.
 pub record LearnsIn {A B : Type 0} (now : ℕ) (a : HalfOf A) (b : HalfOf B) (row : AskerRow) (settles : List StepOf) (heard : HalfHeard A) : Type 0 where
   pub passed : IsPassed heard
+  pub own : (half_in heard).own ≡ a.own
+  pub peer : (half_in heard).peer ≡ a.peer
   pub none : sent_in heard ≡ []
   pub more : List EntryOf
   pub asks : (ps : List Sent) (es : List EntryOf) → lane_run (asker_does (lane_of now a b ps es) row) settles ≡ lane_of now (half_in heard) b ps (es ++ more)
@@ -143,13 +151,13 @@ pub record LearnsIn {A B : Type 0} (now : ℕ) (a : HalfOf A) (b : HalfOf B) (ro
 pub learns_in : {A B : Type 0} (core : CoreOf A) (works : Bool) (now : ℕ) (a : HalfOf A) (b : HalfOf B) (row : AskerRow)
     → LearnsIn now a b row (learn_steps core works a row) (half_hears_by core works a row (TakerRow.Silent a.taker.requests))
 learns_in core works now a b (AskerRow.Ignores replies) = record {
-  passed = tt; none = refl; more = [];
+  passed = tt; own = refl; peer = refl; none = refl; more = [];
   asks = λ ps es. rw (append-nil es) refl;
   may = λ ps es. tt;
   answers = λ ps es. refl;
 }
 learns_in core works now a b (AskerRow.Learns replies caller heard) = record {
-  passed = tt; none = refl; more = EntryOf.Learnt heard.reply ∷ [];
+  passed = tt; own = refl; peer = refl; none = refl; more = EntryOf.Learnt heard.reply ∷ [];
   asks = λ ps es. settles_in_lane core (core.learn a.core (answer_read heard.command heard.reply) works) now
       (record a { asker = record a.asker { caller = caller; replies = replies } }) b ps (es ++ EntryOf.Learnt heard.reply ∷ []);
   may = λ ps es. may_settle core (core.learn a.core (answer_read heard.command heard.reply) works) now

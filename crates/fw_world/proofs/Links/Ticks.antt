@@ -109,6 +109,31 @@ taker_called f h (AskerTick.GivesUp a) = taker_hears (a.deaf == 0) f (record h {
 taker_goes : {A : Type 0} (f : CoreOf A) (h : HalfOf A) → (half_ticks f true h).half.taker ≡ taker_counts h.taker
 taker_goes f h = taker_called f (record h { taker = taker_counts h.taker }) (asker_counts h.asker)
 
+-- the half stays between the same two nodes
+abbrev pub IsBetween : {A : Type 0} → (own peer : ℕ) → HalfOf A → Type 0
+IsBetween own peer h = (h.own ≡ own) × (h.peer ≡ peer)
+
+same_begun : {A : Type 0} (may : Bool) (h : HalfOf A) (c : CommandOf) (ms : List MessageOf) → IsBetween h.own h.peer (begins_if may h c ms).half
+same_begun true h c ms = (refl, refl)
+same_begun false h c ms = (refl, refl)
+
+same_wishes : {A : Type 0} (wish : Option CommandOf) (h : HalfOf A) (ms : List MessageOf) → IsBetween h.own h.peer (begins_wish wish h ms).half
+same_wishes None h ms = (refl, refl)
+same_wishes (Some c) h ms = same_begun (may_begin h.asker.caller) h c ms
+
+same_hears : {A : Type 0} (hearing : Bool) (f : CoreOf A) (h : HalfOf A) (ms : List MessageOf) → IsBetween h.own h.peer (hears_if hearing f h ms).half
+same_hears true f h ms =
+    same_wishes (f.wish (f.ticked h.core)) (with_caller (record h { core = f.ticked h.core }) (unwished_abandoned (f.wish (f.ticked h.core)) h.asker.caller)) ms
+same_hears false f h ms = (refl, refl)
+
+same_called : {A : Type 0} (f : CoreOf A) (h : HalfOf A) (row : AskerTick) → IsBetween h.own h.peer (called f h row).half
+same_called f h (AskerTick.Waits a) = same_hears (a.deaf == 0) f (record h { asker = a }) []
+same_called f h (AskerTick.Resends a m) = same_hears (a.deaf == 0) f (record h { asker = a }) (m ∷ [])
+same_called f h (AskerTick.GivesUp a) = same_hears (a.deaf == 0) f (record h { asker = a; core = f.silent h.core }) []
+
+pub same_ticked : {A : Type 0} (f : CoreOf A) (h : HalfOf A) → IsBetween h.own h.peer (half_ticks f true h).half
+same_ticked f h = same_called f (record h { taker = taker_counts h.taker }) (asker_counts h.asker)
+
 -- whether the half hears after the tick
 abbrev pub hears_then : AskerTick → Bool
 hears_then (AskerTick.Waits a) = a.deaf == 0
