@@ -68,7 +68,7 @@ sorted_out test now ps ms h =
     ∙ ap (λ qs. filter test ps ++ qs) (none_passes test (map (sent_at now) (all_packets ms)) h) ∙ append-nil (filter test ps)
 
 -- the first is number 1
-numbered_at : {A : Type 0} (xs : List A) (n : ℕ) → numbered xs (suc n) ≡ slice_get xs n
+pub numbered_at : {A : Type 0} (xs : List A) (n : ℕ) → numbered xs (suc n) ≡ slice_get xs n
 numbered_at xs n =
     let some : nat_lt 0 (suc n) ≡ true = lt-ltb 0 (suc n) (omega arith) in
     let less : suc n - 1 ≡ n = omega arith in
