@@ -2,6 +2,7 @@
 pub mod Comings
 pub mod Goes
 pub mod Hears
+pub mod InLanes
 pub mod Moves
 pub mod Routes
 pub mod Sorted
