@@ -1,5 +1,6 @@
 pub mod Joins
 pub mod Lanes
+pub mod LinkLaws
 pub mod Links
 pub mod Replays
 pub mod Worlds

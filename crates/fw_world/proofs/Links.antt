@@ -1,0 +1,10 @@
+-- Why a step of a link is steps of its two lanes.
+pub mod Comings
+pub mod Goes
+pub mod Hears
+pub mod InLanes
+pub mod Moves
+pub mod Routes
+pub mod Sorted
+pub mod Ticks
+pub mod Ways
