@@ -5,6 +5,7 @@ pub mod Calls
 pub mod Cells
 pub mod DeviceSide
 pub mod Goes
+pub mod Learns
 pub mod Links
 pub mod Rows
 pub mod Sides
