@@ -9,4 +9,5 @@ pub mod Learns
 pub mod Links
 pub mod Rows
 pub mod Sides
+pub mod Takes
 pub mod Ticks
