@@ -3,6 +3,7 @@ pub mod AgentSide
 pub mod Asks
 pub mod Calls
 pub mod Cells
+pub mod Delivers
 pub mod DeviceSide
 pub mod Goes
 pub mod Learns
