@@ -73,7 +73,7 @@ after_hearing false core x = x
 
 -- The last part of a tick.
 pub hears_from : {C : Type 0} {packages : List PackageText} {core : CoreOf C} {agent : Bool} {place : Place C} {peer_wish : Option CommandOf} {notes : Notes C} (side : Sided packages core agent place peer_wish notes)
-    (hears : Bool) (caller : CallerState) (x : C) (own other : Option HeldOf) (w : LaneOf) (run last : CellRun) → WritesCommands → IsWishedIn other peer_wish → IfSome (core.wish (after_hearing hears core x)) IsSpoken
+    (hears : Bool) (caller : CallerState) (x : C) (own other : Option HeldOf) (w : LaneOf) (run last : CellRun) → WritesCommands → IsWishedIn other peer_wish → (hears ≡ true → IfSome (core.wish (after_hearing hears core x)) IsSpoken)
     → Holds core agent x run.cell own → awaited run.cell ≡ option_map asking caller.asked
     → cells_along w (hearing_steps hears core x caller) (Some run) ≡ Some last
     → Goes packages core agent place (place x own other) other (after_hearing hears core x) last.cell
@@ -81,5 +81,5 @@ hears_from {C} {packages} {core} {agent} {place} side true caller x own other w 
     let a = abandoned (core.wish (core.ticked x)) caller.asked w (wish_steps (core.wish (core.ticked x)) (unwished_abandoned (core.wish (core.ticked x)) caller)) run last e in
     let settled = settles core agent (core.ticked x) caller.asked run.cell a.mid.cell own waits holds.stands holds.is_for a.cell in
     goes_on (side.tick x own other k holds.wished)
-    (wishes_from side (core.wish (core.ticked x)) (unwished_abandoned (core.wish (core.ticked x)) caller) (core.ticked x) (closed_unless (core.wish (core.ticked x)) own) other a.lane a.mid last written k refl spoken settled a.along)
+    (wishes_from side (core.wish (core.ticked x)) (unwished_abandoned (core.wish (core.ticked x)) caller) (core.ticked x) (closed_unless (core.wish (core.ticked x)) own) other a.lane a.mid last written k refl (spoken refl) settled a.along)
 hears_from side false caller x own other w run last written k spoken holds waits e = stays_so x own other run last holds e

@@ -17,6 +17,7 @@ use Rattle.fw_node.specs.Cores.{device_core, session_core}
 use Rattle.fw_node.specs.Halves.{half_ticks}
 use Rattle.fw_world.specs.Joins.{IsWishedIn, Joined}
 use Rattle.fw_world.specs.Lanes.{down_lane, tick_steps, up_lane}
+use Rattle.fw_world.specs.LinkLaws.{Speaks}
 use Rattle.fw_world.specs.Links.{LinkOf, LinkStepped, link_ticks, unnoted}
 use Rattle.fw_world.proofs.Joins.AgentSide.{agent_place, agent_side}
 use Rattle.fw_world.proofs.Joins.DeviceSide.{device_place, device_side}
@@ -82,8 +83,7 @@ both_joined packages l down_cell up_cell down up b = record {
 -- A tick of a link: the agent's half, then the device's.
 pub tick_joins : (packages : List PackageText) (now : ℕ) (l : LinkOf) (agent device : Bool) (down up : Option HeldOf) (down_past up_past : List LaneEntry) (down_run up_run down_last up_last : CellRun)
     → WritesCommands → BothHold packages l down_run.cell up_run.cell down up → BothWait l down_run.cell up_run.cell
-    → IfSome ((session_core packages).wish (half_ticks (session_core packages) agent l.agent).half.core) IsSpoken
-    → IfSome (device_core.wish (half_ticks device_core device l.device).half.core) IsSpoken
+    → Speaks (session_core packages) l.agent → Speaks device_core l.device
     → cells_along (down_lane now l down_past) (tick_steps (session_core packages) agent device l.agent) (Some down_run) ≡ Some down_last
     → cells_along (up_lane now l up_past) (tick_steps device_core device agent l.device) (Some up_run) ≡ Some up_last
     → LinkGoes packages (pair_at l down up) (unnoted (link_ticks now packages l agent device)) down_last.cell up_last.cell

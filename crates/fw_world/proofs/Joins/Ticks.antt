@@ -17,10 +17,12 @@ use Rattle.fw_message.specs.Pairs.{HeldOf, PairOf, closed_unless, fresh_cell}
 use Rattle.fwup_wire.proofs.SameCommands.{same_self}
 use Rattle.fw_node.specs.Halves.{CoreOf, HalfOf, begins_if, begins_wish, called, half_ticks, hears_if, unwished_abandoned, with_caller}
 use Rattle.fw_world.specs.Joins.{IsHeldFor, IsWishedIn, StandsFor}
+use Rattle.fw_world.specs.LinkLaws.{Speaks}
 use Rattle.fw_world.specs.Lanes.{begin_steps, called_steps, counted_steps, hearing_steps, wish_steps}
 use Rattle.fw_world.proofs.Joins.Asks.{after_hearing, goes_on, hears_from}
 use Rattle.fw_world.proofs.Joins.Goes.{Goes, Holds, went}
-use Rattle.fw_world.proofs.Joins.Rows.{RowWaits, row_waits}
+use Rattle.fw_world.proofs.Joins.Rows.{RowWaits, deaf_before, row_waits}
+use Rattle.fw_world.proofs.Links.Ticks.{hears_then}
 use Rattle.fw_world.proofs.Joins.Sides.{Leads, Notes, Place, Sided, leads_on, no_step}
 
 -- A half goes on, and the request that waits is the one that waited.
@@ -117,7 +119,7 @@ after_row core x (AskerTick.GivesUp a) = after_hearing (a.deaf == 0) core (core.
 -- a part that rests or gives up, and the last part
 then_hears : {C : Type 0} {packages : List PackageText} {core : CoreOf C} {agent : Bool} {place : Place C} {peer_wish : Option CommandOf} {notes : Notes C} (side : Sided packages core agent place peer_wish notes)
     (m : PairOf) (other : Option HeldOf) (x : C) (w : LaneOf) (run last : CellRun) (waits : Option (ℕ × List ℕ)) (hears : Bool) (caller : CallerState) → WritesCommands → IsWishedIn other peer_wish
-    → IfSome (core.wish (after_hearing hears core x)) IsSpoken
+    → (hears ≡ true → IfSome (core.wish (after_hearing hears core x)) IsSpoken)
     → Rests packages core agent place m other x run.cell waits → option_map asking caller.asked ≡ waits
     → cells_along w (hearing_steps hears core x caller) (Some run) ≡ Some last
     → Goes packages core agent place m other (after_hearing hears core x) last.cell
@@ -125,7 +127,7 @@ then_hears side m other x w run last waits hears caller written k spoken r is e 
     goes_on r.goes.leads (hears_from side hears caller x r.goes.own other w run last written k spoken r.goes.holds (r.waiting ∙ sym is) e)
 
 calls_from : {C : Type 0} {packages : List PackageText} {core : CoreOf C} {agent : Bool} {place : Place C} {peer_wish : Option CommandOf} {notes : Notes C} (side : Sided packages core agent place peer_wish notes)
-    (row : AskerTick) (x : C) (own other : Option HeldOf) (w : LaneOf) (run mid last : CellRun) → WritesCommands → IsWishedIn other peer_wish → IfSome (core.wish (after_row core x row)) IsSpoken
+    (row : AskerTick) (x : C) (own other : Option HeldOf) (w : LaneOf) (run mid last : CellRun) → WritesCommands → IsWishedIn other peer_wish → (hears_then row ≡ true → IfSome (core.wish (after_row core x row)) IsSpoken)
     → Holds core agent x run.cell own → RowWaits row (awaited run.cell) → cell_ticks row run ≡ Some mid
     → cells_along w (called_steps core x row) (Some mid) ≡ Some last
     → Goes packages core agent place (place x own other) other (after_row core x row) last.cell
@@ -160,7 +162,7 @@ core_ticked core h = core_called core (record h { taker = taker_counts h.taker }
 
 -- A tick of a half that counts it, by its row and its cell.
 counts_on : {C : Type 0} {packages : List PackageText} {core : CoreOf C} {agent : Bool} {place : Place C} {peer_wish : Option CommandOf} {notes : Notes C} (side : Sided packages core agent place peer_wish notes)
-    (h : HalfOf C) (own other : Option HeldOf) (w : LaneOf) (run last : CellRun) → WritesCommands → IsWishedIn other peer_wish → IfSome (core.wish (half_ticks core true h).half.core) IsSpoken
+    (h : HalfOf C) (own other : Option HeldOf) (w : LaneOf) (run last : CellRun) → WritesCommands → IsWishedIn other peer_wish → Speaks core h
     → Holds core agent h.core run.cell own → awaited run.cell ≡ option_map asking h.asker.caller.asked
     → cells_along w (counted_steps core true h) (cell_ticks (asker_counts h.asker) run) ≡ Some last
     → Goes packages core agent place (place h.core own other) other (half_ticks core true h).half.core last.cell
@@ -168,13 +170,13 @@ counts_on {C} {packages} {core} {agent} {place} side h own other w run last writ
     let on = went w (counted_steps core true h) (cell_ticks (asker_counts h.asker) run) last e in
     subst (λ x. Goes packages core agent place (place h.core own other) other x last.cell) (sym (core_ticked core h))
     (calls_from side (asker_counts h.asker) h.core own other w run on.run last written k
-    (subst (λ x. IfSome (core.wish x) IsSpoken) (core_ticked core h) spoken) holds
+    (λ hears. subst (λ x. IfSome (core.wish x) IsSpoken) (core_ticked core h) (spoken (deaf_before h.asker hears))) holds
     (subst (RowWaits (asker_counts h.asker)) (sym waits) (row_waits h.asker))
     on.is (ap (cells_along w (counted_steps core true h)) (sym on.is) ∙ e))
 
 -- A tick of a half, whether it counts it or not.
 pub half_ticks_on : {C : Type 0} {packages : List PackageText} {core : CoreOf C} {agent : Bool} {place : Place C} {peer_wish : Option CommandOf} {notes : Notes C} (side : Sided packages core agent place peer_wish notes)
-    (counts : Bool) (h : HalfOf C) (own other : Option HeldOf) (w : LaneOf) (run last : CellRun) → WritesCommands → IsWishedIn other peer_wish → IfSome (core.wish (half_ticks core counts h).half.core) IsSpoken
+    (counts : Bool) (h : HalfOf C) (own other : Option HeldOf) (w : LaneOf) (run last : CellRun) → WritesCommands → IsWishedIn other peer_wish → Speaks core h
     → Holds core agent h.core run.cell own → awaited run.cell ≡ option_map asking h.asker.caller.asked
     → cells_along w (counted_steps core counts h) (cell_ticks (asker_tick counts h.asker) run) ≡ Some last
     → Goes packages core agent place (place h.core own other) other (half_ticks core counts h).half.core last.cell
