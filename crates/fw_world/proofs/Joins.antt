@@ -12,3 +12,4 @@ pub mod Rows
 pub mod Sides
 pub mod Takes
 pub mod Ticks
+pub mod Whole

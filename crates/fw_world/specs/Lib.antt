@@ -1,3 +1,4 @@
+pub mod JoinLaws
 pub mod Joins
 pub mod Lanes
 pub mod LinkLaws
