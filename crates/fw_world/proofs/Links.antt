@@ -3,7 +3,9 @@ pub mod Comings
 pub mod Goes
 pub mod Hears
 pub mod InLanes
+pub mod Misses
 pub mod Moves
+pub mod Openings
 pub mod Routes
 pub mod Sorted
 pub mod Ticks
