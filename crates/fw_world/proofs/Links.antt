@@ -6,6 +6,7 @@ pub mod InLanes
 pub mod Misses
 pub mod Moves
 pub mod Openings
+pub mod Routed
 pub mod Routes
 pub mod Sorted
 pub mod Ticks

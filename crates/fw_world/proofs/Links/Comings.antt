@@ -167,7 +167,7 @@ fact_at P [] i x h e = absurd (cc)
 fact_at P (y ∷ ys) zero x h e = let is : y ≡ x = cc in rw is at h.0
 fact_at P (y ∷ ys) (suc i) x h e = fact_at P ys i x h.1 e
 
-fact_of : {A : Type 0} (P : A → Type 0) (xs : List A) (number : ℕ) (x : A) → AllByRecursion P xs → numbered xs number ≡ Some x → P x
+pub fact_of : {A : Type 0} (P : A → Type 0) (xs : List A) (number : ℕ) (x : A) → AllByRecursion P xs → numbered xs number ≡ Some x → P x
 fact_of P xs zero x h e = absurd (cc)
 fact_of P xs (suc i) x h e = fact_at P xs i x h (sym (numbered_at xs i) ∙ e)
 
