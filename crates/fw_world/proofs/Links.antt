@@ -6,8 +6,10 @@ pub mod InLanes
 pub mod Misses
 pub mod Moves
 pub mod Openings
+pub mod Phases
 pub mod Routed
 pub mod Routes
+pub mod Sendings
 pub mod Sorted
 pub mod Ticks
 pub mod Ways

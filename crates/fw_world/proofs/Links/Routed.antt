@@ -30,7 +30,7 @@ use Rattle.exch_lane.specs.declared.step.End.TheVariants as ends
 use Rattle.fw_world.proofs.Links.Routes.{both_hold}
 
 -- a fact of both ways of a choice
-if_either : {A : Type 0} (P : A → Type 0) (b : Bool) (x y : A) → P x → P y → P (if b then x else y)
+pub if_either : {A : Type 0} (P : A → Type 0) (b : Bool) (x y : A) → P x → P y → P (if b then x else y)
 if_either P true x y h k = h
 if_either P false x y h k = k
 
