@@ -3,8 +3,13 @@ pub mod Comings
 pub mod Goes
 pub mod Hears
 pub mod InLanes
+pub mod Misses
 pub mod Moves
+pub mod Openings
+pub mod Phases
+pub mod Routed
 pub mod Routes
+pub mod Sendings
 pub mod Sorted
 pub mod Ticks
 pub mod Ways

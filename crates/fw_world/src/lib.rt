@@ -3,6 +3,7 @@
 #![tactic(auto)]
 
 mod joined;
+mod laws;
 mod step;
 
 pub use fw_message::{
@@ -10,4 +11,5 @@ pub use fw_message::{
     message_replay, messages_are_safe, runs_stay_tied, worlds_are_safe,
 };
 pub use joined::links_are_messages;
+pub use laws::links_are_lanes;
 pub use step::{LogRequest, Refusal, Step, StepFault};

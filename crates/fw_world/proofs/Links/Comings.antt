@@ -1,11 +1,11 @@
 -- A packet comes to a half, on both ways between it and the other.
-use Rattle.std.proofs.Common.{◌≡◌, ◌≢◌, ◌⊎◌, ◌≤◌, ◌+◌, ◌-◌, ◌==◌, ◌∙◌, ℕ, zero, suc, Bool, true, false, if◌then◌else◌, List, [], ◌∷◌, ◌++◌, nat_lt, slice_get, Option, Some, None, inl, inr, refl, sym, ap, subst, arith}
+use Rattle.std.proofs.Common.{◌≡◌, ◌≢◌, ◌⊎◌, ◌≤◌, ◌+◌, ◌==◌, ◌∙◌, ℕ, zero, suc, Bool, true, false, if◌then◌else◌, List, [], ◌∷◌, ◌++◌, slice_get, Option, Some, None, inl, inr, refl, sym, ap, subst, arith}
 use Rattle.std.specs.List.{AllByRecursion, filter}
 use Rattle.std.proofs.lemmas.List.{append-nil}
 use Rattle.std.proofs.lemmas.Bool.{le-ltb}
 use Rattle.pldm_exch.specs.Sides.{AskerRow, TakerRow, asker_row, taker_row}
 use Rattle.exch_lane.specs.Cells.{CellRun, cell_at_taker, cell_delivers, cell_take}
-use Rattle.exch_lane.specs.Lanes.{EntryOf, LaneOf, Sent, StepOf, numbered}
+use Rattle.exch_lane.specs.Lanes.{LaneOf, Sent, StepOf, numbered}
 use Rattle.exch_lane.specs.Laws.{LaneIsACell, in_lane}
 use Rattle.exch_lane.specs.Steps.{MayRun, MayTake, asker_does, delivers, lane_after, lane_run, may_deliver, taker_does}
 use Rattle.exch_lane.specs.declared.step.End.TheVariants as ends
@@ -13,11 +13,11 @@ use Rattle.fw_node.specs.Halves.{CoreOf, HalfHeard, HalfOf, half_hears, half_hea
 use Rattle.fw_node.specs.Nodes.{IsTold}
 use Rattle.fw_world.specs.Lanes.{answer_steps, ask_steps, is_of, lane_of, learn_steps, number_in, reply_in, take_steps, way_of}
 use Rattle.fw_world.specs.Links.{posted}
-use Rattle.fw_world.proofs.Links.Goes.{Follows, follows}
-use Rattle.fw_world.proofs.Links.Hears.{IsPassed, IsServed, LearnsIn, TakesIn, half_in, learns_in, sent_in, takes_in}
+use Rattle.fw_world.proofs.Links.Goes.{follows}
+use Rattle.fw_world.proofs.Links.Hears.{IsPassed, IsServed, half_in, learns_in, sent_in, takes_in}
 use Rattle.fw_world.proofs.Links.Routes.{answers_nothing, asks_nothing, other_lane}
 use Rattle.fw_world.proofs.Links.Sorted.{lane_number, numbered_at}
-use Rattle.fw_world.proofs.Links.Ways.{AreSame, BothWays, Comes, IsOfEither, WaysGo, ways_go}
+use Rattle.fw_world.proofs.Links.Ways.{BothWays, IsOfEither, WaysGo, ways_go}
 
 -- a living packet may come in its lane
 may_come : (w : LaneOf) (number : ℕ) (s : Sent) → numbered w.packets number ≡ Some s → w.now ≤ s.date + 8 → may_deliver w.now (numbered w.packets number) ≡ None
@@ -44,9 +44,9 @@ served_here law now a b ps h n s is soon =
     let w = way_of now b a ps h.answers.run.entries in
     let may : MayTake w (StepOf.Deliver n ends.Taker []) = record { lawful = omega arith; may = may_come w n s is soon; beats = tt } in
     let f = follows law b.own a.own (way_of now b a ps) h.answers (StepOf.Deliver n ends.Taker [] ∷ [])
-        (record { asker = h.ends.taker; taker = h.ends.asker; differ = λ z. h.ends.differ (sym z) }) (may, tt) in
+    (record { asker = h.ends.taker; taker = h.ends.asker; differ = λ z. h.ends.differ (sym z) }) (may, tt) in
     let goes : cell_delivers w ends.Taker [] (Some s) h.answers.run ≡ Some f.run =
-        subst (λ o. cell_delivers w ends.Taker [] o h.answers.run ≡ Some f.run) is f.along in
+    subst (λ o. cell_delivers w ends.Taker [] o h.answers.run ≡ Some f.run) is f.along in
     subst IsServed (same_row a b s.bytes h.peer h.back) (served_row (taker_row b.peer b.own a.taker s.bytes) h.answers.run f.run goes)
 
 -- What a half hears, on both ways.
@@ -167,7 +167,7 @@ fact_at P [] i x h e = absurd (cc)
 fact_at P (y ∷ ys) zero x h e = let is : y ≡ x = cc in rw is at h.0
 fact_at P (y ∷ ys) (suc i) x h e = fact_at P ys i x h.1 e
 
-fact_of : {A : Type 0} (P : A → Type 0) (xs : List A) (number : ℕ) (x : A) → AllByRecursion P xs → numbered xs number ≡ Some x → P x
+pub fact_of : {A : Type 0} (P : A → Type 0) (xs : List A) (number : ℕ) (x : A) → AllByRecursion P xs → numbered xs number ≡ Some x → P x
 fact_of P xs zero x h e = absurd (cc)
 fact_of P xs (suc i) x h e = fact_at P xs i x h (sym (numbered_at xs i) ∙ e)
 

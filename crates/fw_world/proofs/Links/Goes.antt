@@ -38,7 +38,7 @@ follows_from law asker taker before w was ss ends may is along more =
     let start = lane_new asker taker in
     let runs : lane_run start (before ++ ss) ≡ lane_run w ss = run_behind start before ss ∙ ap (λ v. lane_run v ss) is in
     let cells : cells_along start (before ++ ss) (Some no_cell_yet) ≡ cells_along w ss (Some was) =
-        cells_behind start before ss (Some no_cell_yet) ∙ ap (λ v. cells_along v ss (cells_along start before (Some no_cell_yet))) is ∙ ap (cells_along w ss) along in
+    cells_behind start before ss (Some no_cell_yet) ∙ ap (λ v. cells_along v ss (cells_along start before (Some no_cell_yet))) is ∙ ap (cells_along w ss) along in
     follows_to w ss was (cells_along w ss (Some was)) refl
     (subst (λ r. IsSomeAnd r (IsCellOf (lane_run w ss))) cells
     (subst (λ v. IsSomeAnd (cells_along start (before ++ ss) (Some no_cell_yet)) (IsCellOf v)) runs

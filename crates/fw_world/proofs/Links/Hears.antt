@@ -1,17 +1,16 @@
 -- A packet at a half, in the lane in which it asks and in the lane in which it answers.
-use Rattle.std.proofs.Common.{◌≡◌, ◌∙◌, ℕ, ◌==◌, ◌≤◌, Bool, true, false, if◌then◌else◌, List, [], ◌∷◌, ◌++◌, length, Option, Some, None, Ok, Err, Result, is_some, refl, sym, ap, subst, arith}
+use Rattle.std.proofs.Common.{◌≡◌, ℕ, ◌==◌, ◌≤◌, Bool, true, false, List, [], ◌∷◌, ◌++◌, length, Option, Some, None, Ok, Err, Result, is_some, refl, arith}
 use Rattle.std.proofs.lemmas.List.{append-nil}
 use Rattle.mctp_reasm.specs.Held.{Held}
 use Rattle.mctp_reasm.specs.Pieces.{MessageOf}
 use Rattle.pldm_base.specs.declared.header.PldmHead.{PldmHead}
-use Rattle.pldm_exch.specs.Caller.{CallerState, Heard, Open, is_quiet}
-use Rattle.pldm_exch.specs.Requests.{reply_message}
+use Rattle.pldm_exch.specs.Caller.{Open, is_quiet}
 use Rattle.pldm_exch.specs.Sides.{AskerRow, TakerRow}
 use Rattle.fwup_wire.specs.Answers.{answer_bytes, answer_read}
 use Rattle.fwup_wire.specs.Values.{CommandOf}
 use Rattle.exch_lane.specs.Lanes.{EntryOf, LaneOf, Sent, StepOf}
 use Rattle.exch_lane.specs.Steps.{MayRun, asker_does, lane_run, taker_does}
-use Rattle.fw_node.specs.Halves.{CoreOf, HalfHeard, HalfOf, half_hears_by, half_takes, kept_if, read_by, reply_read, settled, still_wished, takes_if, takes_read, unwished_abandoned, unwished_for, with_caller}
+use Rattle.fw_node.specs.Halves.{CoreOf, HalfHeard, HalfOf, half_hears_by, half_takes, kept_if, read_by, reply_read, settled, still_wished, takes_if, takes_read, unwished_for, with_caller}
 use Rattle.fw_node.specs.Nodes.{IsTold}
 use Rattle.fw_world.specs.Lanes.{abandon_steps, lane_of, learn_steps, reply_in, settle_steps, take_steps, unless_wished}
 use Rattle.fw_world.specs.Links.{posted}
@@ -121,13 +120,21 @@ pub takes_in : {A B : Type 0} (core : CoreOf A) (works : Bool) (now : ℕ) (a : 
     → IsServed row → IsTold (half_takes core works a row)
     → TakesIn now a b row (reply_in core works a row) (take_steps core works a row) (half_takes core works a row)
 takes_in core works now a b (TakerRow.Silent requests) served told = record {
-  passed = tt; own = refl; peer = refl; few = omega arith; more = [];
+  passed = tt;
+  own = refl;
+  peer = refl;
+  few = omega arith;
+  more = [];
   answers = λ ps es. rw (append-nil es) refl;
   asks = λ ps es. refl;
   may = λ ps es. tt;
 }
 takes_in core works now a b (TakerRow.Repeats requests answer) served told = record {
-  passed = tt; own = refl; peer = refl; few = omega arith; more = [];
+  passed = tt;
+  own = refl;
+  peer = refl;
+  few = omega arith;
+  more = [];
   answers = λ ps es. rw (append-nil es) refl;
   asks = λ ps es. refl;
   may = λ ps es. tt;
@@ -151,13 +158,21 @@ pub record LearnsIn {A B : Type 0} (now : ℕ) (a : HalfOf A) (b : HalfOf B) (ro
 pub learns_in : {A B : Type 0} (core : CoreOf A) (works : Bool) (now : ℕ) (a : HalfOf A) (b : HalfOf B) (row : AskerRow)
     → LearnsIn now a b row (learn_steps core works a row) (half_hears_by core works a row (TakerRow.Silent a.taker.requests))
 learns_in core works now a b (AskerRow.Ignores replies) = record {
-  passed = tt; own = refl; peer = refl; none = refl; more = [];
+  passed = tt;
+  own = refl;
+  peer = refl;
+  none = refl;
+  more = [];
   asks = λ ps es. rw (append-nil es) refl;
   may = λ ps es. tt;
   answers = λ ps es. refl;
 }
 learns_in core works now a b (AskerRow.Learns replies caller heard) = record {
-  passed = tt; own = refl; peer = refl; none = refl; more = EntryOf.Learnt heard.reply ∷ [];
+  passed = tt;
+  own = refl;
+  peer = refl;
+  none = refl;
+  more = EntryOf.Learnt heard.reply ∷ [];
   asks = λ ps es. settles_in_lane core (core.learn a.core (answer_read heard.command heard.reply) works) now
       (record a { asker = record a.asker { caller = caller; replies = replies } }) b ps (es ++ EntryOf.Learnt heard.reply ∷ []);
   may = λ ps es. may_settle core (core.learn a.core (answer_read heard.command heard.reply) works) now

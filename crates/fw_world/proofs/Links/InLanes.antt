@@ -1,9 +1,9 @@
 -- A step of a link is steps of its two lanes.
-use Rattle.std.proofs.Common.{◌≡◌, ◌≤◌, ◌<◌, ◌+◌, ◌-◌, ◌^◌, ◌∙◌, ℕ, Bool, true, false, if◌then◌else◌, List, [], ◌∷◌, nat_lt, Option, Some, None, IfSome, IsSomeAnd, is_some, refl, sym, ap, subst}
+use Rattle.std.proofs.Common.{◌≡◌, ◌≤◌, ◌+◌, ◌-◌, ◌^◌, ℕ, Bool, true, false, if◌then◌else◌, List, [], ◌∷◌, Option, Some, None, IfSome, IsSomeAnd, is_some, refl}
 use Rattle.std.proofs.lemmas.Bool.{le-ltb, lt-ltb}
 use Rattle.fw_package.specs.Package.{PackageText}
 use Rattle.fd_core.specs.Steps.{Judged, device_verdict}
-use Rattle.ua_core.specs.Calls.{agent_activated, agent_cancelled, agent_started, may_cancel}
+use Rattle.ua_core.specs.Calls.{agent_activated, agent_started}
 use Rattle.ua_core.specs.Session.{SessionOf, TimedOf}
 use Rattle.exch_lane.specs.Lanes.{Sent, StepOf, numbered}
 use Rattle.exch_lane.specs.Laws.{LaneIsACell}
@@ -17,7 +17,7 @@ use Rattle.fw_node.specs.Halves.{HalfHeard, HalfOf, half_hears}
 use Rattle.fw_world.specs.Lanes.{LinkExplained, activate_steps, down_comes, down_steps, judge_steps, up_comes, up_steps}
 use Rattle.fw_world.specs.LinkLaws.{CanBeSaid, IsToldOn, LinksAreLanes, MayHappen, StepsInLanes}
 use Rattle.fw_world.specs.Links.{LinkOf, LinkStep, LinkStepped, activates_on, agent_heard, delivers_on, device_heard, hears_on, judges_on, link_after, link_ticks, posted, time_after, unnoted}
-use Rattle.fw_world.proofs.Links.Comings.{HearsAs, hears_in_lane}
+use Rattle.fw_world.proofs.Links.Comings.{hears_in_lane}
 use Rattle.fw_world.proofs.Links.Hears.{IsPassed, half_in, sent_in}
 use Rattle.fw_world.proofs.Links.Moves.{call_ways, restart_ways, tick_ways}
 use Rattle.fw_world.proofs.Links.Ways.{BothWays, WaysGo, turned}

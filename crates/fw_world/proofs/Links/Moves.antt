@@ -1,27 +1,17 @@
 -- What a half does, on both ways between it and the other.
-use Rattle.std.proofs.Common.{◌≡◌, ◌≢◌, ◌≤◌, ◌<◌, ◌+◌, ◌-◌, ◌^◌, ◌==◌, ◌∙◌, ℕ, zero, suc, Bool, true, false, List, [], ◌∷◌, ◌++◌, nat_le, nat_lt, slice_get, Option, Some, None, IfSome, inl, inr, refl, sym, ap, subst, arith}
-use Rattle.std.specs.List.{AllByRecursion, filter}
+use Rattle.std.proofs.Common.{◌≡◌, ◌<◌, ◌+◌, ◌-◌, ◌^◌, ◌∙◌, ℕ, true, List, [], ◌∷◌, refl, sym, ap, arith}
+use Rattle.std.specs.List.{filter}
 use Rattle.std.proofs.lemmas.List.{append-nil}
-use Rattle.std.proofs.lemmas.Bool.{le-ltb}
-use Rattle.fwup_wire.specs.Commands.{IsSpoken}
-use Rattle.pldm_exch.specs.Sides.{AskerRow, TakerRow, asker_row, taker_row}
-use Rattle.exch_lane.specs.Cells.{CellRun, cell_at_taker, cells_along}
-use Rattle.exch_lane.specs.Lanes.{EntryOf, LaneOf, Sent, StepOf, numbered}
-use Rattle.exch_lane.specs.Laws.{LaneIsACell, in_lane}
-use Rattle.exch_lane.specs.Steps.{MayRun, asker_does, delivers, lane_run, may_deliver, taker_does}
-use Rattle.exch_lane.specs.declared.step.End.{End}
+use Rattle.exch_lane.specs.Lanes.{EntryOf, Sent, StepOf}
+use Rattle.exch_lane.specs.Laws.{LaneIsACell}
 use Rattle.exch_lane.specs.declared.step.End.TheVariants as ends
-use Rattle.fw_node.specs.Halves.{CoreOf, HalfHeard, HalfOf, half_hears, half_hears_by, half_restarts, half_takes, half_ticks, settled}
-use Rattle.fw_node.specs.Nodes.{IsTold}
-use Rattle.fw_world.specs.Lanes.{answer_steps, ask_steps, is_of, lane_of, learn_steps, number_in, reply_in, settle_steps, take_steps, tick_steps, way_of}
+use Rattle.fw_node.specs.Halves.{CoreOf, HalfOf, half_restarts, half_ticks, settled}
+use Rattle.fw_world.specs.Lanes.{is_of, lane_of, settle_steps, tick_steps}
 use Rattle.fw_world.specs.LinkLaws.{Speaks}
 use Rattle.fw_world.specs.Links.{posted}
-use Rattle.fw_world.proofs.Links.Goes.{Follows, follows}
-use Rattle.fw_world.proofs.Links.Hears.{IsPassed, IsServed, LearnsIn, TakesIn, half_in, learns_in, may_settle, sent_in, settles_in_lane, takes_in}
-use Rattle.fw_world.proofs.Links.Routes.{answers_nothing, asks_nothing}
-use Rattle.fw_world.proofs.Links.Sorted.{lane_number}
-use Rattle.fw_world.proofs.Links.Ticks.{Leads, same_ticked, tick_in_lane}
-use Rattle.fw_world.proofs.Links.Ways.{AreSame, BothWays, Comes, WaysGo, turned, ways_go}
+use Rattle.fw_world.proofs.Links.Hears.{may_settle, settles_in_lane}
+use Rattle.fw_world.proofs.Links.Ticks.{same_ticked, tick_in_lane}
+use Rattle.fw_world.proofs.Links.Ways.{BothWays, Comes, WaysGo, ways_go}
 
 -- a tick
 ticks_come : {A B : Type 0} (f : CoreOf A) (g : CoreOf B) (now : ℕ) (a : HalfOf A) (b : HalfOf B) (ps : List Sent) (es : List EntryOf) → now < 2 ^ 32 - 1 → Speaks f a

@@ -1,17 +1,16 @@
 -- A packet of one of a link's lanes isn't for the ends of the other.
-use Rattle.std.proofs.Common.{◌≡◌, ◌≢◌, ◌∙◌, ℕ, ◌==◌, ◌&&◌, not, Bool, true, false, if◌then◌else◌, List, Option, Some, None, Ok, Err, Result, refl, sym, ap, inl, inr}
+use Rattle.std.proofs.Common.{◌≡◌, ◌≢◌, ◌∙◌, ℕ, ◌==◌, ◌&&◌, not, Bool, true, false, if◌then◌else◌, List, None, Ok, Err, Result, refl, sym, inl, inr}
 use Rattle.std.proofs.lemmas.Bool.{ne_eqb}
 use Rattle.std.proofs.lemmas.Bool.Decides.{eqb_tells}
 use Rattle.mctp_wire.specs.Packet as wire
 use Rattle.mctp_wire.specs.declared.fault.WireFault.{WireFault}
 use Rattle.mctp_wire.specs.declared.layout.Head.{Head}
 use Rattle.mctp_reasm.specs.Inboxes.{for_end, is_for, packet_for}
-use Rattle.mctp_reasm.specs.Pieces.{packet_of}
 use Rattle.pldm_exch.specs.Ends.{AskerOf, TakerOf}
 use Rattle.pldm_exch.specs.Sides.{AskerRow, TakerRow, asker_row, taker_row}
-use Rattle.exch_lane.specs.Laws.{in_lane, is_between, read_between}
+use Rattle.exch_lane.specs.Laws.{in_lane, read_between}
 
-both_hold : (a b : Bool) → (a && b) ≡ true → (a ≡ true) × (b ≡ true)
+pub both_hold : (a b : Bool) → (a && b) ≡ true → (a ≡ true) × (b ≡ true)
 both_hold true true e = (refl, refl)
 both_hold true false e = absurd (cc)
 both_hold false b e = absurd (cc)
@@ -76,13 +75,13 @@ other_read x y (Err fault) differ e = refl
 pub other_lane : (x y : ℕ) (bytes : List ℕ) → x ≢ y → in_lane x y bytes ≡ true → in_lane y x bytes ≡ false
 other_lane x y bytes differ e = other_read x y (wire.packet_of bytes) differ e
 
-silent_asker : (a : AskerOf) (own peer : ℕ) (bytes : List ℕ) → packet_for own peer false bytes ≡ None → asker_row own peer a bytes ≡ AskerRow.Ignores a.replies
+pub silent_asker : (a : AskerOf) (own peer : ℕ) (bytes : List ℕ) → packet_for own peer false bytes ≡ None → asker_row own peer a bytes ≡ AskerRow.Ignores a.replies
 silent_asker a own peer bytes e = elim (eqb_tells a.deaf 0) [
   | inl same ↦ rw (same.0, e) refl
   | inr other ↦ rw other.0 refl
 ]
 
-silent_taker : (t : TakerOf) (own peer : ℕ) (bytes : List ℕ) → packet_for own peer true bytes ≡ None → taker_row own peer t bytes ≡ TakerRow.Silent t.requests
+pub silent_taker : (t : TakerOf) (own peer : ℕ) (bytes : List ℕ) → packet_for own peer true bytes ≡ None → taker_row own peer t bytes ≡ TakerRow.Silent t.requests
 silent_taker t own peer bytes e = elim (eqb_tells t.deaf 0) [
   | inl same ↦ rw (same.0, e) refl
   | inr other ↦ rw other.0 refl

@@ -1,5 +1,5 @@
 -- What is sent goes into its own lane, and no other; and a packet's number in its lane.
-use Rattle.std.proofs.Common.{◌≡◌, ◌≢◌, ◌∙◌, ◌≤◌, ◌+◌, ◌-◌, ℕ, zero, suc, Bool, true, false, if◌then◌else◌, List, [], ◌∷◌, ◌++◌, length, map, flat_map, take, nat_lt, slice_get, Option, Some, None, refl, sym, ap, subst, arith}
+use Rattle.std.proofs.Common.{◌≡◌, ◌∙◌, ◌≤◌, ◌-◌, ℕ, zero, suc, Bool, true, false, if◌then◌else◌, List, [], ◌∷◌, ◌++◌, length, map, take, nat_lt, slice_get, Some, refl, sym, ap, subst, arith}
 use Rattle.std.specs.List.{AllByRecursion, filter}
 use Rattle.std.proofs.lemmas.Bool.{lt-ltb}
 use Rattle.std.proofs.lemmas.List.{append-nil, append_assoc, map-append}
@@ -9,7 +9,7 @@ use Rattle.exch_lane.specs.Lanes.{LaneOf, Sent, numbered}
 use Rattle.exch_lane.specs.Laws.{IsOfLane, in_lane}
 use Rattle.exch_lane.specs.Steps.{sendings, sent_at}
 use Rattle.fw_node.specs.Packets.{all_packets, packets_of}
-use Rattle.fw_world.specs.Lanes.{is_of, number_in}
+use Rattle.fw_world.specs.Lanes.{number_in}
 use Rattle.fw_world.specs.Links.{posted}
 
 -- What messages add are their packets, dated.

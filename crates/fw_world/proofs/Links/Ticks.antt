@@ -1,17 +1,17 @@
 -- A tick of a half, in the lane in which it asks.
-use Rattle.std.proofs.Common.{◌≡◌, ◌<◌, ◌≤◌, ◌^◌, ◌-◌, ◌∙◌, ℕ, ◌+◌, ◌==◌, ◌&&◌, Bool, true, false, if◌then◌else◌, List, [], ◌∷◌, ◌++◌, length, nat_le, Option, Some, None, IfSome, is_some, refl, sym, ap, subst, arith, inl, inr}
+use Rattle.std.proofs.Common.{◌≡◌, ◌<◌, ◌^◌, ◌-◌, ℕ, ◌+◌, ◌==◌, Bool, true, false, List, [], ◌∷◌, ◌++◌, nat_le, Option, Some, None, IfSome, is_some, refl, subst, arith, inl, inr}
 use Rattle.std.proofs.lemmas.Bool.{cases_lt, le-leb, lt-leb, lt-ltb, ne_eqb}
 use Rattle.std.proofs.lemmas.List.{append-nil}
 use Rattle.mctp_reasm.specs.Pieces.{MessageOf}
-use Rattle.pldm_exch.specs.Caller.{CallerState, Open, may_begin}
+use Rattle.pldm_exch.specs.Caller.{Open, may_begin}
 use Rattle.pldm_exch.specs.Ends.{AskerOf}
 use Rattle.pldm_exch.specs.Sides.{AskerTick, asker_counts, taker_counts}
-use Rattle.fwup_wire.specs.Commands.{IsSpoken, IsWritable, command_bytes, command_code}
+use Rattle.fwup_wire.specs.Commands.{IsSpoken, command_bytes, command_code}
 use Rattle.fwup_wire.specs.Values.{CommandOf}
 use Rattle.exch_lane.specs.Lanes.{EntryOf, LaneOf, Sent, StepOf}
 use Rattle.exch_lane.specs.Steps.{MayRun, MayTake, asker_ticks, lane_run, sendings, tick_begins}
-use Rattle.fw_node.specs.Halves.{CoreOf, HalfOf, Ticked, begins_if, begins_wish, called, goes_on, half_counts, half_ticks, hears_if, kept_if, last_part, still_wished, unwished_abandoned, unwished_for, with_caller}
-use Rattle.fw_world.specs.Lanes.{abandon_steps, begin_steps, called_steps, hearing_steps, lane_of, last_steps, tick_steps, unless_wished, wish_steps}
+use Rattle.fw_node.specs.Halves.{CoreOf, HalfOf, Ticked, begins_if, begins_wish, called, half_ticks, hears_if, kept_if, still_wished, unwished_abandoned, unwished_for, with_caller}
+use Rattle.fw_world.specs.Lanes.{abandon_steps, begin_steps, called_steps, hearing_steps, lane_of, tick_steps, unless_wished, wish_steps}
 use Rattle.fw_world.specs.Links.{posted}
 
 -- A lane goes on by these steps to where a half is after what it does.

@@ -1,8 +1,8 @@
 -- Both ways between two halves, whichever of them is the agent's.
-use Rattle.std.proofs.Common.{◌≡◌, ◌≢◌, ◌⊎◌, ◌≤◌, ◌+◌, ◌∙◌, ℕ, Bool, true, false, List, [], ◌∷◌, ◌++◌, map, Option, Some, None, inl, inr, refl, sym, ap, subst, arith}
+use Rattle.std.proofs.Common.{◌≡◌, ◌≢◌, ◌⊎◌, ◌≤◌, ◌+◌, ◌∙◌, ℕ, true, false, List, ◌++◌, map, Some, inl, inr, refl, sym, ap, subst, arith}
 use Rattle.std.specs.List.{AllByRecursion, filter}
 use Rattle.mctp_reasm.specs.Pieces.{MessageOf}
-use Rattle.exch_lane.specs.Cells.{CellRun, cells_along, no_cell_yet}
+use Rattle.exch_lane.specs.Cells.{cells_along, no_cell_yet}
 use Rattle.exch_lane.specs.Lanes.{AreEnds, EntryOf, LaneOf, Sent, StepOf, lane_new}
 use Rattle.exch_lane.specs.Laws.{IsCellOf, LaneIsACell, in_lane}
 use Rattle.exch_lane.specs.Steps.{MayRun, lane_run, sent_at}
@@ -73,7 +73,7 @@ sent_mine law now then a x b y ps ms ss h same c =
     let w = lane_of then x y (posted then (filter (is_of a.own b.own) ps) ms) (h.asks.run.entries ++ c.more) in
     let cell : IsCellOf w f.run = subst (λ v. IsCellOf v f.run) c.leads f.cell in
     let mine : AllByRecursion (λ s. in_lane x.own x.peer s.bytes ≡ true) (map (sent_at then) (all_packets ms)) =
-        sent_in_lane w then (filter (is_of a.own b.own) ps) ms (omega arith) refl cell.packets in
+    sent_in_lane w then (filter (is_of a.own b.own) ps) ms (omega arith) refl cell.packets in
     let own : x.own ≡ a.own = same.own in
     let peer : x.peer ≡ b.own = same.peer ∙ h.peer in
     subst (λ e. AllByRecursion (λ s. in_lane a.own e s.bytes ≡ true) (map (sent_at then) (all_packets ms))) peer
@@ -148,9 +148,9 @@ ways_go law now then a x b y ps ms ns asked answered h later same c d =
     let mine = sent_mine law now then a x b y ps ms asked h same c in
     let theirs = sent_mine law now then b y a x ps ns answered (turned now a b ps h) (record { own = same.other; peer = same.back; other = same.own; back = same.peer }) d in
     let there = way_goes law now then a x b y ps (posted then (posted then ps ms) ns) ms asked h same.own same.other
-        (first_sorted then a.own b.own ps ms ns mine (sent_theirs b.own a.own (map (sent_at then) (all_packets ns)) (λ z. differ (sym z)) theirs)) c in
+    (first_sorted then a.own b.own ps ms ns mine (sent_theirs b.own a.own (map (sent_at then) (all_packets ns)) (λ z. differ (sym z)) theirs)) c in
     let back = way_goes law now then b y a x ps (posted then (posted then ps ms) ns) ns answered (turned now a b ps h) same.other same.own
-        (second_sorted then b.own a.own ps ms ns (sent_theirs a.own b.own (map (sent_at then) (all_packets ms)) differ mine) theirs) d in
+    (second_sorted then b.own a.own ps ms ns (sent_theirs a.own b.own (map (sent_at then) (all_packets ms)) differ mine) theirs) d in
     record {
       explained = record {
         ends = ends_as a.own b.own x.own y.own same.own same.other h.ends;
