@@ -1,17 +1,16 @@
 -- What the agent's half does, as steps of its pair over whole messages.
-use Rattle.std.proofs.Common.{◌≡◌, ◌∙◌, ℕ, ◌+◌, ◌==◌, ◌&&◌, not, Bool, true, false, if◌then◌else◌, List, [], length, map, Option, Some, None, Ok, refl, sym, ap, subst}
+use Rattle.std.proofs.Common.{◌≡◌, ℕ, ◌+◌, ◌==◌, ◌&&◌, not, Bool, true, false, if◌then◌else◌, List, [], length, map, Option, Some, None, Ok, refl, sym, subst}
 use Rattle.fw_package.specs.Package.{PackageText}
 use Rattle.fwup_wire.specs.Values.{AnswerOf, CommandOf}
 use Rattle.fwup_wire.proofs.SameCommands.{same_self}
 use Rattle.fd_core.specs.States.{DeviceState}
 use Rattle.fd_core.specs.Wishes.{device_wish}
 use Rattle.ua_core.specs.Calls.{agent_restart, agent_silent, agent_timeout, idle_ticked, times_out}
-use Rattle.ua_core.specs.Learn.{agent_learn}
-use Rattle.ua_core.specs.Serve.{agent_after, agent_answer, recorded_by}
+use Rattle.ua_core.specs.Serve.{agent_answer, recorded_by}
 use Rattle.ua_core.specs.Session.{SessionOf, Stage, TimedOf}
 use Rattle.ua_core.specs.Wish.{entry_wish, offer_wish, request_wish, stage_wish}
 use Rattle.fw_message.specs.History.{EntryOf}
-use Rattle.fw_message.specs.Pairs.{HeldOf, PairOf, StepOf, Stepped, closed, closed_unless, down_wish, fresh_cell, is_empty, quietly, step_of, unwished_closed, up_taken}
+use Rattle.fw_message.specs.Pairs.{HeldOf, PairOf, StepOf, closed, closed_unless, down_wish, fresh_cell, is_empty, quietly, step_of, unwished_closed, up_taken}
 use Rattle.fw_message.specs.declared.side.Side.TheVariants as sides
 use Rattle.fw_message.specs.declared.side.Way.TheVariants as ways
 use Rattle.fw_node.specs.Cores.{package_of, session_core}
@@ -110,7 +109,7 @@ agent_took packages x c = ((session_core packages).take x c true true).core
 takes_closed : (packages : List PackageText) (d : DeviceState) (x : TimedOf) (own : Option HeldOf) (h : HeldOf) → IsWishedIn (Some h) (device_wish d)
     → unwished_closed packages (up_taken packages (agent_place d x own (Some h)) h).after
     ≡ agent_place d (agent_took packages x h.command) (closed_unless (down_wish packages (agent_took packages x h.command).session) own)
-      (Some (record h { reply = Some (agent_answer (package_of packages x.session) x.session h.command) }))
+    (Some (record h { reply = Some (agent_answer (package_of packages x.session) x.session h.command) }))
 unfolding up_taken
 takes_closed packages d x own h k =
     closed_so packages d (agent_took packages x h.command).session own (closed_unless (down_wish packages (agent_took packages x h.command).session) own)
@@ -123,16 +122,16 @@ takes_noted packages d x own h quiet works = refl
 
 takes : (packages : List PackageText) (d : DeviceState) (x : TimedOf) (own : Option HeldOf) (h : HeldOf) (quiet works : Bool) → IsWishedIn (Some h) (device_wish d) → h.reply ≡ None → (quiet && not (is_empty own)) ≡ false
     → Leads packages (agent_place d x own (Some h)) (agent_notes packages x h.command quiet works)
-      (agent_place d ((session_core packages).take x h.command quiet works).core
-      (closed_unless ((session_core packages).wish ((session_core packages).take x h.command quiet works).core) own)
-      (Some (record h { reply = Some ((session_core packages).take x h.command quiet works).answer })))
+    (agent_place d ((session_core packages).take x h.command quiet works).core
+    (closed_unless ((session_core packages).wish ((session_core packages).take x h.command quiet works).core) own)
+    (Some (record h { reply = Some ((session_core packages).take x h.command quiet works).answer })))
 takes packages d x own h quiet works k new may =
     subst (λ es. Leads packages (agent_place d x own (Some h)) es (agent_place d (agent_took packages x h.command) (closed_unless (down_wish packages (agent_took packages x h.command).session) own)
-      (Some (record h { reply = Some (agent_answer (package_of packages x.session) x.session h.command) }))))
+    (Some (record h { reply = Some (agent_answer (package_of packages x.session) x.session h.command) }))))
     (takes_noted packages d x own h quiet works)
     (closes packages (agent_place d x own (Some h)) (up_taken packages (agent_place d x own (Some h)) h)
     (agent_place d (agent_took packages x h.command) (closed_unless (down_wish packages (agent_took packages x h.command).session) own)
-      (Some (record h { reply = Some (agent_answer (package_of packages x.session) x.session h.command) })))
+    (Some (record h { reply = Some (agent_answer (package_of packages x.session) x.session h.command) })))
     StepOf.TakeUp (rw new refl) (takes_closed packages d x own h k))
 
 -- what a session wishes is for a device

@@ -1,8 +1,7 @@
 -- The last part of a half's tick, as steps of its pair: time passes for the core, what isn't wished is given up, and what is
 -- wished is asked.
-use Rattle.std.proofs.Common.{◌≡◌, ◌∙◌, ℕ, ◌==◌, Bool, true, false, if◌then◌else◌, List, [], ◌∷◌, ◌++◌, Option, Some, None, IfSome, Ok, refl, sym, ap, subst}
+use Rattle.std.proofs.Common.{◌≡◌, Bool, true, false, List, [], ◌∷◌, ◌++◌, Option, Some, None, IfSome, refl, sym, ap, subst}
 use Rattle.std.specs.Option.{option_map}
-use Rattle.mctp_reasm.specs.Pieces.{MessageOf}
 use Rattle.pldm_exch.specs.Caller.{CallerState, asking, may_begin}
 use Rattle.exch_lane.specs.Cells.{Cell, CellRun, ask_in, cells_along}
 use Rattle.exch_lane.specs.Lanes.{EntryOf, LaneOf}

@@ -1,32 +1,30 @@
 -- The operator's calls, verdicts and restarts on a link, as steps of its pair.
-use Rattle.std.proofs.Common.{◌≡◌, ◌∙◌, ◌&&◌, ℕ, Bool, true, false, if◌then◌else◌, is_some, List, [], ◌∷◌, map, Option, Some, None, refl, sym, ap, subst}
+use Rattle.std.proofs.Common.{◌≡◌, ℕ, Bool, true, false, if◌then◌else◌, is_some, List, [], ◌∷◌, map, Option, Some, None, refl, sym, subst}
 use Rattle.std.specs.Option.{option_map}
 use Rattle.pldm_exch.specs.Caller.{Open, asking}
-use Rattle.exch_lane.specs.Cells.{Cell, CellRun, cell_close, cell_closes_if, cells_along, close_in}
+use Rattle.exch_lane.specs.Cells.{Cell, CellRun, cell_closes_if, cells_along, close_in}
 use Rattle.exch_lane.specs.Lanes.{StepOf as LaneStepOf}
 use Rattle.exch_lane.specs.Lanes.{EntryOf as LaneEntry}
 use Rattle.exch_lane.specs.Laws.{awaited}
 use Rattle.exch_lane.specs.declared.step.End.TheVariants as ends
 use Rattle.fw_package.specs.Package.{PackageText}
-use Rattle.fd_core.specs.Steps.{Judged, device_restart, device_verdict}
+use Rattle.fd_core.specs.Steps.{Judged, device_verdict}
 use Rattle.fd_core.specs.declared.states.Verdict.{Verdict}
 use Rattle.ua_core.specs.Calls.{agent_activated, agent_cancelled, agent_started, may_cancel}
 use Rattle.ua_core.specs.Session.{SessionOf, TimedOf}
 use Rattle.fw_message.specs.History.{EntryOf}
-use Rattle.fw_message.specs.Pairs.{HeldOf, PairOf, StepOf, closed, closed_unless, down_wish, may_start, quietly, step_of}
-use Rattle.fw_message.specs.declared.side.Side.TheVariants as sides
+use Rattle.fw_message.specs.Pairs.{HeldOf, StepOf, closed, closed_unless, down_wish, may_start, quietly, step_of}
 use Rattle.fw_node.specs.Agents.{activates, cancels, starts}
-use Rattle.fw_node.specs.Cores.{TimedDevice, device_core, session_core}
+use Rattle.fw_node.specs.Cores.{device_core, session_core}
 use Rattle.fw_node.specs.Halves.{CoreOf, half_restarts, recast}
 use Rattle.fwup_wire.specs.Values.{CommandOf}
 use Rattle.fw_world.specs.Joins.{IsHeldFor, IsWishedIn, StandsFor}
 use Rattle.fw_world.specs.Lanes.{activate_steps, call_steps, down_lane, judge_steps, settle_steps, up_lane}
 use Rattle.fw_world.specs.Links.{LinkOf, LinkStepped, activates_on, judges_on, unnoted}
-use Rattle.fw_world.proofs.Joins.AgentSide.{agent_place, agent_side, session_calls}
-use Rattle.fw_world.proofs.Joins.DeviceSide.{device_judged, device_place, device_side}
+use Rattle.fw_world.proofs.Joins.AgentSide.{agent_side, session_calls}
+use Rattle.fw_world.proofs.Joins.DeviceSide.{device_judged, device_side}
 use Rattle.fw_world.proofs.Joins.Goes.{Holds, holds_still, settled_cell, settles}
 use Rattle.fw_world.proofs.Joins.Links.{BothHold, BothWait, LinkGoes, pair_at}
-use Rattle.fw_world.proofs.Joins.Sides.{Leads}
 
 -- The agent's half, whose session is another now.
 recast_joins : (packages : List PackageText) (now : ℕ) (l : LinkOf) (after : TimedOf) (step : StepOf) (down up : Option HeldOf) (down_past : List LaneEntry) (down_run up_run down_last up_last : CellRun)

@@ -1,12 +1,10 @@
 -- A packet that comes to a side of a link, as steps of its pair.
-use Rattle.std.proofs.Common.{◌≡◌, ◌≢◌, ◌⊎◌, ◌≤◌, ◌∙◌, ℕ, ◌+◌, ◌==◌, not, nat_lt, zero, suc, slice_get, Bool, true, false, if◌then◌else◌, List, [], ◌∷◌, map, Option, Some, None, refl, sym, ap, subst, inl, inr, arith}
-use Rattle.std.specs.List.{AllByRecursion, filter}
+use Rattle.std.proofs.Common.{◌≡◌, ◌≢◌, ◌⊎◌, ◌∙◌, ℕ, not, Bool, true, false, List, [], ◌∷◌, Option, Some, refl, sym, ap, subst, inl, inr}
 use Rattle.std.specs.Option.{option_map}
-use Rattle.std.proofs.lemmas.Bool.{lt-ltb}
 use Rattle.pldm_exch.specs.Caller.{asking, is_quiet}
-use Rattle.pldm_exch.specs.Sides.{AskerRow, TakerRow, asker_row, taker_row}
+use Rattle.pldm_exch.specs.Sides.{asker_row, taker_row}
 use Rattle.exch_lane.specs.Cells.{Cell, CellRun, cell_at_asker, cell_at_taker, cell_delivers, cells_along}
-use Rattle.exch_lane.specs.Lanes.{LaneOf, Sent, StepOf, numbered}
+use Rattle.exch_lane.specs.Lanes.{Sent, StepOf, numbered}
 use Rattle.exch_lane.specs.Lanes.{EntryOf as LaneEntry}
 use Rattle.exch_lane.specs.Laws.{awaited, in_lane}
 use Rattle.exch_lane.specs.Steps.{lane_after}
@@ -14,7 +12,7 @@ use Rattle.exch_lane.specs.declared.step.End.TheVariants as ends
 use Rattle.fw_package.specs.Package.{PackageText}
 use Rattle.fwup_wire.specs.Values.{CommandOf}
 use Rattle.fw_message.specs.Pairs.{HeldOf}
-use Rattle.fw_node.specs.Halves.{CoreOf, HalfHeard, HalfOf, half_hears, half_hears_by, half_takes}
+use Rattle.fw_node.specs.Halves.{CoreOf, HalfOf, half_hears, half_hears_by, half_takes}
 use Rattle.fw_node.specs.Nodes.{IsTold}
 use Rattle.fw_world.specs.Lanes.{answer_steps, ask_steps, is_of, learn_steps, number_in, reply_in, take_steps, way_of}
 use Rattle.fw_world.proofs.Joins.Goes.{Holds}
@@ -46,13 +44,13 @@ reply_comes {A} {B} {packages} {core} {agent} {place} {peer_wish} {notes} side w
     let far : is_of b.own a.own s ≡ false = other_lane a.own b.own s.bytes differ mine in
     let silent = answers_nothing a.taker a.own a.peer s.bytes apart from in
     let steps : cells_along w (StepOf.Deliver n ends.Asker [] ∷ learn_steps core works a row) (Some run) ≡ Some last =
-        subst (λ m. cells_along w (ask_steps core works a m n s.bytes) (Some run) ≡ Some last) mine e in
+    subst (λ m. cells_along w (ask_steps core works a m n s.bytes) (Some run) ≡ Some last) mine e in
     let comes : cell_delivers w ends.Asker [] (numbered w.packets n) run ≡ cell_at_asker row run =
-        ap (λ o. cell_delivers w ends.Asker [] o run) (lane_number (is_of a.own b.own) ps number s is mine) in
+    ap (λ o. cell_delivers w ends.Asker [] o run) (lane_number (is_of a.own b.own) ps number s is mine) in
     let along : cells_along (lane_after w (StepOf.Deliver n ends.Asker [])) (learn_steps core works a row) (cell_at_asker row run) ≡ Some last =
-        subst (λ o. cells_along (lane_after w (StepOf.Deliver n ends.Asker [])) (learn_steps core works a row) o ≡ Some last) comes steps in
+    subst (λ o. cells_along (lane_after w (StepOf.Deliver n ends.Asker [])) (learn_steps core works a row) o ≡ Some last) comes steps in
     let still : Some other_run ≡ Some other_last =
-        subst (λ m. cells_along (way_of now b a ps later) (answer_steps core works a m (number_in (is_of b.own a.own) ps number) s.bytes) (Some other_run) ≡ Some other_last) far f in
+    subst (λ m. cells_along (way_of now b a ps later) (answer_steps core works a m (number_in (is_of b.own a.own) ps number) s.bytes) (Some other_run) ≡ Some other_last) far f in
     subst (λ t. HeardGoes packages core agent place peer_wish notes (place a.core own other) a.core (is_quiet a.asker.caller) works (half_hears_by core works a row t) last.cell other_last.cell)
     (sym silent)
     (hears_reply side works a row own other (lane_after w (StepOf.Deliver n ends.Asker [])) run last other_run other_last holds theirs deaf
@@ -78,12 +76,12 @@ request_comes {A} {B} {packages} {core} {agent} {place} {peer_wish} {notes} side
     let far : is_of a.own b.own s ≡ false = other_lane b.own a.own s.bytes (λ z. differ (sym z)) mine in
     let heard : half_hears core works a s.bytes ≡ half_takes core works a row = ap (λ r. half_hears_by core works a r row) (asks_nothing a.asker a.own a.peer s.bytes apart from) in
     let along : cells_along w (take_steps core works a row) (Some run) ≡ Some last =
-        subst (λ m. cells_along w (ask_steps core works a m (number_in (is_of a.own b.own) ps number) s.bytes) (Some run) ≡ Some last) far e in
+    subst (λ m. cells_along w (ask_steps core works a m (number_in (is_of a.own b.own) ps number) s.bytes) (Some run) ≡ Some last) far e in
     let steps : cell_delivers v ends.Taker reply (numbered v.packets n) other_run ≡ Some other_last =
-        subst (λ m. cells_along v (answer_steps core works a m n s.bytes) (Some other_run) ≡ Some other_last) mine f in
+    subst (λ m. cells_along v (answer_steps core works a m n s.bytes) (Some other_run) ≡ Some other_last) mine f in
     let comes : cell_delivers v ends.Taker reply (numbered v.packets n) other_run ≡ cell_at_taker reply row other_run =
-        ap (λ o. cell_delivers v ends.Taker reply o other_run) (lane_number (is_of b.own a.own) ps number s is mine)
-        ∙ ap (λ r. cell_at_taker reply r other_run) (same_row a b s.bytes peer back) in
+    ap (λ o. cell_delivers v ends.Taker reply o other_run) (lane_number (is_of b.own a.own) ps number s is mine)
+    ∙ ap (λ r. cell_at_taker reply r other_run) (same_row a b s.bytes peer back) in
     subst (λ x. HeardGoes packages core agent place peer_wish notes (place a.core own other) a.core (is_quiet a.asker.caller) works x last.cell other_last.cell)
     (sym heard)
     (hears_request side works a row own other w run last other_run other_last holds theirs deaf waits rests (row_hears a.own a.peer a.taker s.bytes) (subst IsTold heard told) along (sym comes ∙ steps))

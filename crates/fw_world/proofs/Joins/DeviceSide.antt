@@ -1,5 +1,5 @@
 -- What a device's half does, as steps of its pair over whole messages.
-use Rattle.std.proofs.Common.{◌≡◌, ◌∙◌, ℕ, ◌+◌, ◌==◌, ◌&&◌, not, nat_lt, Bool, true, false, if◌then◌else◌, List, [], length, map, Option, Some, None, Ok, refl, sym, ap, subst}
+use Rattle.std.proofs.Common.{◌≡◌, ℕ, ◌+◌, ◌&&◌, not, nat_lt, Bool, true, false, if◌then◌else◌, List, [], length, map, Option, Some, None, Ok, refl, sym, subst}
 use Rattle.fw_package.specs.Package.{PackageText}
 use Rattle.fwup_wire.specs.Commands.{command_code}
 use Rattle.fwup_wire.specs.Values.{AnswerOf, CommandOf}
@@ -63,7 +63,7 @@ unmoved packages s d idle later own other k =
 -- it waited too long
 outwaited : (packages : List PackageText) (s : SessionOf) (d : DeviceState) (idle : ℕ) (own other : Option HeldOf) → IsWishedIn other (down_wish packages s) → times_out d.phase ≡ true
     → Leads packages (device_place s (record { device = d; idle = idle }) own other) []
-      (device_place s (record { device = device_timeout d; idle = 0 }) (closed_unless (device_wish (device_timeout d)) own) other)
+    (device_place s (record { device = device_timeout d; idle = 0 }) (closed_unless (device_wish (device_timeout d)) own) other)
 outwaited packages s d idle own other k may =
     closes packages (device_place s (record { device = d; idle = idle }) own other) (quietly (record { device = device_timeout d; session = s; down = other; up = own }))
     (device_place s (record { device = device_timeout d; idle = 0 }) (closed_unless (device_wish (device_timeout d)) own) other) (StepOf.TimeOut sides.Device)
@@ -75,14 +75,14 @@ waited_by early d idle = if early then (d, idle + 1) else (device_timeout d, 0)
 waits_by : (packages : List PackageText) (s : SessionOf) (d : DeviceState) (idle : ℕ) (early : Bool) (own other : Option HeldOf) → IsWishedIn other (down_wish packages s) → IsWishedIn own (device_wish d)
     → times_out d.phase ≡ true
     → Leads packages (device_place s (record { device = d; idle = idle }) own other) []
-      (device_place s (timed_by (waited_by early d idle)) (closed_unless (device_wish (waited_by early d idle).0) own) other)
+    (device_place s (timed_by (waited_by early d idle)) (closed_unless (device_wish (waited_by early d idle).0) own) other)
 waits_by packages s d idle true own other k w may = unmoved packages s d idle (idle + 1) own other w
 waits_by packages s d idle false own other k w may = outwaited packages s d idle own other k may
 
 ticks_at : (packages : List PackageText) (s : SessionOf) (d : DeviceState) (idle : ℕ) (p : Phase) (own other : Option HeldOf) → IsWishedIn other (down_wish packages s) → IsWishedIn own (device_wish d)
     → d.phase ≡ p
     → Leads packages (device_place s (record { device = d; idle = idle }) own other) []
-      (device_place s (timed_by (tick_at p d idle)) (closed_unless (device_wish (tick_at p d idle).0) own) other)
+    (device_place s (timed_by (tick_at p d idle)) (closed_unless (device_wish (tick_at p d idle).0) own) other)
 ticks_at packages s d idle Phase.Idle own other k w is = unmoved packages s d idle idle own other w
 ticks_at packages s d idle Phase.Activated own other k w is = outwaited packages s d idle own other k (rw is refl)
 ticks_at packages s d idle (Phase.Learn u) own other k w is = waits_by packages s d idle (nat_lt (idle + 1) patience) own other k w (rw is refl)

@@ -1,8 +1,8 @@
 -- A half goes on: what its core and its cell are then, and the steps of its pair that lead there.
-use Rattle.std.proofs.Common.{◌≡◌, ◌∙◌, ℕ, Bool, true, false, List, [], ◌∷◌, Option, Some, None, refl, sym, ap, subst}
-use Rattle.std.specs.Option.{option_and_then, option_map}
+use Rattle.std.proofs.Common.{◌≡◌, ◌∙◌, Bool, true, false, List, [], ◌∷◌, Option, Some, None, refl, sym, ap, subst}
+use Rattle.std.specs.Option.{option_map}
 use Rattle.pldm_exch.specs.Caller.{Open, asking}
-use Rattle.exch_lane.specs.Cells.{Cell, CellRun, cell_along, cell_close, cells_along, close_in}
+use Rattle.exch_lane.specs.Cells.{Cell, CellRun, cell_close, cells_along, close_in}
 use Rattle.exch_lane.specs.Lanes.{LaneOf, StepOf}
 use Rattle.exch_lane.specs.Laws.{awaited}
 use Rattle.exch_lane.specs.Steps.{abandons, lane_after}
@@ -13,7 +13,7 @@ use Rattle.fw_node.specs.Halves.{CoreOf, still_wished}
 use Rattle.fw_world.specs.Joins.{IsHeldFor, IsWishedIn, StandsFor, cell_kept, cell_unless}
 use Rattle.fw_world.specs.Lanes.{abandon_steps, unless_wished}
 use Rattle.fw_world.proofs.Joins.Cells.{gives_up, left_wished, still_for}
-use Rattle.fw_world.proofs.Joins.Sides.{Leads, Place, no_step}
+use Rattle.fw_world.proofs.Joins.Sides.{Leads, Place}
 
 -- A core with its cell: the cell stands for what the pair holds, what is waited for is wished, and the other half answers it.
 pub record Holds {C : Type 0} (core : CoreOf C) (agent : Bool) (x : C) (cell : Cell) (own : Option HeldOf) : Type 0 where

@@ -1,5 +1,5 @@
 -- A reply that a half learns, as a step of its pair.
-use Rattle.std.proofs.Common.{◌≡◌, ◌∙◌, ℕ, ◌==◌, not, Bool, true, false, if◌then◌else◌, List, [], ◌∷◌, ◌++◌, Option, Some, None, Ok, refl, sym, ap, subst, inl, inr}
+use Rattle.std.proofs.Common.{◌≡◌, ◌∙◌, ℕ, ◌==◌, not, Bool, true, false, if◌then◌else◌, List, [], ◌∷◌, ◌++◌, Option, Some, None, refl, sym, ap, subst}
 use Rattle.std.specs.Option.{option_map}
 use Rattle.mctp_reasm.specs.Held.{Held}
 use Rattle.mctp_reasm.specs.Inboxes.{fed_at, held_with, packet_for}
@@ -21,7 +21,7 @@ use Rattle.fw_node.specs.Halves.{CoreOf, HalfHeard, HalfOf, half_hears_by, settl
 use Rattle.fw_world.specs.Joins.{IsHeldFor, IsWishedIn, StandsFor}
 use Rattle.fw_world.specs.Lanes.{learn_steps, settle_steps}
 use Rattle.fw_world.proofs.Joins.Cells.{bytes_are}
-use Rattle.fw_world.proofs.Joins.Goes.{Holds, Went, holds_still, settled_cell, unless_empty, went}
+use Rattle.fw_world.proofs.Joins.Goes.{Holds, holds_still, settled_cell, unless_empty, went}
 use Rattle.fw_world.proofs.Joins.Rows.{IsOneDeaf}
 use Rattle.fw_world.proofs.Joins.Sides.{Leads, Notes, Place, Sided, no_step}
 

@@ -1,5 +1,5 @@
 -- A link and its pair, half by half; and a tick of the link.
-use Rattle.std.proofs.Common.{◌≡◌, ◌≢◌, ◌∙◌, ◌<◌, ◌^◌, ◌-◌, ◌+◌, nat_lt, ℕ, Bool, true, false, if◌then◌else◌, List, [], Option, Some, None, IfSome, refl, sym, ap, subst}
+use Rattle.std.proofs.Common.{◌≡◌, ℕ, Bool, true, false, List, Option, Some, refl, sym, subst}
 use Rattle.std.specs.Option.{option_map}
 use Rattle.pldm_exch.specs.Caller.{asking, is_quiet}
 use Rattle.exch_lane.specs.Cells.{Cell, CellRun, cells_along}
@@ -8,10 +8,8 @@ use Rattle.exch_lane.specs.Lanes.{EntryOf as LaneEntry}
 use Rattle.exch_lane.specs.Laws.{awaited}
 use Rattle.exch_lane.specs.Steps.{lane_after}
 use Rattle.fw_package.specs.Package.{PackageText}
-use Rattle.fwup_wire.specs.Commands.{IsSpoken}
 use Rattle.fwup_wire.specs.Laws.{WritesCommands}
 use Rattle.fd_core.specs.Wishes.{device_wish}
-use Rattle.fw_message.specs.History.{EntryOf}
 use Rattle.fw_message.specs.Pairs.{HeldOf, PairOf, down_wish}
 use Rattle.fw_node.specs.Cores.{device_core, session_core}
 use Rattle.fw_node.specs.Halves.{half_ticks}
@@ -20,7 +18,7 @@ use Rattle.fw_world.specs.Lanes.{down_lane, tick_steps, up_lane}
 use Rattle.fw_world.specs.LinkLaws.{Speaks}
 use Rattle.fw_world.specs.Links.{LinkOf, LinkStepped, link_ticks, unnoted}
 use Rattle.fw_world.proofs.Joins.AgentSide.{agent_place, agent_side}
-use Rattle.fw_world.proofs.Joins.DeviceSide.{device_place, device_side}
+use Rattle.fw_world.proofs.Joins.DeviceSide.{device_side}
 use Rattle.fw_world.proofs.Joins.Goes.{Holds}
 use Rattle.fw_world.proofs.Joins.Rows.{ticks_deaf}
 use Rattle.fw_world.proofs.Joins.Sides.{Leads, leads_on}

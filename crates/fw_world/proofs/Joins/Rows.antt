@@ -1,5 +1,5 @@
 -- What a tick and a packet leave of an open request, and that a half keeps one deaf count.
-use Rattle.std.proofs.Common.{◌≡◌, ◌∙◌, ℕ, ◌+◌, ◌-◌, ◌==◌, nat_le, Bool, true, false, if◌then◌else◌, List, map, [], ◌∷◌, Option, Some, None, refl, sym, ap, subst, arith, inl, inr}
+use Rattle.std.proofs.Common.{◌≡◌, ◌∙◌, ℕ, ◌+◌, ◌-◌, ◌==◌, nat_le, Bool, true, false, List, map, [], ◌∷◌, Option, Some, None, refl, sym, ap, subst, arith, inl, inr}
 use Rattle.std.specs.Option.{option_map}
 use Rattle.std.proofs.lemmas.Bool.{cases_lt, le-leb, ne_eqb}
 use Rattle.fw_world.proofs.Links.Ticks.{hears_then}
@@ -11,7 +11,7 @@ use Rattle.pldm_exch.specs.Sides.{AskerTick, asker_called, asker_counts, taker_c
 use Rattle.pldm_exch.specs.declared.caller.CallTick.{CallTick}
 use Rattle.pldm_exch.specs.declared.caller.CallTick.TheVariants as calls
 use Rattle.fwup_wire.specs.Values.{CommandOf}
-use Rattle.fw_node.specs.Halves.{CoreOf, HalfOf, Ticked, begins_if, begins_wish, called, half_ticks, hears_if, last_part, unwished_abandoned, with_caller}
+use Rattle.fw_node.specs.Halves.{CoreOf, HalfOf, begins_if, begins_wish, called, half_ticks, hears_if, unwished_abandoned, with_caller}
 
 -- what waits after a tick: what waited, or nothing, where it was given up
 abbrev pub RowWaits : AskerTick → Option (ℕ × List ℕ) → Type 0

@@ -1,27 +1,13 @@
 -- What each half does, as steps of its pair over whole messages.
-use Rattle.std.proofs.Common.{◌≡◌, ◌∙◌, ℕ, ◌+◌, ◌==◌, ◌&&◌, not, nat_lt, Bool, true, false, if◌then◌else◌, List, [], ◌∷◌, ◌++◌, map, Option, Some, None, Ok, refl, sym, ap, subst}
+use Rattle.std.proofs.Common.{◌≡◌, ◌∙◌, ◌&&◌, not, Bool, true, false, List, [], ◌∷◌, ◌++◌, Option, Some, None, Ok, refl, sym, ap}
 use Rattle.std.specs.Option.{option_map}
 use Rattle.fw_package.specs.Package.{PackageText}
 use Rattle.fwup_wire.specs.Commands.{command_code}
 use Rattle.fwup_wire.specs.Values.{AnswerOf, CommandOf}
-use Rattle.fwup_wire.proofs.SameCommands.{same_self}
-use Rattle.fd_core.specs.Codes.{patience}
-use Rattle.fd_core.specs.Commands.{Taken, device_take}
-use Rattle.fd_core.specs.States.{DeviceState, Phase}
-use Rattle.fd_core.specs.Steps.{device_restart, device_tick, device_timeout, tick_at, times_out as device_times_out}
-use Rattle.fd_core.specs.Wishes.{device_learn, device_wish}
-use Rattle.ua_core.specs.Calls.{agent_restart, agent_silent, agent_timeout, idle_ticked, times_out as session_times_out}
-use Rattle.ua_core.specs.Learn.{agent_learn}
-use Rattle.ua_core.specs.Serve.{agent_after, agent_answer, recorded_by}
-use Rattle.ua_core.specs.Session.{SessionOf, TimedOf}
 use Rattle.fw_message.specs.History.{EntryOf}
-use Rattle.fw_message.specs.Pairs.{HeldOf, PairOf, PairRun, StepOf, Stepped, closed, closed_unless, closing, down_taken, down_wish, fresh_cell, is_empty, is_wished, message_along, noted, pair_after, quietly, ran_on, run_after, step_of, take_down, take_down_at, unwished_closed, up_taken}
-use Rattle.fw_message.specs.declared.side.Side.TheVariants as sides
-use Rattle.fw_message.specs.declared.side.Way.TheVariants as ways
-use Rattle.fw_node.specs.Cores.{TimedDevice, device_core, package_of, session_core}
+use Rattle.fw_message.specs.Pairs.{HeldOf, PairOf, PairRun, StepOf, Stepped, closed, closed_unless, closing, fresh_cell, is_empty, message_along, noted, pair_after, ran_on, run_after, step_of, unwished_closed}
 use Rattle.fw_node.specs.Halves.{CoreOf}
 use Rattle.fw_world.specs.Joins.{IsFor, IsWishedIn}
-use Rattle.fw_world.proofs.Joins.Cells.{stays}
 
 -- Steps of whole messages lead from one pair to another, and add these entries to the history.
 pub record Leads (packages : List PackageText) (m : PairOf) (more : List EntryOf) (after : PairOf) : Type 0 where
@@ -83,7 +69,7 @@ pub record Sided {C : Type 0} (packages : List PackageText) (core : CoreOf C) (a
       → Leads packages (place x own other) [] (place (core.restarted x) (closed own) other)
   pub take : (x : C) (own : Option HeldOf) (h : HeldOf) (quiet works : Bool) → IsWishedIn (Some h) peer_wish → h.reply ≡ None → (quiet && not (is_empty own)) ≡ false
       → Leads packages (place x own (Some h)) (notes x h.command quiet works)
-        (place (core.take x h.command quiet works).core (closed_unless (core.wish (core.take x h.command quiet works).core) own) (Some (record h { reply = Some (core.take x h.command quiet works).answer })))
+      (place (core.take x h.command quiet works).core (closed_unless (core.wish (core.take x h.command quiet works).core) own) (Some (record h { reply = Some (core.take x h.command quiet works).answer })))
   pub wishes : (x : C) (c : CommandOf) → core.wish x ≡ Some c → IsFor agent c
   pub serves : (c : CommandOf) → IsFor (not agent) c → core.serves (command_code c) ≡ true
 

@@ -1,15 +1,13 @@
 -- A request that a half takes, as a step of its pair.
-use Rattle.std.proofs.Common.{◌≡◌, ◌∙◌, ℕ, ◌==◌, ◌&&◌, not, Bool, true, false, if◌then◌else◌, List, [], ◌∷◌, ◌++◌, Option, Some, None, Ok, Err, Result, refl, sym, ap, subst, inl, inr}
+use Rattle.std.proofs.Common.{◌≡◌, ◌∙◌, ℕ, ◌==◌, ◌&&◌, not, Bool, true, false, if◌then◌else◌, List, [], ◌∷◌, ◌++◌, Option, Some, None, Ok, Result, refl, sym, ap, subst, inl, inr}
 use Rattle.std.specs.Option.{option_map}
 use Rattle.std.proofs.lemmas.Bool.Decides.{eqb_tells}
 use Rattle.mctp_reasm.specs.Held.{Held}
 use Rattle.mctp_reasm.specs.Inboxes.{packet_for}
 use Rattle.mctp_reasm.specs.Pieces.{MessageOf, PacketOf}
-use Rattle.pldm_base.specs.Codes.{unsupported_command}
 use Rattle.pldm_base.specs.declared.header.PldmHead.{PldmHead}
 use Rattle.pldm_exch.specs.Caller.{asking, is_quiet}
 use Rattle.pldm_exch.specs.Ends.{TakerOf}
-use Rattle.pldm_exch.specs.Requests.{reply_message}
 use Rattle.pldm_exch.specs.Sides.{TakerRow, taker_packet, taker_row}
 use Rattle.exch_lane.specs.Cells.{Cell, CellRun, cell_at_taker, cell_take, cells_along, same_bytes, take_in, turned_by}
 use Rattle.exch_lane.specs.Lanes.{EntryOf, LaneOf}
@@ -18,10 +16,9 @@ use Rattle.fw_package.specs.Package.{PackageText}
 use Rattle.fwup_wire.specs.Answers.{answer_bytes, answer_in}
 use Rattle.fwup_wire.specs.Commands.{command_code, command_read}
 use Rattle.fwup_wire.specs.Values.{AnswerOf, CommandOf}
-use Rattle.fw_message.specs.History.{EntryOf as NoteOf}
-use Rattle.fw_message.specs.Pairs.{HeldOf, PairOf, closed_unless, is_empty}
-use Rattle.fw_node.specs.Halves.{CoreOf, HalfHeard, HalfOf, RepliedBy, answers, half_takes, read_by, reply_read, settled, takes_if, takes_read}
-use Rattle.fw_node.specs.Nodes.{IsAnswered, IsHeardAgain, IsTold}
+use Rattle.fw_message.specs.Pairs.{HeldOf, closed_unless, is_empty}
+use Rattle.fw_node.specs.Halves.{CoreOf, HalfHeard, HalfOf, answers, half_takes, read_by, reply_read, settled, takes_if}
+use Rattle.fw_node.specs.Nodes.{IsHeardAgain, IsTold}
 use Rattle.fw_world.specs.Joins.{IsFor, IsHeldFor, IsWishedIn, StandsFor, cell_unless}
 use Rattle.fw_world.specs.Lanes.{replied_by, reply_in, settle_steps, take_steps}
 use Rattle.fw_world.proofs.Joins.Cells.{both_hold, bytes_are, numbers_are}
@@ -160,10 +157,10 @@ takes_up {C} {packages} {core} {agent} {place} {peer_wish} {notes} side works h 
     let replied : replied_by core works h head body ≡ record { core = taken.core; reply = answer_bytes taken.answer } = ap (reply_read core quiet works h.core) reads in
     let again = told_as core works h requests m head body c (head.pldm_type == 5) five reads told in
     let cell : last.cell ≡ cell_unless (core.wish taken.core) h.asker.caller.asked run.cell =
-        settled_cell (core.wish taken.core) h.asker.caller.asked w run last
-        (subst (λ r. cells_along w (settle_steps core h.asker.caller.asked r.core) (Some run) ≡ Some last) replied e) in
+    settled_cell (core.wish taken.core) h.asker.caller.asked w run last
+    (subst (λ r. cells_along w (settle_steps core h.asker.caller.asked r.core) (Some run) ≡ Some last) replied e) in
     let answered : answer_in head.command (replied_by core works h head body).reply ≡ Some taken.answer =
-        ap (λ r. answer_in head.command r.reply) replied ∙ ap (λ n. answer_in n (answer_bytes taken.answer)) t.code ∙ again.reads in
+    ap (λ r. answer_in head.command r.reply) replied ∙ ap (λ n. answer_in n (answer_bytes taken.answer)) t.code ∙ again.reads in
     record {
       half = taker_after core works h requests m head c;
       es = notes h.core c quiet works;

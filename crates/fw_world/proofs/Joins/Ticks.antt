@@ -1,29 +1,27 @@
 -- A tick of a half, as steps of its pair: what rests is dropped, or the open request is given up; time passes; and what is
 -- wished is asked.
-use Rattle.std.proofs.Common.{◌≡◌, ◌∙◌, ℕ, ◌==◌, Bool, true, false, if◌then◌else◌, List, [], ◌∷◌, ◌++◌, Option, Some, None, IfSome, Ok, refl, sym, ap, subst}
+use Rattle.std.proofs.Common.{◌≡◌, ◌∙◌, ℕ, ◌==◌, Bool, true, false, if◌then◌else◌, List, [], ◌∷◌, Option, Some, None, IfSome, refl, sym, ap, subst}
 use Rattle.std.specs.Option.{option_map}
 use Rattle.mctp_reasm.specs.Pieces.{MessageOf}
-use Rattle.pldm_exch.specs.Caller.{CallerState, Open, asking, may_begin}
-use Rattle.pldm_exch.specs.Ends.{AskerOf}
+use Rattle.pldm_exch.specs.Caller.{CallerState, asking, may_begin}
 use Rattle.pldm_exch.specs.Sides.{AskerTick, asker_counts, asker_tick, taker_counts}
-use Rattle.exch_lane.specs.Cells.{Cell, CellRun, ask_in, cell_give_up, cell_rests, cell_ticks, cells_along, close_in, drop_in, hears_quiet, is_empty_cell}
-use Rattle.exch_lane.specs.Lanes.{EntryOf, LaneOf, StepOf}
+use Rattle.exch_lane.specs.Cells.{Cell, CellRun, cell_ticks, cells_along, close_in, drop_in, hears_quiet, is_empty_cell}
+use Rattle.exch_lane.specs.Lanes.{LaneOf}
 use Rattle.exch_lane.specs.Laws.{awaited}
 use Rattle.fw_package.specs.Package.{PackageText}
-use Rattle.fwup_wire.specs.Commands.{IsSpoken, command_bytes, command_code}
+use Rattle.fwup_wire.specs.Commands.{IsSpoken}
 use Rattle.fwup_wire.specs.Laws.{WritesCommands}
 use Rattle.fwup_wire.specs.Values.{CommandOf}
-use Rattle.fw_message.specs.Pairs.{HeldOf, PairOf, closed_unless, fresh_cell}
-use Rattle.fwup_wire.proofs.SameCommands.{same_self}
+use Rattle.fw_message.specs.Pairs.{HeldOf, PairOf}
 use Rattle.fw_node.specs.Halves.{CoreOf, HalfOf, begins_if, begins_wish, called, half_ticks, hears_if, unwished_abandoned, with_caller}
-use Rattle.fw_world.specs.Joins.{IsHeldFor, IsWishedIn, StandsFor}
+use Rattle.fw_world.specs.Joins.{IsWishedIn}
 use Rattle.fw_world.specs.LinkLaws.{Speaks}
-use Rattle.fw_world.specs.Lanes.{begin_steps, called_steps, counted_steps, hearing_steps, wish_steps}
+use Rattle.fw_world.specs.Lanes.{called_steps, counted_steps, hearing_steps}
 use Rattle.fw_world.proofs.Joins.Asks.{after_hearing, goes_on, hears_from}
 use Rattle.fw_world.proofs.Joins.Goes.{Goes, Holds, went}
 use Rattle.fw_world.proofs.Joins.Rows.{RowWaits, deaf_before, row_waits}
 use Rattle.fw_world.proofs.Links.Ticks.{hears_then}
-use Rattle.fw_world.proofs.Joins.Sides.{Leads, Notes, Place, Sided, leads_on, no_step}
+use Rattle.fw_world.proofs.Joins.Sides.{Leads, Notes, Place, Sided, no_step}
 
 -- A half goes on, and the request that waits is the one that waited.
 record Rests {C : Type 0} (packages : List PackageText) (core : CoreOf C) (agent : Bool) (place : Place C) (m : PairOf) (other : Option HeldOf) (x : C) (cell : Cell) (waits : Option (ℕ × List ℕ)) : Type 0 where

@@ -1,17 +1,14 @@
 -- Each step of a link is steps of its pair over whole messages.
-use Rattle.std.proofs.Common.{◌≡◌, ◌≢◌, ◌⊎◌, ◌≤◌, ◌^◌, ◌-◌, ◌∙◌, ℕ, ◌+◌, nat_lt, zero, suc, slice_get, Bool, true, false, if◌then◌else◌, List, [], ◌∷◌, map, Option, Some, None, IfSome, refl, sym, ap, subst, inl, inr, arith}
+use Rattle.std.proofs.Common.{◌≡◌, ◌⊎◌, ◌≤◌, ◌^◌, ◌-◌, ◌∙◌, ℕ, ◌+◌, nat_lt, zero, suc, slice_get, Bool, true, false, if◌then◌else◌, List, [], ◌∷◌, Option, Some, None, IfSome, refl, sym, subst, inl, inr}
 use Rattle.std.specs.List.{AllByRecursion}
 use Rattle.std.proofs.lemmas.Bool.{cases_lt, lt-ltb}
-use Rattle.mctp_reasm.specs.Pieces.{MessageOf}
 use Rattle.pldm_exch.specs.Caller.{is_quiet}
 use Rattle.exch_lane.specs.Cells.{Cell, CellRun, cells_along}
 use Rattle.exch_lane.specs.Lanes.{Sent, numbered}
 use Rattle.exch_lane.specs.Lanes.{EntryOf as LaneEntry}
 use Rattle.fw_package.specs.Package.{PackageText}
 use Rattle.fwup_wire.specs.Laws.{WritesCommands}
-use Rattle.fd_core.specs.Steps.{device_verdict}
 use Rattle.fd_core.specs.Wishes.{device_wish}
-use Rattle.ua_core.specs.Calls.{agent_activated}
 use Rattle.ua_core.specs.Session.{TimedOf}
 use Rattle.fw_message.specs.History.{EntryOf}
 use Rattle.fw_message.specs.Pairs.{HeldOf, PairOf, down_wish}
@@ -20,16 +17,14 @@ use Rattle.fw_message.specs.declared.side.Side.TheVariants as sides
 use Rattle.fw_node.specs.Cores.{TimedDevice, device_core, session_core}
 use Rattle.fw_node.specs.Halves.{HalfHeard, HalfOf, half_hears}
 use Rattle.fw_world.specs.JoinLaws.{LinksAreMessages, StepsInMessages}
-use Rattle.fw_world.specs.Joins.{Joined}
-use Rattle.fw_world.specs.Lanes.{LinkExplained, down_comes, down_lane, down_steps, is_down, is_of, is_up, up_comes, up_lane, up_steps}
-use Rattle.fw_world.specs.LinkLaws.{CanBeSaid, IsToldOn, StepsInLanes}
+use Rattle.fw_world.specs.Lanes.{LinkExplained, down_comes, down_lane, down_steps, is_down, is_up, up_comes, up_lane, up_steps}
+use Rattle.fw_world.specs.LinkLaws.{CanBeSaid, IsToldOn}
 use Rattle.fw_world.specs.Links.{LinkOf, LinkStep, LinkStepped, agent_heard, delivers_on, device_heard, hears_on, link_after, link_ticks, posted, unnoted}
 use Rattle.fw_world.proofs.Joins.AgentSide.{agent_notes, agent_place, agent_side}
 use Rattle.fw_world.proofs.Joins.Calls.{activate_joins, agent_restart_joins, cancel_joins, device_restart_joins, judge_joins, start_joins}
 use Rattle.fw_world.proofs.Joins.Delivers.{half_comes}
 use Rattle.fw_world.proofs.Joins.DeviceSide.{device_notes, device_place, device_side}
-use Rattle.fw_world.proofs.Joins.Goes.{Holds}
-use Rattle.fw_world.proofs.Joins.Learns.{HeardGoes, Others}
+use Rattle.fw_world.proofs.Joins.Learns.{HeardGoes}
 use Rattle.fw_world.proofs.Joins.Links.{BothHold, BothRest, BothWait, LinkGoes, both_joined, joined_both, joined_pair, pair_at, tick_joins}
 use Rattle.fw_world.proofs.Links.Sorted.{numbered_at}
 
