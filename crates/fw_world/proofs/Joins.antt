@@ -8,8 +8,10 @@ pub mod DeviceSide
 pub mod Goes
 pub mod Learns
 pub mod Links
+pub mod Pairs
 pub mod Rows
 pub mod Sides
+pub mod Stands
 pub mod Takes
 pub mod Ticks
 pub mod Whole
