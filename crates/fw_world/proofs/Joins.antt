@@ -5,6 +5,7 @@ pub mod Calls
 pub mod Cells
 pub mod Delivers
 pub mod DeviceSide
+pub mod Each
 pub mod Goes
 pub mod Learns
 pub mod Links
