@@ -9,6 +9,7 @@ pub mod Each
 pub mod Goes
 pub mod Learns
 pub mod Links
+pub mod Moves
 pub mod Pairs
 pub mod Rows
 pub mod Sides
