@@ -17,3 +17,4 @@ pub mod Stands
 pub mod Takes
 pub mod Ticks
 pub mod Whole
+pub mod Worlds
