@@ -7,6 +7,7 @@ pub mod Misses
 pub mod Moves
 pub mod Openings
 pub mod Phases
+pub mod Posting
 pub mod Routed
 pub mod Routes
 pub mod Sendings
