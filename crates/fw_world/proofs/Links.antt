@@ -1,4 +1,5 @@
 -- Why a step of a link is steps of its two lanes.
+pub mod AgentTicks
 pub mod Comings
 pub mod Goes
 pub mod Hears
