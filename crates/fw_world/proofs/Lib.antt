@@ -1,1 +1,7 @@
+mod Activating
+mod Components
+mod Judging
 mod Links
+mod Noting
+mod Rooms
+mod Ticking

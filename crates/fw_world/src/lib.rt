@@ -3,6 +3,7 @@
 #![tactic(auto)]
 
 mod laws;
+mod site;
 mod step;
 
 pub use fw_message::{
