@@ -1,6 +1,7 @@
 -- Why a step of a link is steps of its two lanes.
 pub mod AgentTicks
 pub mod Comings
+pub mod Firsts
 pub mod Goes
 pub mod Hears
 pub mod InLanes

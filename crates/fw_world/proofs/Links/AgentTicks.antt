@@ -1,5 +1,5 @@
 -- What the agent's tick is for one of its devices.
-use Rattle.std.proofs.Common.{◌≡◌, ◌≢◌, ◌∙◌, ◌+◌, ◌-◌, ◌==◌, ◌≤◌, ◌<◌, ℕ, zero, suc, Bool, true, false, if◌then◌else◌, List, [], ◌∷◌, ◌++◌, flat_map, map, nat_le, slice_get, Option, Some, None, IfSome, inl, inr, refl, sym, ap, subst, arith}
+use Rattle.std.proofs.Common.{◌≡◌, ◌≢◌, ◌∙◌, ◌+◌, ◌-◌, ◌==◌, ◌≤◌, ◌<◌, ℕ, zero, suc, Bool, true, false, if◌then◌else◌, List, [], ◌∷◌, ◌++◌, flat_map, map, nat_le, slice_get, slice_set, Option, Some, None, IfSome, inl, inr, refl, sym, ap, subst, arith}
 use Rattle.std.specs.List.{AllByRecursion, filter}
 use Rattle.std.specs.Option.{option_map}
 use Rattle.std.proofs.lemmas.Bool.{cases_lt, eq-eqb, le-leb, lt-leb, ne_eqb}
@@ -12,63 +12,42 @@ use Rattle.fw_node.specs.Agents.{AgentOf, again_packets, agent_tick_sends, agent
 use Rattle.fw_node.specs.Cores.{session_core}
 use Rattle.fw_node.specs.Halves.{HalfOf, half_ticks}
 use Rattle.fw_node.specs.Packets.{all_packets}
+use Rattle.fw_world.proofs.Links.Firsts.{at_place, first_changed, first_fact, first_key, first_of, first_set, is_first, place_by}
 use Rattle.fw_world.proofs.Links.Phases.{AreSoon, agent_half_sends, agent_halves_after, deaf_sends_nothing}
 use Rattle.fw_world.proofs.Links.Posting.{all_mine, is_to, none_mine}
 use Rattle.fw_world.proofs.Links.Sendings.{GoesTo, IsRoutedHalf, packets_to, tick_sends_to}
 use Rattle.fw_world.proofs.Links.Sorted.{all_behind, each_all}
 use Rattle.fw_world.proofs.Links.Ticks.{same_ticked}
 
+-- the device of a half
+abbrev pub half_peer : HalfOf TimedOf → ℕ
+half_peer h = h.peer
+
 -- the first half for this device
 abbrev pub first_half : List (HalfOf TimedOf) → ℕ → Option (HalfOf TimedOf)
-first_half [] eid = None
-first_half (h ∷ hs) eid = if h.peer == eid then Some h else first_half hs eid
+first_half hs eid = first_of half_peer hs eid
 
-further : (here : Bool) (n : ℕ) (x y : Option ℕ) → y ≡ option_map suc x → (if here then Some (suc n) else y) ≡ option_map suc (if here then Some n else x)
-further true n x y e = refl
-further false n x y e = e
+same_place : (n : ℕ) (hs : List (HalfOf TimedOf)) (eid : ℕ) → place_from n hs eid ≡ place_by half_peer n hs eid
+same_place n [] eid = refl
+same_place n (h ∷ hs) eid = ap (λ o. if h.peer == eid then Some n else o) (same_place (n + 1) hs eid)
 
-place_further : (n : ℕ) (hs : List (HalfOf TimedOf)) (eid : ℕ) → place_from (suc n) hs eid ≡ option_map suc (place_from n hs eid)
-place_further n [] eid = refl
-place_further n (h ∷ hs) eid =
-    let same : suc n + 1 ≡ suc (n + 1) = omega arith in
-    further (h.peer == eid) n (place_from (n + 1) hs eid) (place_from (suc n + 1) hs eid) (ap (λ m. place_from m hs eid) same ∙ place_further (n + 1) hs eid)
-
-half_further : (h : HalfOf TimedOf) (hs : List (HalfOf TimedOf)) (o : Option ℕ) → half_at (h ∷ hs) (option_map suc o) ≡ half_at hs o
-half_further h hs None = refl
-half_further h hs (Some i) = refl
-
-first_by : (here : Bool) (h : HalfOf TimedOf) (hs : List (HalfOf TimedOf)) (p : Option ℕ) (o : Option (HalfOf TimedOf)) → half_at (h ∷ hs) p ≡ o
-    → half_at (h ∷ hs) (if here then Some 0 else p) ≡ (if here then Some h else o)
-first_by true h hs p o e = refl
-first_by false h hs p o e = e
+same_half : (hs : List (HalfOf TimedOf)) (o : Option ℕ) → half_at hs o ≡ at_place hs o
+same_half hs None = refl
+same_half hs (Some i) = refl
 
 pub half_is_first : (hs : List (HalfOf TimedOf)) (eid : ℕ) → half_at hs (place_of hs eid) ≡ first_half hs eid
-half_is_first [] eid = refl
-half_is_first (h ∷ hs) eid =
-    first_by (h.peer == eid) h hs (place_from 1 hs eid) (first_half hs eid)
-    (ap (half_at (h ∷ hs)) (place_further 0 hs eid) ∙ half_further h hs (place_of hs eid) ∙ half_is_first hs eid)
+half_is_first hs eid = same_half hs (place_of hs eid) ∙ ap (at_place hs) (same_place 0 hs eid) ∙ is_first half_peer hs eid
 
--- a fact of all halves, of the one
-first_fact_by : (P : HalfOf TimedOf → Type 0) (here : Bool) (h : HalfOf TimedOf) (o : Option (HalfOf TimedOf)) → P h → IfSome o P → IfSome (if here then Some h else o) P
-first_fact_by P true h o k ks = k
-first_fact_by P false h o k ks = ks
+-- Where a half becomes another for the same device, the others stay.
+pub half_set : (hs : List (HalfOf TimedOf)) (y : HalfOf TimedOf) (own eid p : ℕ) → place_of hs own ≡ Some p → y.peer ≡ own
+    → half_at (slice_set hs p y) (place_of (slice_set hs p y) eid) ≡ (if own == eid then Some y else half_at hs (place_of hs eid))
+half_set hs y own eid p there is =
+    half_is_first (slice_set hs p y) eid ∙ first_set half_peer hs y own eid p (sym (same_place 0 hs own) ∙ there) is
+    ∙ ap (λ o. if own == eid then Some y else o) (sym (half_is_first hs eid))
 
-pub first_fact : (P : HalfOf TimedOf → Type 0) (hs : List (HalfOf TimedOf)) (eid : ℕ) → AllByRecursion P hs → IfSome (first_half hs eid) P
-first_fact P [] eid k = tt
-first_fact P (h ∷ hs) eid k = first_fact_by P (h.peer == eid) h (first_half hs eid) k.0 (first_fact P hs eid k.1)
-
--- all halves change, and stay those of their devices
-changed_by : (here : Bool) (f : HalfOf TimedOf → HalfOf TimedOf) (h : HalfOf TimedOf) (o u : Option (HalfOf TimedOf)) → u ≡ option_map f o
-    → (if here then Some (f h) else u) ≡ option_map f (if here then Some h else o)
-changed_by true f h o u e = refl
-changed_by false f h o u e = e
-
-pub first_changed : (f : HalfOf TimedOf → HalfOf TimedOf) → ((h : HalfOf TimedOf) → (f h).peer ≡ h.peer) → (hs : List (HalfOf TimedOf)) (eid : ℕ)
-    → first_half (map f hs) eid ≡ option_map f (first_half hs eid)
-first_changed f same [] eid = refl
-first_changed f same (h ∷ hs) eid =
-    ap (λ p. if p == eid then Some (f h) else first_half (map f hs) eid) (same h)
-    ∙ changed_by (h.peer == eid) f h (first_half hs eid) (first_half (map f hs) eid) (first_changed f same hs eid)
+-- a half is for the device by which it was found
+pub half_found : (hs : List (HalfOf TimedOf)) (eid : ℕ) (h : HalfOf TimedOf) → half_at hs (place_of hs eid) ≡ Some h → h.peer ≡ eid
+half_found hs eid h e = subst (λ o. IfSome o (λ y. half_peer y ≡ eid)) (sym (half_is_first hs eid) ∙ e) (first_key half_peer hs eid)
 
 -- no two halves are for the same device
 abbrev pub AreApart : List (HalfOf TimedOf) → Type 0
@@ -160,14 +139,14 @@ hearing_sends packages deaf hs eid soon k apart =
     ∙ filter-append (is_to eid) (flat_map again_packets hs) (flat_map (last_packets packages) hs)
     ∙ ap (λ xs. xs ++ filter (is_to eid) (flat_map (last_packets packages) hs)) (sends_first again_packets hs eid (again_home packages deaf hs soon k) apart)
     ∙ ap (λ xs. sent_for again_packets (first_half hs eid) ++ xs) (sends_first (last_packets packages) hs eid (last_home packages deaf hs soon k) apart)
-    ∙ parts_for packages deaf (first_half hs eid) soon (first_fact (IsHalfOf deaf) hs eid k)
+    ∙ parts_for packages deaf (first_half hs eid) soon (first_fact half_peer (IsHalfOf deaf) hs eid k)
 
 -- What the agent's tick sends to a device is what the device's half sends in it.
 pub agent_tick_sends_at : (packages : List PackageText) (n : AgentOf) (eid : ℕ) → AllByRecursion (IsHalfOf n.deaf) n.halves → AreApart n.halves
     → filter (is_to eid) (agent_tick_sends packages n) ≡ sent_for (ticked_packets packages) (half_for n eid)
 agent_tick_sends_at packages n eid k apart = elim (cases_lt 1 n.deaf) [
   | inl more ↦
-      rw (lt-leb n.deaf 1 more) (silent_for packages n.deaf (first_half n.halves eid) more (first_fact (IsHalfOf n.deaf) n.halves eid k))
+      rw (lt-leb n.deaf 1 more) (silent_for packages n.deaf (first_half n.halves eid) more (first_fact half_peer (IsHalfOf n.deaf) n.halves eid k))
       ∙ ap (sent_for (ticked_packets packages)) (sym (half_is_first n.halves eid))
   | inr soon ↦
       rw (le-leb n.deaf 1 soon) (hearing_sends packages n.deaf n.halves eid soon k apart)
@@ -194,5 +173,5 @@ pub agent_ticks_at : (packages : List PackageText) (now : ℕ) (n : AgentOf) (ei
 agent_ticks_at packages now n eid k =
     half_is_first (agent_ticks packages now n).halves eid
     ∙ ap (λ hs. first_half hs eid) (halves_after_tick packages now n k)
-    ∙ first_changed (half_after_tick packages) (λ h. (same_ticked (session_core packages) h).1) n.halves eid
+    ∙ first_changed half_peer (half_after_tick packages) (λ h. (same_ticked (session_core packages) h).1) n.halves eid
     ∙ ap (option_map (half_after_tick packages)) (sym (half_is_first n.halves eid))

@@ -1,5 +1,5 @@
 -- The agent's packets are put behind those of the devices that they go to.
-use Rattle.std.proofs.Common.{◌≡◌, ◌≢◌, ◌∙◌, ◌+◌, ◌==◌, ℕ, zero, suc, Bool, true, false, if◌then◌else◌, List, [], ◌∷◌, ◌++◌, flat_map, map, slice_get, slice_set, Option, Some, None, inl, inr, refl, sym, ap, subst, arith}
+use Rattle.std.proofs.Common.{◌≡◌, ◌≢◌, ◌∙◌, ◌+◌, ◌==◌, ℕ, zero, suc, Bool, true, false, if◌then◌else◌, List, [], ◌∷◌, ◌++◌, flat_map, map, slice_get, slice_set, Option, Some, None, IfSome, inl, inr, refl, sym, ap, subst, arith}
 use Rattle.std.specs.List.{AllByRecursion, filter}
 use Rattle.std.specs.Option.{option_map}
 use Rattle.std.proofs.lemmas.Bool.{eq-eqb, ne_eqb}
@@ -8,70 +8,42 @@ use Rattle.std.proofs.lemmas.List.{append-nil, append_assoc}
 use Rattle.exch_lane.specs.Lanes.{Sent}
 use Rattle.exch_lane.specs.Steps.{sent_at}
 use Rattle.fw_world.specs.Worlds.{SiteOf, place_for, place_from, place_of, post, post_at, posts, sent_now, site_at, site_for}
+use Rattle.fw_world.proofs.Links.Firsts.{at_place, first_changed, first_key, first_of, first_set, is_first, place_by}
 use Rattle.fw_world.proofs.Links.Sendings.{GoesTo}
+
+-- the identifier of a device
+abbrev pub site_eid : SiteOf → ℕ
+site_eid x = x.node.endpoint.eid
 
 -- the first device of this identifier
 abbrev pub first_site : List SiteOf → ℕ → Option SiteOf
-first_site [] eid = None
-first_site (x ∷ xs) eid = if x.node.endpoint.eid == eid then Some x else first_site xs eid
+first_site xs eid = first_of site_eid xs eid
 
--- one more place
-further : (here : Bool) (n : ℕ) (x y : Option ℕ) → y ≡ option_map suc x → (if here then Some (suc n) else y) ≡ option_map suc (if here then Some n else x)
-further true n x y e = refl
-further false n x y e = e
+same_place : (n : ℕ) (xs : List SiteOf) (eid : ℕ) → place_from n xs eid ≡ place_by site_eid n xs eid
+same_place n [] eid = refl
+same_place n (x ∷ xs) eid = ap (λ o. if x.node.endpoint.eid == eid then Some n else o) (same_place (n + 1) xs eid)
 
-place_further : (n : ℕ) (xs : List SiteOf) (eid : ℕ) → place_from (suc n) xs eid ≡ option_map suc (place_from n xs eid)
-place_further n [] eid = refl
-place_further n (x ∷ xs) eid =
-    let same : suc n + 1 ≡ suc (n + 1) = omega arith in
-    further (x.node.endpoint.eid == eid) n (place_from (n + 1) xs eid) (place_from (suc n + 1) xs eid) (ap (λ m. place_from m xs eid) same ∙ place_further (n + 1) xs eid)
-
--- the rest of the list
-site_further : (x : SiteOf) (xs : List SiteOf) (o : Option ℕ) → site_at (x ∷ xs) (option_map suc o) ≡ site_at xs o
-site_further x xs None = refl
-site_further x xs (Some i) = refl
-
-first_by : (here : Bool) (x : SiteOf) (xs : List SiteOf) (p : Option ℕ) (o : Option SiteOf) → site_at (x ∷ xs) p ≡ o → site_at (x ∷ xs) (if here then Some 0 else p) ≡ (if here then Some x else o)
-first_by true x xs p o e = refl
-first_by false x xs p o e = e
+same_site : (xs : List SiteOf) (o : Option ℕ) → site_at xs o ≡ at_place xs o
+same_site xs None = refl
+same_site xs (Some i) = refl
 
 pub site_is_first : (xs : List SiteOf) (eid : ℕ) → site_for xs eid ≡ first_site xs eid
-site_is_first [] eid = refl
-site_is_first (x ∷ xs) eid =
-    first_by (x.node.endpoint.eid == eid) x xs (place_from 1 xs eid) (first_site xs eid)
-    (ap (site_at (x ∷ xs)) (place_further 0 xs eid) ∙ site_further x xs (place_of xs eid) ∙ site_is_first xs eid)
+site_is_first xs eid = same_site xs (place_of xs eid) ∙ ap (at_place xs) (same_place 0 xs eid) ∙ is_first site_eid xs eid
+
+-- Where a device becomes another of the same identifier, the others stay.
+pub site_set : (xs : List SiteOf) (y : SiteOf) (own eid p : ℕ) → place_of xs own ≡ Some p → site_eid y ≡ own
+    → site_for (slice_set xs p y) eid ≡ (if own == eid then Some y else site_for xs eid)
+site_set xs y own eid p there is =
+    site_is_first (slice_set xs p y) eid ∙ first_set site_eid xs y own eid p (sym (same_place 0 xs own) ∙ there) is
+    ∙ ap (λ o. if own == eid then Some y else o) (sym (site_is_first xs eid))
+
+-- a device has the identifier by which it was found
+pub site_found : (xs : List SiteOf) (eid : ℕ) (x : SiteOf) → site_for xs eid ≡ Some x → site_eid x ≡ eid
+site_found xs eid x e = subst (λ o. IfSome o (λ y. site_eid y ≡ eid)) (sym (site_is_first xs eid) ∙ e) (first_key site_eid xs eid)
 
 -- a packet behind those of a device
 abbrev pub with_packet : ℕ → List ℕ → SiteOf → SiteOf
 with_packet now packet x = record x { packets = x.packets ++ sent_now now (packet ∷ []) }
-
-abbrev pub put_first : ℕ → List ℕ → (eid : ℕ) → List SiteOf → List SiteOf
-put_first now packet eid [] = []
-put_first now packet eid (x ∷ xs) = if x.node.endpoint.eid == eid then with_packet now packet x ∷ xs else x ∷ put_first now packet eid xs
-
-post_further_at : (now : ℕ) (x : SiteOf) (xs : List SiteOf) (packet : List ℕ) (i : ℕ) (o : Option SiteOf)
-    → post_at now (x ∷ xs) packet (Some (suc i)) o ≡ x ∷ post_at now xs packet (Some i) o
-post_further_at now x xs packet i None = refl
-post_further_at now x xs packet i (Some y) = refl
-
-post_further : (now : ℕ) (x : SiteOf) (xs : List SiteOf) (packet : List ℕ) (p : Option ℕ) (o : Option SiteOf)
-    → post_at now (x ∷ xs) packet (option_map suc p) o ≡ x ∷ post_at now xs packet p o
-post_further now x xs packet None o = refl
-post_further now x xs packet (Some i) o = post_further_at now x xs packet i o
-
-post_first_by : (here : Bool) (now : ℕ) (x : SiteOf) (xs ys : List SiteOf) (packet : List ℕ) (p : Option ℕ) → post_at now (x ∷ xs) packet p (site_at (x ∷ xs) p) ≡ x ∷ ys
-    → post_at now (x ∷ xs) packet (if here then Some 0 else p) (site_at (x ∷ xs) (if here then Some 0 else p)) ≡ (if here then with_packet now packet x ∷ xs else x ∷ ys)
-post_first_by true now x xs ys packet p e = refl
-post_first_by false now x xs ys packet p e = e
-
-post_first : (now : ℕ) (xs : List SiteOf) (packet : List ℕ) (eid : ℕ) → post_at now xs packet (place_of xs eid) (site_at xs (place_of xs eid)) ≡ put_first now packet eid xs
-post_first now [] packet eid = refl
-post_first now (x ∷ xs) packet eid =
-    post_first_by (x.node.endpoint.eid == eid) now x xs (put_first now packet eid xs) packet (place_from 1 xs eid)
-    (ap (λ p. post_at now (x ∷ xs) packet p (site_at (x ∷ xs) p)) (place_further 0 xs eid)
-    ∙ ap (post_at now (x ∷ xs) packet (option_map suc (place_of xs eid))) (site_further x xs (place_of xs eid))
-    ∙ post_further now x xs packet (place_of xs eid) (site_at xs (place_of xs eid))
-    ∙ ap (λ ys. x ∷ ys) (post_first now xs packet eid))
 
 -- the packet goes to this device
 abbrev pub is_to : ℕ → List ℕ → Bool
@@ -83,25 +55,37 @@ abbrev with_if : Bool → ℕ → List ℕ → Option SiteOf → Option SiteOf
 with_if true now packet o = option_map (with_packet now packet) o
 with_if false now packet o = o
 
-same_eid : (now : ℕ) (packet : List ℕ) (dest eid : ℕ) (xs : List SiteOf) → first_site (put_first now packet dest xs) eid ≡ with_if (dest == eid) now packet (first_site xs eid)
-same_eid now packet dest eid [] = elim (eqb_tells dest eid) [ | inl same ↦ rw same.0 refl | inr other ↦ rw other.0 refl ]
-same_eid now packet dest eid (x ∷ xs) = elim (eqb_tells x.node.endpoint.eid dest) [
-  | inl here ↦ elim (eqb_tells dest eid) [
-    | inl same ↦ rw (here.0, eq-eqb x.node.endpoint.eid eid (here.1 ∙ same.1), same.0) refl
-    | inr other ↦ rw (here.0, ne_eqb x.node.endpoint.eid eid (λ z. other.1 (sym here.1 ∙ z)), other.0) refl
-  ]
-  | inr there ↦ elim (eqb_tells x.node.endpoint.eid eid) [
-    | inl mine ↦ rw (there.0, mine.0, ne_eqb dest eid (λ z. there.1 (mine.1 ∙ sym z))) refl
-    | inr other ↦ rw (there.0, other.0) (same_eid now packet dest eid xs)
-  ]
+-- a packet to no device
+unposted : (now : ℕ) (packet : List ℕ) (xs : List SiteOf) (dest eid : ℕ) → site_for xs dest ≡ None → site_for xs eid ≡ with_if (dest == eid) now packet (site_for xs eid)
+unposted now packet xs dest eid none = elim (eqb_tells dest eid) [
+  | inl same ↦
+      let here : site_for xs eid ≡ None = ap (site_for xs) (sym same.1) ∙ none in
+      here ∙ sym (ap (λ b. with_if b now packet (site_for xs eid)) same.0 ∙ ap (option_map (with_packet now packet)) here)
+  | inr other ↦ rw other.0 refl
 ]
 
+posted_to : (now : ℕ) (packet : List ℕ) (xs : List SiteOf) (dest eid : ℕ) (x : SiteOf) → site_for xs dest ≡ Some x
+    → (if dest == eid then Some (with_packet now packet x) else site_for xs eid) ≡ with_if (dest == eid) now packet (site_for xs eid)
+posted_to now packet xs dest eid x found = elim (eqb_tells dest eid) [
+  | inl same ↦
+      let here : site_for xs eid ≡ Some x = ap (site_for xs) (sym same.1) ∙ found in
+      rw same.0 (sym (ap (option_map (with_packet now packet)) here))
+  | inr other ↦ rw other.0 refl
+]
+
+post_by : (now : ℕ) (packet : List ℕ) (xs : List SiteOf) (dest eid : ℕ) (o : Option ℕ) (s : Option SiteOf) → place_of xs dest ≡ o → site_for xs dest ≡ s
+    → site_for (post_at now xs packet o s) eid ≡ with_if (dest == eid) now packet (site_for xs eid)
+post_by now packet xs dest eid None None there found = unposted now packet xs dest eid found
+post_by now packet xs dest eid None (Some x) there found = absurd (let none : None ≡ Some x = sym (ap (site_at xs) there) ∙ found in cc)
+post_by now packet xs dest eid (Some p) None there found = unposted now packet xs dest eid found
+post_by now packet xs dest eid (Some p) (Some x) there found =
+    site_set xs (with_packet now packet x) dest eid p there (site_found xs dest x found) ∙ posted_to now packet xs dest eid x found
+
 -- one packet
-post_one : (now : ℕ) (xs : List SiteOf) (packet : List ℕ) (eid : ℕ) → first_site (post now xs packet) eid ≡ with_if (is_to eid packet) now packet (first_site xs eid)
+post_one : (now : ℕ) (xs : List SiteOf) (packet : List ℕ) (eid : ℕ) → site_for (post now xs packet) eid ≡ with_if (is_to eid packet) now packet (site_for xs eid)
 post_one now xs [] eid = refl
 post_one now xs (version ∷ []) eid = refl
-post_one now xs (version ∷ dest ∷ rest) eid =
-    ap (λ ys. first_site ys eid) (post_first now xs (version ∷ dest ∷ rest) dest) ∙ same_eid now (version ∷ dest ∷ rest) dest eid xs
+post_one now xs (version ∷ dest ∷ rest) eid = post_by now (version ∷ dest ∷ rest) xs dest eid (place_of xs dest) (site_for xs dest) refl refl
 
 -- all packets
 abbrev pub with_packets : ℕ → List (List ℕ) → SiteOf → SiteOf
@@ -118,20 +102,19 @@ one_behind now packet packets true (Some x) =
     ap (λ ps. Some (record x { packets = ps })) (append_assoc x.packets (sent_now now (packet ∷ [])) (sent_now now packets))
 one_behind now packet packets false o = refl
 
-first_posts : (now : ℕ) (packets : List (List ℕ)) (xs : List SiteOf) (eid : ℕ)
-    → first_site (posts now xs packets) eid ≡ option_map (with_packets now (filter (is_to eid) packets)) (first_site xs eid)
-first_posts now [] xs eid = none_behind now (first_site xs eid)
-first_posts now (p ∷ ps) xs eid =
-    first_posts now ps (post now xs p) eid
-    ∙ ap (option_map (with_packets now (filter (is_to eid) ps))) (post_one now xs p eid)
-    ∙ one_behind now p (filter (is_to eid) ps) (is_to eid p) (first_site xs eid)
-
 -- A device gets the packets that go to it, behind those that it has, and no others.
 pub posts_at : (now : ℕ) (packets : List (List ℕ)) (xs : List SiteOf) (eid : ℕ)
     → site_for (posts now xs packets) eid ≡ option_map (with_packets now (filter (is_to eid) packets)) (site_for xs eid)
-posts_at now packets xs eid =
-    site_is_first (posts now xs packets) eid ∙ first_posts now packets xs eid
-    ∙ ap (option_map (with_packets now (filter (is_to eid) packets))) (sym (site_is_first xs eid))
+posts_at now [] xs eid = none_behind now (site_for xs eid)
+posts_at now (p ∷ ps) xs eid =
+    posts_at now ps (post now xs p) eid
+    ∙ ap (option_map (with_packets now (filter (is_to eid) ps))) (post_one now xs p eid)
+    ∙ one_behind now p (filter (is_to eid) ps) (is_to eid p) (site_for xs eid)
+
+-- All devices change, and keep their identifiers.
+pub site_changed : (f : SiteOf → SiteOf) → ((x : SiteOf) → site_eid (f x) ≡ site_eid x) → (xs : List SiteOf) (eid : ℕ) → site_for (map f xs) eid ≡ option_map f (site_for xs eid)
+site_changed f same xs eid =
+    site_is_first (map f xs) eid ∙ first_changed site_eid f same xs eid ∙ ap (option_map f) (sym (site_is_first xs eid))
 
 -- packets that all go to one device
 pub all_mine : (eid : ℕ) (packets : List (List ℕ)) → AllByRecursion (GoesTo eid) packets → filter (is_to eid) packets ≡ packets
