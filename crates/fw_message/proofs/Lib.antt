@@ -1,7 +1,7 @@
 mod Activating
 mod Allowing
 mod Apart
-mod Applied
+pub mod Applied
 mod Closings
 mod Finding
 mod Moments
@@ -12,6 +12,6 @@ mod Records
 mod Rising
 mod Running
 mod Safety
-mod Sealing
+pub mod Sealing
 mod Stepping
-mod Working
+pub mod Working

@@ -13,11 +13,14 @@ mod side;
 mod step;
 #[cfg(test)]
 mod tests;
+mod verdicts;
 
 pub use cell::Held;
 pub use entry::{Entry, Event, Image};
+pub use images::applied_images;
 pub use laws::{messages_are_safe, runs_stay_tied, worlds_are_safe};
 pub use messages::MessageWorld;
 pub use replay::message_replay;
 pub use side::{Side, Way};
 pub use step::{MessageStep, MessageStepFault};
+pub use verdicts::{awaits, copied, has_failed, room_for};

@@ -1,4 +1,5 @@
 mod AgentTicks
+mod Calls
 mod Controls
 mod Loops
 mod NodeHears

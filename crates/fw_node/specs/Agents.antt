@@ -1,5 +1,5 @@
 -- The agent's node: a half for each device that it updates, in configured order, and the event log.
-use Rattle.std.specs.Prelude.{ℕ, ◌-◌, ◌+◌, ◌==◌, nat_le, true, if◌then◌else◌, List, [], ◌∷◌, ◌++◌, flat_map, map, slice_get, slice_set, Option, Some, None, Result, Ok, Err}
+use Rattle.std.specs.Prelude.{ℕ, ◌-◌, ◌+◌, ◌==◌, nat_le, true, if◌then◌else◌, List, [], ◌∷◌, ◌++◌, flat_map, map, slice_get, slice_set, Option, Some, None, Result, Ok, Err, Bool}
 use Rattle.mctp_ctl.specs.declared.answers.Endpoint.{Endpoint}
 use Rattle.mctp_reasm.specs.Pieces.{MessageOf}
 use Rattle.mctp_wire.specs.Packet as wire
@@ -11,7 +11,7 @@ use Rattle.pldm_exch.specs.declared.caller.CallTick.{CallTick}
 use Rattle.pldm_exch.specs.declared.caller.CallTick.TheVariants as ticks
 use Rattle.fw_package.specs.Package.{PackageText}
 use Rattle.sel_core.specs.Log.{LogOf, new_log, sel_restart}
-use Rattle.ua_core.specs.Calls.{agent_cancelled, agent_started, may_cancel, new_session}
+use Rattle.ua_core.specs.Calls.{agent_activated, agent_cancelled, agent_started, is_free, may_cancel, new_session}
 use Rattle.ua_core.specs.Session.{SessionOf, TimedOf}
 use Rattle.fw_node.specs.BothEnds.{EndsOf, ends_new}
 use Rattle.fw_node.specs.Cores.{session_core}
@@ -178,3 +178,19 @@ becomes_at n now call place h = n
 -- An agent after a call that leaves this half for a device.
 abbrev pub agent_becomes : AgentOf → (now eid : ℕ) → (HalfOf TimedOf → HalfOf TimedOf) → AgentOf
 agent_becomes n now eid call = becomes_at n now call (place_of n.halves eid) (half_for n eid)
+
+-- whether the session for a device is free, if there is one
+abbrev pub free_in : Option (HalfOf TimedOf) → Option Bool
+free_in None = None
+free_in (Some h) = Some (is_free h.core.session)
+
+abbrev pub free_for : AgentOf → (eid : ℕ) → Option Bool
+free_for n eid = free_in (half_for n eid)
+
+-- the session for a device after an activation, if there is one that is ready for it
+abbrev pub ready_in : Option (HalfOf TimedOf) → Option SessionOf
+ready_in None = None
+ready_in (Some h) = agent_activated h.core.session
+
+abbrev pub ready_for : AgentOf → (eid : ℕ) → Option SessionOf
+ready_for n eid = ready_in (half_for n eid)

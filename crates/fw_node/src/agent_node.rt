@@ -5,8 +5,8 @@ ghost use Rattle.mctp_wire.specs.Packet.{packet_of as packet_read};
 ghost use Rattle.fw_package.specs.Package.{PackageText};
 ghost use Rattle.sel_core.specs.Log.{sel_after, sel_reply};
 ghost use Rattle.ua_core.specs.Calls.{agent_activated, is_free};
-ghost use Rattle.fw_node.specs.Agents.{AgentOf, PartOf, activates, again_packets, agent_becomes, agent_hears, agent_restarts, agent_tick_sends, agent_ticks, asked_last, asked_packets, becomes_at, cancels, ended, ended_packets, grown, half_at, half_for, half_in, hears_at, new_agent, new_half, notes, place_from, place_heard, place_of, starts, waited};
-ghost use Rattle.fw_node.specs.AgentViews.{agent_of, part_restarted};
+ghost use Rattle.fw_node.specs.Agents.{AgentOf, PartOf, activates, free_for, ready_for, again_packets, agent_becomes, agent_hears, agent_restarts, agent_tick_sends, agent_ticks, asked_last, asked_packets, becomes_at, cancels, ended, ended_packets, grown, half_at, half_for, half_in, hears_at, new_agent, new_half, notes, place_from, place_heard, place_of, starts, waited};
+ghost use Rattle.fw_node.specs.AgentViews.{agent_of, part_activated, part_cancelled, part_free, part_ready, part_restarted, part_started, parts_called, parts_noted};
 ghost use Rattle.fw_node.specs.Cores.{session_core};
 ghost use Rattle.fw_node.specs.Halves.{half_restarts};
 ghost use Rattle.fw_node.specs.Packets.{all_packets};
@@ -159,6 +159,88 @@ impl AgentNode {
         );
     }
 
+    /// Starts an update of one of its devices with the package of this number. It is noted at `now`; a deaf agent takes it too.
+    ///
+    /// # Errors
+    /// `Busy` while an update of that device is under way, else `Memory` where that for its records is refused. Nothing has
+    /// changed then.
+    pub fn start<'p>(
+        &mut self,
+        packages: &'p [Package<'p>],
+        eid: u8,
+        number: usize,
+        now: u32,
+    ) -> Result<(), StartFault>
+        requires { is_some (half_for self.old eid) ≡ true }
+        ensures started { OnOk result (self.new ≡ agent_becomes self.old now eid (λ h. starts packages.now h number)) }
+        ensures free { OnOk result (free_for self.old eid ≡ Some true) }
+        ensures busy { IfErr result (λ e. (e ≡ StartFault.Busy) ↔ (free_for self.old eid ≡ Some false)) }
+        ensures kept { OnErr result (self.new ≡ self.old) }
+    {
+        let Some(place) = place_of(self.parts.as_slice(), eid) else {
+            return Err(StartFault::Busy);
+        };
+        match start_at(
+            self.parts.as_mut_slice(),
+            place,
+            &mut self.desk.log,
+            packages,
+            number,
+            now,
+        ) {
+            Ok(()) => {}
+            Err(fault) => return Err(fault),
+        }
+        Ok(())
+    }
+
+    /// Cancels the update of a device; nothing changes where it is none of the agent's. It is noted at `now`; a deaf agent
+    /// takes it too.
+    pub fn cancel<'p>(&mut self, packages: &'p [Package<'p>], eid: u8, now: u32)
+        ensures { self.new ≡ agent_becomes self.old now eid (cancels packages.now) }
+    {
+        let Some(place) = place_of(self.parts.as_slice(), eid) else {
+            return;
+        };
+        cancel_at(
+            self.parts.as_mut_slice(),
+            place,
+            &mut self.desk.log,
+            packages,
+            now,
+        );
+    }
+
+    /// Has a device activate what it applied. A deaf agent takes it too.
+    ///
+    /// # Errors
+    /// `NotReady` unless all that the update holds for this device is applied. Nothing has changed then.
+    pub fn activate<'p>(
+        &mut self,
+        packages: &'p [Package<'p>],
+        eid: u8,
+        now: u32,
+    ) -> Result<(), NotReady>
+        ensures ready { OnOk result (option_map (λ s. agent_becomes self.old now eid (λ h. activates packages.now h s)) (ready_for self.old eid) ≡ Some self.new) }
+        ensures not { OnErr result (ready_for self.old eid ≡ None) }
+        ensures kept { OnErr result (self.new ≡ self.old) }
+    {
+        let Some(place) = place_of(self.parts.as_slice(), eid) else {
+            return Err(NotReady);
+        };
+        match activate_at(
+            self.parts.as_mut_slice(),
+            place,
+            &mut self.desk.log,
+            packages,
+            now,
+        ) {
+            Ok(()) => {}
+            Err(fault) => return Err(fault),
+        }
+        Ok(())
+    }
+
     /// Starts anew: no update is under way, and the agent is deaf and silent for 40 ticks. The records of its sessions and of
     /// its log stay.
     pub fn restart(&mut self)
@@ -244,6 +326,70 @@ fn hear_at<'p>(
     ensures count { length parts.new ≡ length parts.old }
 {
     parts[place].hear(desk, packages, bytes, now, outbox);
+}
+
+/// The session at a place starts an update, and it is noted.
+fn start_at<'p>(
+    parts: &mut [Part],
+    place: usize,
+    log: &mut Sel,
+    packages: &'p [Package<'p>],
+    number: usize,
+    now: u32,
+) -> Result<(), StartFault>
+    requires { place < length parts.old }
+    ensures parts { OnOk result (parts.new ≡ parts_called parts.old place (part_started packages.now number)) }
+    ensures log { OnOk result (log.new ≡ parts_noted log.old now parts.old place (part_started packages.now number)) }
+    ensures free { OnOk result (part_free (slice_get parts.old place) ≡ Some true) }
+    ensures busy { IfErr result (λ e. (e ≡ StartFault.Busy) ↔ (part_free (slice_get parts.old place) ≡ Some false)) }
+    ensures kept { OnErr result (parts.new ≡ parts.old) }
+    ensures unnoted { OnErr result (log.new ≡ log.old) }
+    ensures count { length parts.new ≡ length parts.old }
+{
+    match parts[place].start(log, packages, number, now) {
+        Ok(()) => {}
+        Err(fault) => return Err(fault),
+    }
+    Ok(())
+}
+
+/// The session at a place is cancelled, and it is noted.
+fn cancel_at<'p>(
+    parts: &mut [Part],
+    place: usize,
+    log: &mut Sel,
+    packages: &'p [Package<'p>],
+    now: u32,
+)
+    requires { place < length parts.old }
+    ensures parts { parts.new ≡ parts_called parts.old place (part_cancelled packages.now) }
+    ensures log { log.new ≡ parts_noted log.old now parts.old place (part_cancelled packages.now) }
+    ensures count { length parts.new ≡ length parts.old }
+{
+    parts[place].cancel(log, packages, now);
+}
+
+/// The session at a place has its device activate what it applied.
+fn activate_at<'p>(
+    parts: &mut [Part],
+    place: usize,
+    log: &mut Sel,
+    packages: &'p [Package<'p>],
+    now: u32,
+) -> Result<(), NotReady>
+    requires { place < length parts.old }
+    ensures parts { OnOk result (option_map (λ s. parts_called parts.old place (part_activated packages.now s)) (part_ready (slice_get parts.old place)) ≡ Some parts.new) }
+    ensures log { OnOk result (option_map (λ s. parts_noted log.old now parts.old place (part_activated packages.now s)) (part_ready (slice_get parts.old place)) ≡ Some log.new) }
+    ensures not { OnErr result (part_ready (slice_get parts.old place) ≡ None) }
+    ensures kept { OnErr result (parts.new ≡ parts.old) }
+    ensures unnoted { OnErr result (log.new ≡ log.old) }
+    ensures count { length parts.new ≡ length parts.old }
+{
+    match parts[place].activate(log, packages, now) {
+        Ok(()) => {}
+        Err(fault) => return Err(fault),
+    }
+    Ok(())
 }
 
 /// The first part of a tick, for all parts.

@@ -49,6 +49,14 @@ impl Outbox {
         self.packets.is_empty()
     }
 
+    /// How many packets there are to send.
+    pub fn len(&self) -> usize
+        ensures count { result ≡ length self.now }
+        ensures few { length self.now ≤ 128 }
+    {
+        self.packets.len()
+    }
+
     /// Takes the first packet out.
     pub fn pop(&mut self) -> Option<RawPacket>
         ensures packet { option_map (λ p. p.items) result ≡ slice_get self.old 0 }

@@ -1,2 +1,8 @@
+mod Activating
+mod Components
 mod Joins
+mod Judging
 mod Links
+mod Noting
+mod Rooms
+mod Ticking

@@ -4,4 +4,5 @@ pub mod Lanes
 pub mod LinkLaws
 pub mod Links
 pub mod Replays
+pub mod Sites
 pub mod Worlds

@@ -9,13 +9,10 @@ use Rattle.fd_core.specs.Components.{HasComponents}
 use Rattle.fd_core.specs.States.{DeviceOf, Phase}
 use Rattle.fd_core.specs.Steps.{device_verdict}
 use Rattle.fd_core.specs.declared.states.Verdict.{Verdict}
-use Rattle.ua_core.specs.Calls.{agent_activated, is_free}
 use Rattle.ua_core.specs.Session.{SessionOf}
 use Rattle.fw_message.specs.Laws.{IsUnapplied}
-use Rattle.fw_node.specs.Agents.{half_for, new_agent}
-use Rattle.fw_node.specs.Halves.{HalfOf}
+use Rattle.fw_node.specs.Agents.{free_for, half_for, new_agent, ready_for}
 use Rattle.fw_node.specs.Nodes.{DeviceNodeOf, new_device_node}
-use Rattle.ua_core.specs.Session.{TimedOf}
 use Rattle.fw_world.specs.Worlds.{SiteOf, WorldOf, packets_of, site_for, world_after}
 use Rattle.fw_world.specs.declared.step.Refusal.TheVariants as refusals
 use Rattle.fw_world.specs.declared.step.Step.{Step}
@@ -30,6 +27,10 @@ is_device w eid = is_some (site_for w.sites eid)
 abbrev pub is_node : WorldOf → ℕ → Bool
 is_node w eid = (eid == w.agent.endpoint.eid) || is_device w eid
 
+-- the agent has a session with it
+abbrev pub has_session : WorldOf → ℕ → Bool
+has_session w eid = is_some (half_for w.agent eid)
+
 -- where there is such a node: why else the step isn't taken
 abbrev pub where_known : Bool → Option StepFault → Option StepFault
 where_known true fault = fault
@@ -40,20 +41,20 @@ abbrev pub packet_fault : ℕ → Option Sent → Option StepFault
 packet_fault now None = Some faults.NoSuchPacket
 packet_fault now (Some p) = if nat_lt (p.date + 8) now then Some faults.Dead else None
 
-abbrev pub start_fault : List PackageText → (number : ℕ) → Option (HalfOf TimedOf) → Option StepFault
-start_fault packages number None = Some faults.NoSuchNode
-start_fault packages number (Some h) =
-    if not (nat_lt 0 number && nat_le number (length packages)) then Some (faults.Refused refusals.NoSuchPackage)
-    else if is_free h.core.session then None
-    else Some (faults.Refused refusals.Busy)
+-- the number of a package, from 1 on
+abbrev pub is_package : List PackageText → ℕ → Bool
+is_package packages number = nat_lt 0 number && nat_le number (length packages)
+
+-- for a session that is free, or that isn't, or that isn't there
+abbrev pub start_fault : (has_package : Bool) → Option Bool → Option StepFault
+start_fault has_package None = Some faults.NoSuchNode
+start_fault false (Some free) = Some (faults.Refused refusals.NoSuchPackage)
+start_fault true (Some false) = Some (faults.Refused refusals.Busy)
+start_fault true (Some true) = None
 
 abbrev pub ready_fault : Option SessionOf → Option StepFault
 ready_fault None = Some (faults.Refused refusals.NotReady)
 ready_fault (Some s) = None
-
-abbrev pub activate_fault : Option (HalfOf TimedOf) → Option StepFault
-activate_fault None = Some faults.NoSuchNode
-activate_fault (Some h) = ready_fault (agent_activated h.core.session)
 
 abbrev pub verdict_fault : Verdict → Option SiteOf → Option StepFault
 verdict_fault verdict None = Some faults.NoSuchNode
@@ -65,9 +66,9 @@ abbrev pub may_step : WorldOf → Step → Option StepFault
 may_step w (steps.Deliver device number node) =
     where_known (is_device w device && is_node w node) (packet_fault w.now (numbered (packets_of w device) number))
 may_step w steps.Tick = if nat_lt w.now (2 ^ 32 - 1) then None else Some (faults.Refused refusals.ClockEnd)
-may_step w (steps.Start device number) = start_fault w.packages number (half_for w.agent device)
-may_step w (steps.Cancel device) = where_known (is_device w device) None
-may_step w (steps.Activate device) = activate_fault (half_for w.agent device)
+may_step w (steps.Start device number) = start_fault (is_package w.packages number) (free_for w.agent device)
+may_step w (steps.Cancel device) = where_known (has_session w device) None
+may_step w (steps.Activate device) = where_known (has_session w device) (ready_fault (ready_for w.agent device))
 may_step w (steps.Verdict device verdict) = verdict_fault verdict (site_for w.sites device)
 may_step w (steps.Restart node) = where_known (is_node w node) None
 may_step w (steps.Sel bytes) = None

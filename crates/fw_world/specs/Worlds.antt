@@ -12,12 +12,11 @@ use Rattle.fd_core.specs.Steps.{applied_by}
 use Rattle.fd_core.specs.declared.states.Verdict.{Verdict}
 use Rattle.pldm_exch.specs.Caller.{is_quiet}
 use Rattle.sel_core.specs.Log.{sel_after, sel_reply}
-use Rattle.ua_core.specs.Calls.{agent_activated}
 use Rattle.ua_core.specs.Session.{SessionOf, TimedOf}
 use Rattle.ua_core.specs.declared.planned.Recorded.{Recorded}
 use Rattle.fw_message.specs.History.{EntryOf}
 use Rattle.fw_message.specs.Worlds.{NotedOf, noted_of}
-use Rattle.fw_node.specs.Agents.{AgentOf, activates, agent_becomes, agent_hears, agent_restarts, agent_tick_sends, agent_ticks, cancels, half_at, place_heard, starts}
+use Rattle.fw_node.specs.Agents.{AgentOf, activates, agent_becomes, agent_hears, agent_restarts, agent_tick_sends, agent_ticks, cancels, half_at, place_heard, ready_for, starts}
 use Rattle.fw_node.specs.Cores.{TimedDevice, device_core}
 use Rattle.fw_node.specs.Halves.{HalfHeard, HalfOf, half_hears, half_ticks}
 use Rattle.fw_node.specs.Nodes.{DeviceNodeOf, device_hears, device_judges, device_restarts}
@@ -160,9 +159,10 @@ ticks w =
 abbrev pub calls : WorldOf → (device : ℕ) → (HalfOf TimedOf → HalfOf TimedOf) → WorldOf
 calls w device call = record w { agent = agent_becomes w.agent w.now device call }
 
-abbrev pub activated_or : List PackageText → HalfOf TimedOf → Option SessionOf → HalfOf TimedOf
-activated_or packages h None = h
-activated_or packages h (Some s) = activates packages h s
+-- the operator has a session that is ready for it activate
+abbrev pub activates_on : WorldOf → (device : ℕ) → Option SessionOf → WorldOf
+activates_on w device None = w
+activates_on w device (Some s) = calls w device (λ h. activates w.packages h s)
 
 -- A verdict on what a device has written.
 abbrev pub judges : Bool → (faults : ℕ) → WorldOf → Verdict → Option ℕ → Option SiteOf → WorldOf
@@ -204,7 +204,7 @@ world_after works faults w steps.Tick = ticks w
 world_after works faults w (steps.Start device number) = calls w device (λ h. starts w.packages h number)
 world_after works faults w (steps.Cancel device) = calls w device (cancels w.packages)
 world_after works faults w (steps.Activate device) =
-    calls w device (λ h. activated_or w.packages h (agent_activated h.core.session))
+    activates_on w device (ready_for w.agent device)
 world_after works faults w (steps.Verdict device verdict) =
     judges works faults w verdict (place_of w.sites device) (site_for w.sites device)
 world_after works faults w (steps.Restart node) = restarts w node

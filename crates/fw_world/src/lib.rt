@@ -4,6 +4,7 @@
 
 mod joined;
 mod laws;
+mod site;
 mod step;
 
 pub use fw_message::{

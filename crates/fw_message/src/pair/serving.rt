@@ -14,7 +14,8 @@ ghost use Rattle.fw_message.specs.Pairs.{StepOf, activated_down, quietly, step_o
 use crate::entry::Image;
 use crate::images::applied_images;
 use crate::pair::Pair;
-use fd_core::{Bank, Device, Key, Progress, State, Verdict};
+use crate::verdicts::{awaits, copied, has_failed, room_for};
+use fd_core::{Bank, Device, Verdict};
 use fw_package::Package;
 use fwup_wire::{Answer, Command};
 use pldm_base::completion::ERROR;
@@ -117,10 +118,7 @@ impl<'a, B: Bank> Pair<'a, B> {
     pub fn room_for(&self, verdict: Verdict) -> usize
         ensures { verdict ≡ Verdict.ApplyOk → IfSome (staged_of self.now.node.pair.device.phase) (λ s. s.1 ≤ result) }
     {
-        match (verdict, self.device.staged()) {
-            (Verdict::ApplyOk, Some((_, size))) => size as usize,
-            _ => 0,
-        }
+        room_for(&self.device, verdict)
     }
 
     /// A verdict on the image that the device has written. None where it doesn't count; else whether its bank worked.
@@ -177,24 +175,7 @@ impl<'a, B: Bank> Pair<'a, B> {
     pub fn awaits(&self, verdict: Verdict) -> bool
         ensures { (works : Bool) → is_some (device_verdict self.now.node.pair.device verdict works) ≡ result }
     {
-        let progress = self.device.progress();
-        match self.device.state() {
-            State::Verify => matches!(
-                (progress, verdict),
-                (
-                    Some(Progress::InProgress),
-                    Verdict::VerifyOk | Verdict::VerifyFail
-                )
-            ),
-            State::Apply => matches!(
-                (progress, verdict),
-                (
-                    Some(Progress::InProgress),
-                    Verdict::ApplyOk | Verdict::ApplyFail
-                )
-            ),
-            _ => false,
-        }
+        awaits(&self.device, verdict)
     }
 
     /// The session learns the answer that it waits for. False where there is none.
@@ -241,25 +222,4 @@ impl<'a, B: Bank> Pair<'a, B> {
         self.up = None;
         Some(had_failed || !has_failed(&self.device))
     }
-}
-
-/// A copy of the image that is applied for a component, into room that is empty; None where there is none, or not the room.
-fn copied<B: Bank>(bank: &B, key: Key, room: Vec<u8>) -> Option<Image>
-    requires { room.items ≡ [] }
-    ensures { IfSome (applied_of (row_of (B.rows bank.now) key)) (λ image. length image.bytes ≤ vec_capacity room
-        → map put_of (option_to_list result) ≡ record { key = key; bytes = image.bytes } ∷ []) }
-{
-    let (_, image) = bank.applied(key)?;
-    let mut bytes = room;
-    let Ok(()) = bytes.extend_from_slice(image) else {
-        return None;
-    };
-    Some(Image { key, bytes })
-}
-
-/// Whether the work of the device's state failed.
-fn has_failed<B: Bank>(device: &Device<B>) -> bool
-    ensures { result ≡ has_failed device.now.device.phase }
-{
-    matches!(device.progress(), Some(Progress::Failed { .. }))
 }

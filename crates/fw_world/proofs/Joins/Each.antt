@@ -148,7 +148,7 @@ all_more now s w front n ns l ls history away on g = record {
   along =
       let noted = history ++ map (noted_of n.eid) on.stepped.noted in
       let first : world_along (Some (among w front ns n.eid n.pair history)) (map (WorldStepOf.OfPair n.eid) on.steps) ≡ Some (among w front ns n.eid on.pair noted) =
-          pair_among w front ns n.eid history on.steps n.pair on.pair on.stepped.noted away (on.along []) in
+      pair_among w front ns n.eid history on.steps n.pair on.pair on.stepped.noted away (on.along []) in
       along_append (map (WorldStepOf.OfPair n.eid) on.steps) g.steps (Some (nodes_in w (front ++ n ∷ ns) history))
       ∙ ap (λ o. world_along o g.steps) first
       ∙ ap (λ v. world_along (Some v) g.steps) (sym (moved_on w front (node_of n.eid on.pair) ns noted))

@@ -16,7 +16,6 @@ abbrev pub among : WorldOf → (front back : List NodeOf) → ℕ → PairOf →
 among w front back eid m history = record w { nodes = front ++ node_of eid m ∷ back; history = history }
 
 -- it is found where none before it has its identifier
-
 skipped : (here : Bool) (m : NodeOf) (o p : Option NodeOf) (n : NodeOf) → (if here then Some m else o) ≡ None → (o ≡ None → p ≡ Some n) → (if here then Some m else p) ≡ Some n
 skipped true m o p n e k = absurd (cc)
 skipped false m o p n e k = k e

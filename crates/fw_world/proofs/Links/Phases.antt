@@ -1,6 +1,6 @@
 -- A tick of the agent, all of whose halves do each part before the next begins, is a tick of each half.
-use Rattle.std.proofs.Common.{◌≡◌, ◌∙◌, ◌≤◌, ◌++◌, ◌∷◌, [], Bool, true, false, List, map, Option, Some, None, ℕ, refl, ap}
-use Rattle.std.proofs.lemmas.Bool.{le-leb}
+use Rattle.std.proofs.Common.{◌≡◌, ◌∙◌, ◌≤◌, ◌<◌, ◌-◌, ◌==◌, ◌++◌, ◌∷◌, [], Bool, true, false, List, map, Option, Some, None, ℕ, refl, ap, arith}
+use Rattle.std.proofs.lemmas.Bool.{le-leb, lt-leb, ne_eqb}
 use Rattle.std.proofs.lemmas.Grind.{flat_map-append}
 use Rattle.std.proofs.lemmas.List.{append-nil}
 use Rattle.mctp_reasm.specs.Pieces.{MessageOf}
@@ -67,3 +67,7 @@ agent_halves_after packages [] k = refl
 agent_halves_after packages (h ∷ hs) k =
     ap (λ x. x ∷ map (ended packages) (map (grown packages) hs)) (agent_half_after packages h k.0 k.1)
     ∙ ap (λ xs. (half_ticks (session_core packages) true h).half ∷ xs) (agent_halves_after packages hs k.2)
+
+-- A half that is deaf after a tick sends nothing.
+pub deaf_sends_nothing : {C : Type 0} (core : CoreOf C) (h : HalfOf C) → 1 < h.asker.deaf → (half_ticks core true h).sent ≡ []
+deaf_sends_nothing core h deaf = rw (lt-leb h.asker.deaf 1 deaf, ne_eqb (h.asker.deaf - 1) 0 (λ z. absurd (omega (arith, deaf, z)))) refl

@@ -20,7 +20,7 @@ posted_behind now ps (m ∷ ms) =
     ∙ ap (λ qs. ps ++ qs) (sym (map-append (sent_at now) (packets_of m) (all_packets ms)))
 
 -- facts of the elements of two lists
-all_behind : {A : Type 0} (P : A → Type 0) (xs ys : List A) → AllByRecursion P (xs ++ ys) → AllByRecursion P ys
+pub all_behind : {A : Type 0} (P : A → Type 0) (xs ys : List A) → AllByRecursion P (xs ++ ys) → AllByRecursion P ys
 all_behind P [] ys h = h
 all_behind P (x ∷ xs) ys h = all_behind P xs ys h.1
 

@@ -1,0 +1,66 @@
+//! Verdicts on the image that a device has written, and the image that one applies.
+
+ghost use Rattle.std.specs.Prelude.{[], ◌≡◌, ◌≤◌, ◌∷◌, Bool, IfSome, is_some, length, map, option_to_list, vec_capacity};
+ghost use Rattle.fd_core.specs.Images.{applied_of, row_of};
+ghost use Rattle.fd_core.specs.States.{staged_of};
+ghost use Rattle.fd_core.specs.Steps.{device_verdict};
+ghost use Rattle.fd_core.specs.Wishes.{has_failed};
+ghost use Rattle.fw_message.specs.Entries.{put_of};
+
+use crate::entry::Image;
+use fd_core::{Bank, Device, Key, Progress, State, Verdict};
+
+/// Whether a device waits for this verdict: VERIFY and APPLY wait for one each, while they are in progress.
+pub fn awaits<B: Bank>(device: &Device<B>, verdict: Verdict) -> bool
+    ensures { (works : Bool) → is_some (device_verdict device.now.device verdict works) ≡ result }
+{
+    let progress = device.progress();
+    match device.state() {
+        State::Verify => matches!(
+            (progress, verdict),
+            (
+                Some(Progress::InProgress),
+                Verdict::VerifyOk | Verdict::VerifyFail
+            )
+        ),
+        State::Apply => matches!(
+            (progress, verdict),
+            (
+                Some(Progress::InProgress),
+                Verdict::ApplyOk | Verdict::ApplyFail
+            )
+        ),
+        _ => false,
+    }
+}
+
+/// The bytes of the image that a verdict applies, at most.
+pub fn room_for<B: Bank>(device: &Device<B>, verdict: Verdict) -> usize
+    ensures { verdict ≡ Verdict.ApplyOk → IfSome (staged_of device.now.device.phase) (λ s. s.1 ≤ result) }
+{
+    match (verdict, device.staged()) {
+        (Verdict::ApplyOk, Some((_, size))) => size as usize,
+        _ => 0,
+    }
+}
+
+/// A copy of the image that is applied for a component, into room that is empty; None where there is none, or not the room.
+pub fn copied<B: Bank>(bank: &B, key: Key, room: Vec<u8>) -> Option<Image>
+    requires { room.items ≡ [] }
+    ensures { IfSome (applied_of (row_of (B.rows bank.now) key)) (λ image. length image.bytes ≤ vec_capacity room
+        → map put_of (option_to_list result) ≡ record { key = key; bytes = image.bytes } ∷ []) }
+{
+    let (_, image) = bank.applied(key)?;
+    let mut bytes = room;
+    let Ok(()) = bytes.extend_from_slice(image) else {
+        return None;
+    };
+    Some(Image { key, bytes })
+}
+
+/// Whether the work of the device's state failed.
+pub fn has_failed<B: Bank>(device: &Device<B>) -> bool
+    ensures { result ≡ has_failed device.now.device.phase }
+{
+    matches!(device.progress(), Some(Progress::Failed { .. }))
+}
