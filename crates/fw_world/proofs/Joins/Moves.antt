@@ -1,13 +1,13 @@
 -- The links of a world and a world of messages that stand for each other: where the links go, the messages go.
-use Rattle.std.proofs.Common.{◌≡◌, ◌∙◌, ℕ, List, [], ◌∷◌, ◌++◌, map, slice_get, slice_set, Option, Some, None, refl, sym, ap, subst}
+use Rattle.std.proofs.Common.{◌≡◌, ◌∙◌, ℕ, List, [], ◌∷◌, ◌++◌, map, slice_get, slice_set, Option, Some, refl, sym, ap, subst}
 use Rattle.fw_package.specs.Package.{PackageText}
-use Rattle.fw_message.specs.Worlds.{NodeOf, NotedOf, WorldOf, WorldStepOf, noted_of, world_along}
+use Rattle.fw_message.specs.Worlds.{NotedOf, WorldOf, WorldStepOf, noted_of, world_along}
 use Rattle.fw_world.specs.JoinLaws.{LinksAreMessages}
 use Rattle.fw_world.specs.LinkLaws.{CanBeSaid, LinksAreLanes, MayHappen}
 use Rattle.fw_world.specs.Links.{LinkOf, LinkStep, LinkStepped, link_after, time_after}
 use Rattle.fw_world.specs.Replays.{AreDifferent}
 use Rattle.fw_world.proofs.Joins.Each.{AllAfter, AllMay, AllStand, all_go, eid_of, link_of, nodes_in, notes_of, one_goes}
-use Rattle.fw_world.proofs.Joins.Stands.{Stands, StandsOn, stands_on}
+use Rattle.fw_world.proofs.Joins.Stands.{stands_on}
 
 -- Each link stands with the pair in its place, and no identifier stands twice.
 pub record WorldStands (now : ℕ) (ls : List LinkOf) (v : WorldOf) : Type 0 where

@@ -1,5 +1,5 @@
 -- A link that is explained with a pair that is joined with it, along the link's steps.
-use Rattle.std.proofs.Common.{◌≡◌, ◌∙◌, ℕ, List, [], Option, Some, None, refl, ap}
+use Rattle.std.proofs.Common.{◌≡◌, ◌∙◌, ℕ, List, [], Some, None, refl, ap}
 use Rattle.pldm_exch.specs.Caller.{is_quiet}
 use Rattle.pldm_exch.specs.Ends.{AskerOf, asker_new}
 use Rattle.exch_lane.specs.Cells.{Cell, CellRun}

@@ -1,19 +1,18 @@
 -- How links and messages begin together, and what is promised wherever they went.
-use Rattle.std.proofs.Common.{◌≡◌, ◌∙◌, ◌^◌, ◌-◌, nat_lt, ℕ, Bool, true, false, if◌then◌else◌, List, [], ◌∷◌, ◌++◌, map, Option, Some, None, IfSome, refl, sym, ap, subst}
+use Rattle.std.proofs.Common.{◌≡◌, ◌∙◌, ◌^◌, ◌-◌, nat_lt, ℕ, Bool, true, false, if◌then◌else◌, List, [], ◌∷◌, ◌++◌, map, Some, None, IfSome, refl, sym, ap, subst}
 use Rattle.exch_lane.specs.Lanes.{AreEnds}
 use Rattle.exch_lane.specs.Laws.{LaneIsACell}
 use Rattle.fw_package.specs.Package.{PackageText}
 use Rattle.fw_message.specs.WorldLaws.{IsOpeningWorld, IsSafeWorld, WorldsAreSafe}
 use Rattle.fw_message.specs.Worlds.{NodeOf, NotedOf, WorldOf, WorldStepOf, world_along}
-use Rattle.fw_message.specs.declared.side.Side.{Side}
 use Rattle.fw_message.specs.declared.side.Side.TheVariants as sides
-use Rattle.fw_world.specs.Links.{LinkOf, LinkStep, LinkStepped, link_after, link_ticks, unnoted}
+use Rattle.fw_world.specs.Links.{LinkOf, LinkStep, LinkStepped, link_ticks, unnoted}
 use Rattle.fw_world.specs.Replays.{AreDifferent}
 use Rattle.fw_world.proofs.Joins.Each.{AllAfter, AllStand, eid_of, notes_of}
 use Rattle.fw_world.proofs.Joins.Links.{pair_at}
 use Rattle.fw_world.proofs.Joins.Moves.{MovesOn, WorldStands}
 use Rattle.fw_world.proofs.Joins.Pairs.{along_append, node_of}
-use Rattle.fw_world.proofs.Joins.Stands.{Stands, new_link_stands}
+use Rattle.fw_world.proofs.Joins.Stands.{new_link_stands}
 use Rattle.fw_world.proofs.Links.Openings.{IsNewHalf}
 
 -- HOW IT BEGINS
