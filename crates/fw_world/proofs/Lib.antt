@@ -1,7 +1,9 @@
 mod Activating
 mod Components
+mod Joins
 mod Judging
 mod Leading
+mod Links
 mod Noting
 mod Places
 mod Recording

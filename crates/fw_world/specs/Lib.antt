@@ -1,4 +1,8 @@
 pub mod Deliveries
+pub mod JoinLaws
+pub mod Joins
+pub mod Lanes
+pub mod LinkLaws
 pub mod Links
 pub mod Replays
 pub mod Sites

@@ -1,0 +1,73 @@
+-- A tick of the agent, all of whose halves do each part before the next begins, is a tick of each half.
+use Rattle.std.proofs.Common.{◌≡◌, ◌∙◌, ◌≤◌, ◌<◌, ◌-◌, ◌==◌, ◌++◌, ◌∷◌, [], Bool, true, false, List, map, Option, Some, None, ℕ, refl, ap, arith}
+use Rattle.std.proofs.lemmas.Bool.{le-leb, lt-leb, ne_eqb}
+use Rattle.std.proofs.lemmas.Grind.{flat_map-append}
+use Rattle.std.proofs.lemmas.List.{append-nil}
+use Rattle.mctp_reasm.specs.Pieces.{MessageOf}
+use Rattle.pldm_exch.specs.Caller.{caller_tick, may_begin}
+use Rattle.pldm_exch.specs.Sides.{asker_called}
+use Rattle.pldm_exch.specs.declared.caller.CallTick.{CallTick}
+use Rattle.pldm_exch.specs.declared.caller.CallTick.TheVariants as ticks
+use Rattle.fw_package.specs.Package.{PackageText}
+use Rattle.fwup_wire.specs.Values.{CommandOf}
+use Rattle.ua_core.specs.Session.{TimedOf}
+use Rattle.fw_node.specs.Agents.{again_packets, ended, ended_packets, grown, silent_by, waited}
+use Rattle.fw_node.specs.Cores.{session_core}
+use Rattle.fw_node.specs.Halves.{CoreOf, HalfOf, Ticked, aged, begins_if, begins_wish, called, half_counts, half_ticks, idled, last_part, unwished_abandoned, with_caller}
+use Rattle.fw_node.specs.Packets.{all_packets, packets_of, sent_by}
+
+-- what was sent before stands before what is sent at last
+abbrev pub behind : {C : Type 0} → List MessageOf → Ticked C → Ticked C
+behind ms t = record { half = t.half; sent = ms ++ t.sent }
+
+begun_behind : {C : Type 0} (may : Bool) (h : HalfOf C) (c : CommandOf) (ms : List MessageOf) → begins_if may h c ms ≡ behind ms (begins_if may h c [])
+begun_behind true h c ms = refl
+begun_behind false h c ms = rw (append-nil ms) refl
+
+wished_behind : {C : Type 0} (wish : Option CommandOf) (h : HalfOf C) (ms : List MessageOf) → begins_wish wish h ms ≡ behind ms (begins_wish wish h [])
+wished_behind None h ms = rw (append-nil ms) refl
+wished_behind (Some c) h ms = begun_behind (may_begin h.asker.caller) h c ms
+
+last_behind : {C : Type 0} (f : CoreOf C) (h : HalfOf C) (ms : List MessageOf) → last_part f h ms ≡ behind ms (last_part f h [])
+last_behind f h ms = wished_behind (f.wish h.core) (with_caller h (unwished_abandoned (f.wish h.core) h.asker.caller)) ms
+
+by_call : (packages : List PackageText) (h : HalfOf TimedOf) (t : CallTick)
+    → called (session_core packages) (aged h) (asker_called (aged h).asker t)
+    ≡ last_part (session_core packages) (idled (session_core packages) (record (aged h) { core = silent_by t h.core packages })) (sent_by t)
+by_call packages h ticks.Nothing = refl
+by_call packages h (ticks.Send m) = refl
+by_call packages h ticks.GaveUp = refl
+
+-- A half of the agent that hears after a tick: it grows older, waits, and ends the tick; what it sends again stands first.
+pub agent_half_ticks : (packages : List PackageText) (h : HalfOf TimedOf) → h.asker.deaf ≤ 1 → h.taker.deaf ≤ 1
+    → half_ticks (session_core packages) true h
+    ≡ behind (sent_by (caller_tick h.asker.caller).1) (last_part (session_core packages) (waited packages (grown packages h)) [])
+agent_half_ticks packages h ask take =
+    rw (le-leb h.asker.deaf 1 ask, le-leb h.taker.deaf 1 take) (by_call packages h (caller_tick h.asker.caller).1)
+    ∙ last_behind (session_core packages) (waited packages (grown packages h)) (sent_by (caller_tick h.asker.caller).1)
+
+pub agent_half_after : (packages : List PackageText) (h : HalfOf TimedOf) → h.asker.deaf ≤ 1 → h.taker.deaf ≤ 1
+    → ended packages (grown packages h) ≡ (half_ticks (session_core packages) true h).half
+agent_half_after packages h ask take = rw (agent_half_ticks packages h ask take) refl
+
+pub agent_half_sends : (packages : List PackageText) (h : HalfOf TimedOf) → h.asker.deaf ≤ 1 → h.taker.deaf ≤ 1
+    → all_packets (half_ticks (session_core packages) true h).sent ≡ again_packets h ++ ended_packets packages (grown packages h)
+agent_half_sends packages h ask take =
+    ap (λ t. all_packets t.sent) (agent_half_ticks packages h ask take)
+    ∙ flat_map-append packets_of (sent_by (caller_tick h.asker.caller).1) (last_part (session_core packages) (waited packages (grown packages h)) []).sent
+
+-- all halves
+abbrev pub AreSoon : List (HalfOf TimedOf) → Type 0
+AreSoon [] = Unit {0}
+AreSoon (h ∷ hs) = (h.asker.deaf ≤ 1) × (h.taker.deaf ≤ 1) × AreSoon hs
+
+pub agent_halves_after : (packages : List PackageText) (hs : List (HalfOf TimedOf)) → AreSoon hs
+    → map (ended packages) (map (grown packages) hs) ≡ map (λ h. (half_ticks (session_core packages) true h).half) hs
+agent_halves_after packages [] k = refl
+agent_halves_after packages (h ∷ hs) k =
+    ap (λ x. x ∷ map (ended packages) (map (grown packages) hs)) (agent_half_after packages h k.0 k.1)
+    ∙ ap (λ xs. (half_ticks (session_core packages) true h).half ∷ xs) (agent_halves_after packages hs k.2)
+
+-- A half that is deaf after a tick sends nothing.
+pub deaf_sends_nothing : {C : Type 0} (core : CoreOf C) (h : HalfOf C) → 1 < h.asker.deaf → (half_ticks core true h).sent ≡ []
+deaf_sends_nothing core h deaf = rw (lt-leb h.asker.deaf 1 deaf, ne_eqb (h.asker.deaf - 1) 0 (λ z. absurd (omega (arith, deaf, z)))) refl
