@@ -10,6 +10,7 @@ pub mod Moves
 pub mod Openings
 pub mod Phases
 pub mod Posting
+pub mod Projection
 pub mod Routed
 pub mod Routes
 pub mod Sendings
