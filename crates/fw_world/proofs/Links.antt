@@ -1,5 +1,6 @@
 -- Why a step of a link is steps of its two lanes.
 pub mod AgentTicks
+pub mod Arrivals
 pub mod Comings
 pub mod Firsts
 pub mod Goes

@@ -91,7 +91,7 @@ post_one now xs (version ∷ dest ∷ rest) eid = post_by now (version ∷ dest 
 abbrev pub with_packets : ℕ → List (List ℕ) → SiteOf → SiteOf
 with_packets now packets x = record x { packets = x.packets ++ sent_now now packets }
 
-none_behind : (now : ℕ) (o : Option SiteOf) → o ≡ option_map (with_packets now []) o
+pub none_behind : (now : ℕ) (o : Option SiteOf) → o ≡ option_map (with_packets now []) o
 none_behind now None = refl
 none_behind now (Some x) = ap (λ ps. Some (record x { packets = ps })) (sym (append-nil x.packets))
 
