@@ -1,4 +1,5 @@
 -- Why a step of a link is steps of its two lanes.
+pub mod AgentArrivals
 pub mod AgentTicks
 pub mod Arrivals
 pub mod Comings

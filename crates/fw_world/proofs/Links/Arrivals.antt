@@ -33,20 +33,20 @@ use Rattle.fw_world.proofs.Links.Sendings.{GoesTo}
 use Rattle.fw_world.proofs.Links.Sorted.{posted_behind}
 
 -- what a node makes of what went through its half
-finished_half : {C : Type 0} (role : Role) (endpoint : Endpoint) (tid : ℕ) (heard : HalfHeard C) → IsPassed heard → (finished role endpoint tid heard).half ≡ half_in heard
+pub finished_half : {C : Type 0} (role : Role) (endpoint : Endpoint) (tid : ℕ) (heard : HalfHeard C) → IsPassed heard → (finished role endpoint tid heard).half ≡ half_in heard
 finished_half role endpoint tid (HalfHeard.Went h sent) k = refl
 finished_half role endpoint tid (HalfHeard.Took h sent c answer) k = refl
 finished_half role endpoint tid (HalfHeard.Asks h m head body) k = absurd k
 finished_half role endpoint tid (HalfHeard.Strayed h m) k = absurd k
 
-finished_sent : {C : Type 0} (role : Role) (endpoint : Endpoint) (tid : ℕ) (heard : HalfHeard C) → IsPassed heard → (finished role endpoint tid heard).sent ≡ sent_in heard
+pub finished_sent : {C : Type 0} (role : Role) (endpoint : Endpoint) (tid : ℕ) (heard : HalfHeard C) → IsPassed heard → (finished role endpoint tid heard).sent ≡ sent_in heard
 finished_sent role endpoint tid (HalfHeard.Went h sent) k = refl
 finished_sent role endpoint tid (HalfHeard.Took h sent c answer) k = refl
 finished_sent role endpoint tid (HalfHeard.Asks h m head body) k = absurd k
 finished_sent role endpoint tid (HalfHeard.Strayed h m) k = absurd k
 
 -- it stays the half for its peer
-finished_peer : {C : Type 0} (role : Role) (endpoint : Endpoint) (tid : ℕ) (heard : HalfHeard C) → (finished role endpoint tid heard).half.peer ≡ (half_in heard).peer
+pub finished_peer : {C : Type 0} (role : Role) (endpoint : Endpoint) (tid : ℕ) (heard : HalfHeard C) → (finished role endpoint tid heard).half.peer ≡ (half_in heard).peer
 finished_peer role endpoint tid (HalfHeard.Went h sent) = refl
 finished_peer role endpoint tid (HalfHeard.Took h sent c answer) = refl
 finished_peer role endpoint tid (HalfHeard.Asks h m head body) = refl
@@ -68,7 +68,7 @@ takes_peer core works h (TakerRow.Repeats requests answer) = refl
 takes_peer core works h (TakerRow.TakesUp requests m head body) = taken_peer (head.pldm_type == 5) core works h requests m head body
 takes_peer core works h (TakerRow.Strays requests m) = refl
 
-rows_peer : {C : Type 0} (core : CoreOf C) (works : Bool) (h : HalfOf C) (asks : AskerRow) (answers : TakerRow) → (half_in (half_hears_by core works h asks answers)).peer ≡ h.peer
+pub rows_peer : {C : Type 0} (core : CoreOf C) (works : Bool) (h : HalfOf C) (asks : AskerRow) (answers : TakerRow) → (half_in (half_hears_by core works h asks answers)).peer ≡ h.peer
 rows_peer core works h (AskerRow.Ignores replies) answers = takes_peer core works (record h { asker = record h.asker { replies = replies } }) answers
 rows_peer core works h (AskerRow.Learns replies caller heard) answers = refl
 
