@@ -12,6 +12,7 @@ pub mod Moves
 pub mod Openings
 pub mod Phases
 pub mod Posting
+pub mod Projected
 pub mod Projection
 pub mod Routed
 pub mod Routes
