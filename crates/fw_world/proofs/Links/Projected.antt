@@ -161,3 +161,55 @@ pub activate_projects : (w : WorldOf) (device eid : ℕ) (l : LinkOf) (known : B
     → StepsTo w.now w.packages l (where_mine (device == eid) (Some LinkStep.Activate)) (link_at (activates_on w device (ready_for w.agent device)) eid)
 activate_projects w device eid l known may is =
     activate_by w device eid l (ready_for w.agent device) refl (known_if known (ready_fault (ready_for w.agent device)) may) is
+
+-- a verdict: whether it counts doesn't depend on the bank
+pub verdict_counts : (v : DeviceState) (p : Phase) (verdict : Verdict) (works : Bool) → is_some (verdict_at v p verdict true) ≡ true → is_some (verdict_at v p verdict works) ≡ true
+verdict_counts v (Phase.Verify u w progress.InProgress) verdicts.VerifyOk works e = refl
+verdict_counts v (Phase.Verify u w progress.InProgress) verdicts.VerifyFail works e = refl
+verdict_counts v (Phase.Apply u w progress.InProgress) verdicts.ApplyOk works e = refl
+verdict_counts v (Phase.Apply u w progress.InProgress) verdicts.ApplyFail works e = refl
+verdict_counts v p verdict works e = absurd (cc)
+
+counts_if : (b : Bool) (fault : StepFault) → (if b then None else Some fault) ≡ None → b ≡ true
+counts_if true fault e = refl
+counts_if false fault e = absurd (cc)
+
+verdict_found : (verdict : Verdict) (s : Option SiteOf) (l : LinkOf) → verdict_fault verdict s ≡ None → IsSomeAnd s (λ x. (x.node.half ≡ l.device) × (x.packets ≡ l.packets))
+    → is_some (device_verdict l.device.core.device verdict true) ≡ true
+verdict_found verdict None l may is = absurd is
+verdict_found verdict (Some x) l may is =
+    subst (λ h. is_some (device_verdict h.core.device verdict true) ≡ true) is.0 (counts_if (is_some (device_verdict x.node.half.core.device verdict true)) _ may)
+
+judged_goes : (l : LinkOf) (o : Option Judged) → is_some o ≡ true
+    → IsSomeAnd (judges_on l o) (λ t. on_device (λ h. recast device_core h (record { device = judged_or h.core.device o; idle = 0 })) l ≡ t.after)
+judged_goes l None e = absurd (cc)
+judged_goes l (Some j) e = refl
+
+verdict_there : (w : WorldOf) (device eid : ℕ) (l : LinkOf) (verdict : Verdict) (works : Bool) → (device == eid) ≡ true → link_at w eid ≡ Some l
+    → verdict_fault verdict (site_for w.sites device) ≡ None → is_some (device_verdict l.device.core.device verdict works) ≡ true
+verdict_there w device eid l verdict works e is may =
+    verdict_counts l.device.core.device l.device.core.device.phase verdict works
+    (verdict_found verdict (site_for w.sites eid) l (subst (λ d. verdict_fault verdict (site_for w.sites d) ≡ None) (eqb-true device eid e) may)
+    (link_site (half_for w.agent eid) (site_for w.sites eid) l is))
+
+pub verdict_projects : (works : Bool) (faults : ℕ) (w : WorldOf) (device eid : ℕ) (verdict : Verdict) (l : LinkOf) → verdict_fault verdict (site_for w.sites device) ≡ None → link_at w eid ≡ Some l
+    → StepsTo w.now w.packages l (where_mine (device == eid) (Some (LinkStep.Judge verdict works)))
+    (link_at (judges works faults w verdict (place_of w.sites device) (site_for w.sites device)) eid)
+verdict_projects works faults w device eid verdict l may is =
+    one_link w.now w.packages l (device == eid) (LinkStep.Judge verdict works) (on_device (judged_by verdict works))
+    (link_at (judges works faults w verdict (place_of w.sites device) (site_for w.sites device)) eid) (link_at w eid) is
+    (verdict_on works faults w device eid verdict)
+    (λ e. judged_goes l (device_verdict l.device.core.device verdict works) (verdict_there w device eid l verdict works e is may))
+
+-- a restart
+device_restarts_by : (now : ℕ) (packages : List PackageText) (l : LinkOf) (mine : Bool) (y x : Option LinkOf) → x ≡ Some l
+    → y ≡ (if mine then option_map (on_device (half_restarts device_core)) x else x) → StepsTo now packages l (restart_as false mine) y
+device_restarts_by now packages l true y x is e = e ∙ ap (option_map (on_device (half_restarts device_core))) is
+device_restarts_by now packages l false y x is e = e ∙ is
+
+pub restart_projects : (w : WorldOf) (node eid : ℕ) (l : LinkOf) → link_at w eid ≡ Some l
+    → StepsTo w.now w.packages l (restart_as (node == w.agent.endpoint.eid) (node == eid)) (link_at (restarts w node) eid)
+restart_projects w node eid l is = elim (eqb_tells node w.agent.endpoint.eid) [
+  | inl agent ↦ rw agent.0 (agent_restart_at w eid ∙ ap (option_map (on_agent (half_restarts (session_core w.packages)))) is)
+  | inr other ↦ rw other.0 (device_restarts_by w.now w.packages l (node == eid) _ (link_at w eid) is (device_restart_at w node eid))
+]
