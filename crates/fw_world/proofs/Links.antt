@@ -3,6 +3,7 @@ pub mod AgentArrivals
 pub mod AgentTicks
 pub mod Arrivals
 pub mod Comings
+pub mod Delivered
 pub mod Firsts
 pub mod Goes
 pub mod Hears

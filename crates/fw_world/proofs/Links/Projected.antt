@@ -71,7 +71,7 @@ link_site (Some h) (Some x) l e =
     let is : ◌≡◌ {A = LinkOf} (record { agent = h; device = x.node.half; packets = x.packets }) l = cc in (ap (λ z. z.device) is, ap (λ z. z.packets) is)
 
 -- where a link is led
-leads_to : (o : Option LinkStepped) (g : LinkOf → LinkOf) (y : Option LinkOf) (l : LinkOf) → y ≡ Some (g l) → IsSomeAnd o (λ t. g l ≡ t.after) → IsSomeAnd o (λ t. y ≡ Some t.after)
+pub leads_to : (o : Option LinkStepped) (g : LinkOf → LinkOf) (y : Option LinkOf) (l : LinkOf) → y ≡ Some (g l) → IsSomeAnd o (λ t. g l ≡ t.after) → IsSomeAnd o (λ t. y ≡ Some t.after)
 leads_to None g y l e k = k
 leads_to (Some t) g y l e k = e ∙ ap Some k
 
