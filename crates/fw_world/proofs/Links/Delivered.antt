@@ -26,7 +26,7 @@ use Rattle.fw_world.proofs.Links.Arrivals.{device_hears_at, heard_on_device}
 use Rattle.fw_world.proofs.Links.Comings.{hears_in_lane}
 use Rattle.fw_world.proofs.Links.Hears.{IsPassed, half_in, sent_in}
 use Rattle.fw_world.proofs.Links.InLanes.{ways_of}
-use Rattle.fw_world.proofs.Links.Misses.{GoesBetween, deaf_hears_nothing, others_packet}
+use Rattle.fw_world.proofs.Links.Misses.{GoesBetween, deaf_hears_nothing, link_packet_between, others_packet}
 use Rattle.fw_world.proofs.Links.Projected.{StepsTo, comes_as, leads_to, link_half, link_site, where_mine}
 use Rattle.fw_world.proofs.Links.Projection.{link_at, link_from}
 use Rattle.fw_world.proofs.Links.Sendings.{GoesTo, agent_heard_to}
@@ -136,3 +136,87 @@ agent_gets w bytes device eid d k there own between passed = elim (eqb_tells w.a
       ∙ on_its_link w w.packages bytes device eid d there
       (deaf_hears_nothing (session_core w.packages) true d.agent bytes (λ z. deaf.1 (sym k.asking ∙ z)) (λ z. deaf.1 (sym k.answering ∙ z)))
 ]
+
+-- what isn't for the link's nodes
+comes_none : (works : Bool) (number : ℕ) (mine : Bool) → where_mine mine (comes_as works number false false) ≡ None
+comes_none works number true = refl
+comes_none works number false = refl
+
+neither : (source dest own x y : ℕ) → own ≢ x → own ≢ y → ((source ≡ x) × (dest ≡ y)) ⊎ ((source ≡ y) × (dest ≡ x)) → dest ≢ own
+neither source dest own x y first second (inl e) = λ z. second (sym z ∙ e.1)
+neither source dest own x y first second (inr e) = λ z. first (sym z ∙ e.1)
+
+-- a packet of another device's link, at a device
+strange_packet : (works : Bool) (l d : LinkOf) (bytes : List ℕ) (g : GoesBetween d.agent.own d.device.own bytes) → l.device.own ≢ d.agent.own → l.device.own ≢ d.device.own
+    → half_hears device_core works l.device bytes ≡ HalfHeard.Went l.device []
+strange_packet works l d bytes g agent device =
+    others_packet device_core works l.device bytes
+    (λ q e. let same : (g.head, g.body) ≡ q = (let both : Ok (g.head, g.body) ≡ Ok q = sym g.reads ∙ e in cc) in
+        subst (λ x. x.0.dest ≢ l.device.own) same (neither g.head.source g.head.dest l.device.own d.agent.own d.device.own agent device g.ends))
+
+-- A device: a packet comes on its link alone.
+pub device_gets : (law : LaneIsACell) (works : Bool) (faults : ℕ) (w : WorldOf) (device number node eid : ℕ) (d l : LinkOf) (p : Sent) → IsLinkOf w device d → IsLinkOf w eid l
+    → link_at w device ≡ Some d → link_at w eid ≡ Some l → numbered d.packets number ≡ Some p → w.now ≤ p.date + 8 → node ≢ w.agent.endpoint.eid
+    → (node ≡ device → IsToldOn w.packages d sides.Device works p.bytes)
+    → StepsTo w.now w.packages l (where_mine (device == eid) (comes_as works number false (node == eid)))
+    (link_at (at_device works faults w p.bytes (place_of w.sites node) (site_for w.sites node)) eid)
+device_gets law works faults w device number node eid d l p kd kl there is at soon other told =
+    let after = link_at (at_device works faults w p.bytes (place_of w.sites node) (site_for w.sites node)) eid in
+    let between = link_packet_between w.now d number p kd.explained at soon in
+    elim (eqb_tells node eid) [
+      | inr elsewhere ↦
+          let stays : after ≡ Some l =
+              device_hears_at works faults w p.bytes node eid (λ e. absurd (let no = elsewhere.0 in cc))
+              ∙ ap (λ b. if b then option_map (heard_on_device works w.now p.bytes) (link_at w eid) else link_at w eid) elsewhere.0 ∙ is in
+          subst (λ s. StepsTo w.now w.packages l s after)
+          (sym (ap (λ b. where_mine (device == eid) (comes_as works number false b)) elsewhere.0 ∙ comes_none works number (device == eid))) stays
+      | inl here ↦ elim (eqb_tells device eid) [
+        | inl mine ↦
+            let same : d ≡ l = (let both : Some d ≡ Some l = sym there ∙ ap (link_at w) mine.1 ∙ is in cc) in
+            let passed : IsPassed (half_hears device_core works l.device p.bytes) =
+                subst (λ x. IsPassed (half_hears device_core works x.device p.bytes)) same
+                (device_passed law w.now w.packages d works number p kd.explained at soon (told (here.1 ∙ sym mine.1))) in
+            let goes : after ≡ Some (heard_on_device works w.now p.bytes l) =
+                device_hears_at works faults w p.bytes node eid (λ e. subst (λ o. IfSome o (λ x. IsPassed (half_hears device_core works x.device p.bytes))) (sym is) passed)
+                ∙ ap (λ b. if b then option_map (heard_on_device works w.now p.bytes) (link_at w eid) else link_at w eid) here.0
+                ∙ ap (option_map (heard_on_device works w.now p.bytes)) is in
+            subst (λ s. StepsTo w.now w.packages l s after)
+            (sym (ap (λ b. where_mine b (comes_as works number false (node == eid))) mine.0 ∙ ap (λ b. comes_as works number false b) here.0))
+            (leads_to (link_after w.now w.packages l (LinkStep.Deliver number sides.Device works)) (heard_on_device works w.now p.bytes) after l goes
+            (device_deliver w.now w.packages l works number p (subst (λ x. numbered x.packets number ≡ Some p) same at) soon passed))
+        | inr strange ↦
+            let silent : half_hears device_core works l.device p.bytes ≡ HalfHeard.Went l.device [] =
+                strange_packet works l d p.bytes between (λ z. other (here.1 ∙ sym kl.device ∙ z ∙ kd.agent)) (λ z. strange.1 (sym kd.device ∙ sym z ∙ kl.device)) in
+            let passed : IsPassed (half_hears device_core works l.device p.bytes) = subst IsPassed (sym silent) tt in
+            let stays : after ≡ Some l =
+                device_hears_at works faults w p.bytes node eid (λ e. subst (λ o. IfSome o (λ x. IsPassed (half_hears device_core works x.device p.bytes))) (sym is) passed)
+                ∙ ap (λ b. if b then option_map (heard_on_device works w.now p.bytes) (link_at w eid) else link_at w eid) here.0
+                ∙ ap (option_map (heard_on_device works w.now p.bytes)) is
+                ∙ ap Some (device_same works w.now p.bytes l silent) in
+            subst (λ s. StepsTo w.now w.packages l s after)
+            (sym (ap (λ b. where_mine b (comes_as works number false (node == eid))) strange.0)) stays
+      ]
+    ]
+
+-- The agent: likewise.
+pub agent_comes : (law : LaneIsACell) (works : Bool) (w : WorldOf) (device number eid : ℕ) (here : Bool) (d l : LinkOf) (p : Sent) → IsLinkOf w device d → half_for w.agent w.agent.endpoint.eid ≡ None
+    → link_at w device ≡ Some d → link_at w eid ≡ Some l → numbered d.packets number ≡ Some p → w.now ≤ p.date + 8
+    → IsToldOn w.packages d sides.Agent true p.bytes
+    → StepsTo w.now w.packages l (where_mine (device == eid) (comes_as works number true here)) (link_at (at_agent w p.bytes) eid)
+agent_comes law works w device number eid here d l p kd own there is at soon told =
+    let after = link_at (at_agent w p.bytes) eid in
+    let passed = agent_passed law w.now w.packages d number p kd.explained at soon told in
+    let goes = agent_gets w p.bytes device eid d kd there own (link_packet_between w.now d number p kd.explained at soon) passed in
+    elim (eqb_tells device eid) [
+      | inl mine ↦
+          let same : d ≡ l = (let both : Some d ≡ Some l = sym there ∙ ap (link_at w) mine.1 ∙ is in cc) in
+          subst (λ s. StepsTo w.now w.packages l s after) (sym (ap (λ b. where_mine b (comes_as works number true here)) mine.0))
+          (leads_to (link_after w.now w.packages l (LinkStep.Deliver number sides.Agent works)) (heard_on_agent w.packages w.now p.bytes) after l
+          (goes ∙ ap (λ b. if b then option_map (heard_on_agent w.packages w.now p.bytes) (link_at w eid) else link_at w eid) mine.0
+          ∙ ap (option_map (heard_on_agent w.packages w.now p.bytes)) is)
+          (agent_deliver w.now w.packages l works number p (subst (λ x. numbered x.packets number ≡ Some p) same at) soon
+          (subst (λ x. IsPassed (half_hears (session_core w.packages) true x.agent p.bytes)) same passed)))
+      | inr strange ↦
+          subst (λ s. StepsTo w.now w.packages l s after) (sym (ap (λ b. where_mine b (comes_as works number true here)) strange.0))
+          (goes ∙ ap (λ b. if b then option_map (heard_on_agent w.packages w.now p.bytes) (link_at w eid) else link_at w eid) strange.0 ∙ is)
+    ]
