@@ -1,6 +1,9 @@
 -- Why a step of a link is steps of its two lanes.
+pub mod AgentArrivals
 pub mod AgentTicks
+pub mod Arrivals
 pub mod Comings
+pub mod Delivered
 pub mod Firsts
 pub mod Goes
 pub mod Hears
@@ -10,6 +13,8 @@ pub mod Moves
 pub mod Openings
 pub mod Phases
 pub mod Posting
+pub mod Projected
+pub mod Projection
 pub mod Routed
 pub mod Routes
 pub mod Sendings

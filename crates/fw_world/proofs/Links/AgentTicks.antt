@@ -12,7 +12,7 @@ use Rattle.fw_node.specs.Agents.{AgentOf, again_packets, agent_tick_sends, agent
 use Rattle.fw_node.specs.Cores.{session_core}
 use Rattle.fw_node.specs.Halves.{HalfOf, half_ticks}
 use Rattle.fw_node.specs.Packets.{all_packets}
-use Rattle.fw_world.proofs.Links.Firsts.{at_place, first_changed, first_fact, first_key, first_of, first_set, is_first, place_by}
+use Rattle.fw_world.proofs.Links.Firsts.{at_place, first_changed, first_fact, first_key, first_of, first_put, first_set, is_first, place_by, put_at}
 use Rattle.fw_world.proofs.Links.Phases.{AreSoon, agent_half_sends, agent_halves_after, deaf_sends_nothing}
 use Rattle.fw_world.proofs.Links.Posting.{all_mine, is_to, none_mine}
 use Rattle.fw_world.proofs.Links.Sendings.{GoesTo, IsRoutedHalf, packets_to, tick_sends_to}
@@ -48,6 +48,20 @@ half_set hs y own eid p there is =
 -- a half is for the device by which it was found
 pub half_found : (hs : List (HalfOf TimedOf)) (eid : ℕ) (h : HalfOf TimedOf) → half_at hs (place_of hs eid) ≡ Some h → h.peer ≡ eid
 half_found hs eid h e = subst (λ o. IfSome o (λ y. half_peer y ≡ eid)) (sym (half_is_first hs eid) ∙ e) (first_key half_peer hs eid)
+
+-- One half changes, or all do.
+pub half_put : (g : HalfOf TimedOf → HalfOf TimedOf) → ((h : HalfOf TimedOf) → (g h).peer ≡ h.peer) → (hs : List (HalfOf TimedOf)) (own eid : ℕ)
+    → half_at (put_at g hs (place_of hs own) (half_at hs (place_of hs own))) (place_of (put_at g hs (place_of hs own) (half_at hs (place_of hs own))) eid)
+    ≡ (if own == eid then option_map g (half_at hs (place_of hs eid)) else half_at hs (place_of hs eid))
+half_put g same hs own eid =
+    half_is_first (put_at g hs (place_of hs own) (half_at hs (place_of hs own))) eid
+    ∙ first_put half_peer g same hs own eid (place_of hs own) (half_at hs (place_of hs own)) (sym (same_place 0 hs own)) (sym (half_is_first hs own))
+    ∙ ap (λ o. if own == eid then option_map g o else o) (sym (half_is_first hs eid))
+
+pub half_changed : (g : HalfOf TimedOf → HalfOf TimedOf) → ((h : HalfOf TimedOf) → (g h).peer ≡ h.peer) → (hs : List (HalfOf TimedOf)) (eid : ℕ)
+    → half_at (map g hs) (place_of (map g hs) eid) ≡ option_map g (half_at hs (place_of hs eid))
+half_changed g same hs eid =
+    half_is_first (map g hs) eid ∙ first_changed half_peer g same hs eid ∙ ap (option_map g) (sym (half_is_first hs eid))
 
 -- no two halves are for the same device
 abbrev pub AreApart : List (HalfOf TimedOf) → Type 0

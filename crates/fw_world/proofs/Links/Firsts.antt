@@ -1,5 +1,5 @@
 -- The first of a list that has this key.
-use Rattle.std.proofs.Common.{◌≡◌, ◌≢◌, ◌∙◌, ◌+◌, ◌==◌, ℕ, zero, suc, Bool, true, false, if◌then◌else◌, List, [], ◌∷◌, map, slice_get, slice_set, Option, Some, None, IfSome, inl, inr, refl, sym, ap, arith}
+use Rattle.std.proofs.Common.{◌≡◌, ◌≢◌, ◌∙◌, ◌+◌, ◌==◌, ℕ, zero, suc, Bool, true, false, if◌then◌else◌, List, [], ◌∷◌, map, slice_get, slice_set, Option, Some, None, IfSome, inl, inr, refl, sym, ap, subst, arith}
 use Rattle.std.specs.List.{AllByRecursion}
 use Rattle.std.specs.Option.{option_map}
 use Rattle.std.proofs.lemmas.Bool.{eq-eqb, eqb-true, ne_eqb}
@@ -113,3 +113,34 @@ first_set key (x ∷ xs) y own eid p there is = elim (eqb_tells (key x) own) [
       let at : place_by key 1 xs own ≡ Some p = rw other.0 at there in
       put_further key x y xs own eid p (place_by key 0 xs own) other.1 refl (sym (place_further key 0 xs own) ∙ at) (λ q e. first_set key xs y own eid q e is)
 ]
+
+-- what stands there becomes what this makes of it
+abbrev pub put_at : {A : Type 0} → (A → A) → List A → Option ℕ → Option A → List A
+put_at g xs None x = xs
+put_at g xs (Some p) None = xs
+put_at g xs (Some p) (Some x) = slice_set xs p (g x)
+
+unput : {A : Type 0} (key : A → ℕ) (g : A → A) (xs : List A) (own eid : ℕ) → first_of key xs own ≡ None
+    → first_of key xs eid ≡ (if own == eid then option_map g (first_of key xs eid) else first_of key xs eid)
+unput key g xs own eid none = elim (eqb_tells own eid) [
+  | inl same ↦
+      let here : first_of key xs eid ≡ None = ap (first_of key xs) (sym same.1) ∙ none in
+      here ∙ sym (ap (λ b. if b then option_map g (first_of key xs eid) else first_of key xs eid) same.0 ∙ ap (option_map g) here)
+  | inr other ↦ rw other.0 refl
+]
+
+put_found : {A : Type 0} (key : A → ℕ) (g : A → A) (xs : List A) (own eid : ℕ) (x : A) → first_of key xs own ≡ Some x
+    → (if own == eid then Some (g x) else first_of key xs eid) ≡ (if own == eid then option_map g (first_of key xs eid) else first_of key xs eid)
+put_found key g xs own eid x found = elim (eqb_tells own eid) [
+  | inl same ↦ let here : first_of key xs eid ≡ Some x = ap (first_of key xs) (sym same.1) ∙ found in rw same.0 (sym (ap (option_map g) here))
+  | inr other ↦ rw other.0 refl
+]
+
+pub first_put : {A : Type 0} (key : A → ℕ) (g : A → A) → ((x : A) → key (g x) ≡ key x) → (xs : List A) (own eid : ℕ) (o : Option ℕ) (s : Option A)
+    → place_by key 0 xs own ≡ o → first_of key xs own ≡ s
+    → first_of key (put_at g xs o s) eid ≡ (if own == eid then option_map g (first_of key xs eid) else first_of key xs eid)
+first_put key g same xs own eid None s there found = unput key g xs own eid (sym (sym (ap (at_place xs) there) ∙ is_first key xs own))
+first_put key g same xs own eid (Some p) None there found = unput key g xs own eid found
+first_put key g same xs own eid (Some p) (Some x) there found =
+    first_set key xs (g x) own eid p there (same x ∙ subst (λ o. IfSome o (λ y. key y ≡ own)) found (first_key key xs own))
+    ∙ put_found key g xs own eid x found

@@ -1,5 +1,5 @@
 -- A packet that isn't for a half, or comes to a deaf one, changes nothing.
-use Rattle.std.proofs.Common.{◌≡◌, ◌≢◌, ◌⊎◌, ◌∙◌, ℕ, ◌==◌, ◌&&◌, not, Bool, true, false, if◌then◌else◌, List, [], Option, Some, None, Ok, Err, Result, inl, inr, refl, sym, ap}
+use Rattle.std.proofs.Common.{◌≡◌, ◌≢◌, ◌⊎◌, ◌≤◌, ◌+◌, ◌∙◌, ℕ, ◌==◌, ◌&&◌, not, Bool, true, false, if◌then◌else◌, List, [], Option, Some, None, Ok, Err, Result, inl, inr, refl, sym, ap}
 use Rattle.std.proofs.lemmas.Bool.{eqb-true, ne_eqb}
 use Rattle.mctp_wire.specs.Packet as wire
 use Rattle.mctp_wire.specs.declared.fault.WireFault.{WireFault}
@@ -9,6 +9,11 @@ use Rattle.pldm_exch.specs.Ends.{AskerOf, TakerOf}
 use Rattle.pldm_exch.specs.Sides.{AskerRow, TakerRow, asker_row, taker_row}
 use Rattle.exch_lane.specs.Laws.{in_lane, is_between, read_between}
 use Rattle.fw_node.specs.Halves.{CoreOf, HalfHeard, HalfOf, half_hears, half_hears_by}
+use Rattle.exch_lane.specs.Lanes.{Sent, numbered}
+use Rattle.fw_world.specs.Lanes.{LinkExplained}
+use Rattle.fw_world.specs.Links.{LinkOf}
+use Rattle.fw_world.proofs.Links.Comings.{fact_of}
+use Rattle.fw_world.proofs.Links.Ways.{IsOfEither}
 use Rattle.fw_world.proofs.Links.Routes.{both_hold, silent_asker, silent_taker}
 
 -- neither end of the half does anything
@@ -61,3 +66,21 @@ between_read x y bytes (Err fault) is e = absurd (cc)
 
 pub goes_between : (x y : ℕ) (bytes : List ℕ) → in_lane x y bytes ≡ true → GoesBetween x y bytes
 goes_between x y bytes e = between_read x y bytes (wire.packet_of bytes) refl e
+
+-- the same, of the other lane
+turned_ends : (source dest x y : ℕ) → ((source ≡ y) × (dest ≡ x)) ⊎ ((source ≡ x) × (dest ≡ y)) → ((source ≡ x) × (dest ≡ y)) ⊎ ((source ≡ y) × (dest ≡ x))
+turned_ends source dest x y (inl e) = inr e
+turned_ends source dest x y (inr e) = inl e
+
+between_turned : (x y : ℕ) (bytes : List ℕ) → GoesBetween y x bytes → GoesBetween x y bytes
+between_turned x y bytes g = record { head = g.head; body = g.body; reads = g.reads; ends = turned_ends g.head.source g.head.dest x y g.ends }
+
+between_either : (x y : ℕ) (bytes : List ℕ) → (in_lane x y bytes ≡ true) ⊎ (in_lane y x bytes ≡ true) → GoesBetween x y bytes
+between_either x y bytes (inl e) = goes_between x y bytes e
+between_either x y bytes (inr e) = between_turned x y bytes (goes_between y x bytes e)
+
+-- A packet of a link that can still come goes between its two nodes.
+pub link_packet_between : (now : ℕ) (l : LinkOf) (number : ℕ) (s : Sent) → LinkExplained now l → numbered l.packets number ≡ Some s → now ≤ s.date + 8
+    → GoesBetween l.agent.own l.device.own s.bytes
+link_packet_between now l number s e is soon =
+    between_either l.agent.own l.device.own s.bytes (fact_of (IsOfEither now l.agent.own l.device.own) l.packets number s e.packets is soon)

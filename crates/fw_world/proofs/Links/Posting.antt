@@ -8,7 +8,7 @@ use Rattle.std.proofs.lemmas.List.{append-nil, append_assoc}
 use Rattle.exch_lane.specs.Lanes.{Sent}
 use Rattle.exch_lane.specs.Steps.{sent_at}
 use Rattle.fw_world.specs.Worlds.{SiteOf, place_for, place_from, place_of, post, post_at, posts, sent_now, site_at, site_for}
-use Rattle.fw_world.proofs.Links.Firsts.{at_place, first_changed, first_key, first_of, first_set, is_first, place_by}
+use Rattle.fw_world.proofs.Links.Firsts.{at_place, first_changed, first_key, first_of, first_put, first_set, is_first, place_by, put_at}
 use Rattle.fw_world.proofs.Links.Sendings.{GoesTo}
 
 -- the identifier of a device
@@ -91,7 +91,7 @@ post_one now xs (version ∷ dest ∷ rest) eid = post_by now (version ∷ dest 
 abbrev pub with_packets : ℕ → List (List ℕ) → SiteOf → SiteOf
 with_packets now packets x = record x { packets = x.packets ++ sent_now now packets }
 
-none_behind : (now : ℕ) (o : Option SiteOf) → o ≡ option_map (with_packets now []) o
+pub none_behind : (now : ℕ) (o : Option SiteOf) → o ≡ option_map (with_packets now []) o
 none_behind now None = refl
 none_behind now (Some x) = ap (λ ps. Some (record x { packets = ps })) (sym (append-nil x.packets))
 
@@ -115,6 +115,14 @@ posts_at now (p ∷ ps) xs eid =
 pub site_changed : (f : SiteOf → SiteOf) → ((x : SiteOf) → site_eid (f x) ≡ site_eid x) → (xs : List SiteOf) (eid : ℕ) → site_for (map f xs) eid ≡ option_map f (site_for xs eid)
 site_changed f same xs eid =
     site_is_first (map f xs) eid ∙ first_changed site_eid f same xs eid ∙ ap (option_map f) (sym (site_is_first xs eid))
+
+-- One device changes.
+pub site_put : (g : SiteOf → SiteOf) → ((x : SiteOf) → site_eid (g x) ≡ site_eid x) → (xs : List SiteOf) (own eid : ℕ)
+    → site_for (put_at g xs (place_of xs own) (site_for xs own)) eid ≡ (if own == eid then option_map g (site_for xs eid) else site_for xs eid)
+site_put g same xs own eid =
+    site_is_first (put_at g xs (place_of xs own) (site_for xs own)) eid
+    ∙ first_put site_eid g same xs own eid (place_of xs own) (site_for xs own) (sym (same_place 0 xs own)) (sym (site_is_first xs own))
+    ∙ ap (λ o. if own == eid then option_map g o else o) (sym (site_is_first xs eid))
 
 -- packets that all go to one device
 pub all_mine : (eid : ℕ) (packets : List (List ℕ)) → AllByRecursion (GoesTo eid) packets → filter (is_to eid) packets ≡ packets
