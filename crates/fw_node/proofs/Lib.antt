@@ -8,4 +8,5 @@ mod NodeTicks
 mod PartHears
 mod Places
 mod Rows
+mod Speaking
 mod Working

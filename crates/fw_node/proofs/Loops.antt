@@ -1,9 +1,9 @@
 -- A loop that changes each element and sends what each gives.
-use Rattle.std.proofs.Common.{◌≡◌, ◌∙◌, ◌<◌, ◌+◌, ℕ, zero, suc, List, [], ◌∷◌, ◌++◌, map, take, drop, flat_map, length, get_or, slice_get, slice_set, Some, refl, sym, ap, arith}
+use Rattle.std.proofs.Common.{◌≡◌, ◌∙◌, ◌<◌, ◌+◌, ℕ, zero, suc, List, [], ◌∷◌, ◌++◌, map, take, drop, flat_map, length, get_or, slice_get, slice_set, Some, sym, ap, arith}
 use Rattle.std.proofs.Math.ListN.{get_or-map}
 use Rattle.std.proofs.lemmas.List.Edits.{map_over_more}
 use Rattle.std.proofs.lemmas.Grind.{flat_map-append}
-use Rattle.std.proofs.lemmas.List.{append_assoc, length-map, map-set, length-take, drop_more, get_or_at, take_more}
+use Rattle.std.proofs.lemmas.List.{append-nil, append_assoc, length-map, map-set, length-take, drop_more, get_or_at, take_more}
 
 -- the element at hand is as it was
 pub read_over : {X : Type 0} (f : X → X) (xs ys : List X) (i : ℕ) (x : X) → i < length xs → ys ≡ map f (take i xs) ++ drop i xs → x ≡ get_or ys i x → x ≡ get_or xs i x
@@ -13,17 +13,13 @@ read_over f xs ys i x lt h is =
     let parts : ys ≡ front ++ get_or xs i x ∷ drop (i + 1) xs = h ∙ ap (λ l. front ++ l) (drop_more xs i x lt) in
     is ∙ ap (λ l. get_or l i x) parts ∙ get_or_at front _ _ x i long
 
-nil_behind : {X : Type 0} (xs : List X) → xs ++ [] ≡ xs
-nil_behind [] = refl
-nil_behind (x ∷ xs) = ap (λ ys. x ∷ ys) (nil_behind xs)
-
 -- what is sent grows by what it gives
 pub sends_more : {X Y : Type 0} (g : X → List Y) (xs : List X) (i : ℕ) (x : X) (out before now : List Y) → i < length xs → x ≡ get_or xs i x
     → before ≡ out ++ flat_map g (take i xs) → now ≡ before ++ g x → now ≡ out ++ flat_map g (take (i + 1) xs)
 sends_more g xs i x out before now lt is h e =
     e ∙ ap (λ b. b ++ g x) h ∙ append_assoc out (flat_map g (take i xs)) (g x)
     ∙ ap (λ y. out ++ (flat_map g (take i xs) ++ g y)) is
-    ∙ ap (λ l. out ++ l) (sym (ap (flat_map g) (take_more xs i x lt) ∙ flat_map-append g (take i xs) (get_or xs i x ∷ []) ∙ ap (λ l. flat_map g (take i xs) ++ l) (nil_behind (g (get_or xs i x)))))
+    ∙ ap (λ l. out ++ l) (sym (ap (flat_map g) (take_more xs i x lt) ∙ flat_map-append g (take i xs) (get_or xs i x ∷ []) ∙ ap (λ l. flat_map g (take i xs) ++ l) (append-nil (g (get_or xs i x)))))
 
 -- A loop over parts, seen as halves: the part at hand is done.
 pub done_more : {P H : Type 0} (f : P → H) (g : H → H) (ps qs : List P) (i : ℕ) (x new : P) → i < length ps → x ≡ get_or qs i x

@@ -16,7 +16,7 @@ use Rattle.ua_core.specs.Session.{SessionOf, TimedOf}
 use Rattle.fw_node.specs.BothEnds.{EndsOf, ends_new}
 use Rattle.fw_node.specs.Cores.{session_core}
 use Rattle.fw_node.specs.Halves.{HalfOf, aged, half_hears, half_restarts, half_ticks, idled, last_part, recast}
-use Rattle.fw_node.specs.Nodes.{NodeHeard, finished, half_of}
+use Rattle.fw_node.specs.Nodes.{MaySpeak, NodeHeard, SpeaksAfter, finished, half_of}
 use Rattle.fw_node.specs.Notes.{noted}
 use Rattle.fw_node.specs.Packets.{all_packets, sent_by}
 
@@ -84,10 +84,26 @@ hears_at packages n bytes now (Some place) (Some h) =
     half_heard n now place h (finished roles.Agent n.endpoint n.tid (half_hears (session_core packages) true h bytes))
 hears_at packages n bytes now place h = agent_unmoved n
 
+-- what the session of a half wishes, if it wishes anything, can be said
+abbrev pub HalfMaySpeak : List PackageText → HalfOf TimedOf → Type 0
+HalfMaySpeak packages h = MaySpeak (session_core packages) h.core
+
+-- after a packet its session is as it was, or what it wishes can be said
+abbrev pub SpeaksHearing : List PackageText → AgentOf → List ℕ → HalfOf TimedOf → Type 0
+SpeaksHearing packages n bytes h =
+    SpeaksAfter
+    (session_core packages)
+    h.core
+    (finished roles.Agent n.endpoint n.tid (half_hears (session_core packages) true h bytes)).half.core
+
 -- the place of the half that hears a packet: that of the device that sent it
 abbrev pub place_heard : List (HalfOf TimedOf) → Result (Head × List ℕ) WireFault → Option ℕ
 place_heard hs (Ok p) = place_of hs p.0.source
 place_heard hs (Err fault) = None
+
+-- that half
+abbrev pub hearer : AgentOf → List ℕ → Option (HalfOf TimedOf)
+hearer n bytes = half_at n.halves (place_heard n.halves (wire.packet_of bytes))
 
 -- What a packet is for the agent: the half of the device that sent it hears it; a deaf agent drops every packet.
 abbrev pub agent_hears : List PackageText → AgentOf → List ℕ → (now : ℕ) → AgentHeard
