@@ -5,6 +5,7 @@ mod Loops
 mod NodeHears
 mod NodeServes
 mod NodeTicks
+mod OneATick
 mod PartHears
 mod Places
 mod Rows

@@ -141,6 +141,10 @@ asked_packets packages h = all_packets (last_part (session_core packages) h []).
 abbrev pub ended_packets : List PackageText → HalfOf TimedOf → List (List ℕ)
 ended_packets packages h = asked_packets packages (waited packages h)
 
+-- the messages of the requests that begin then
+abbrev pub begins : List PackageText → HalfOf TimedOf → List MessageOf
+begins packages h = (last_part (session_core packages) (waited packages h) []).sent
+
 -- The log after a part of a tick, which is done for all halves in order: what happened to each session is noted.
 abbrev pub notes : (HalfOf TimedOf → HalfOf TimedOf) → (now : ℕ) → LogOf → List (HalfOf TimedOf) → LogOf
 notes part now log [] = log

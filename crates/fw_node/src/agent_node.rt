@@ -5,7 +5,7 @@ ghost use Rattle.mctp_wire.specs.Packet.{packet_of as packet_read};
 ghost use Rattle.fw_package.specs.Package.{PackageText};
 ghost use Rattle.sel_core.specs.Log.{sel_after, sel_reply};
 ghost use Rattle.ua_core.specs.Calls.{agent_activated, is_free};
-ghost use Rattle.fw_node.specs.Agents.{AgentOf, HalfMaySpeak, PartOf, SpeaksHearing, activates, free_for, hearer, ready_for, again_packets, agent_becomes, agent_hears, agent_restarts, agent_tick_sends, agent_ticks, asked_last, asked_packets, becomes_at, cancels, ended, ended_packets, grown, half_at, half_for, half_in, hears_at, new_agent, new_half, notes, place_from, place_heard, place_of, starts, waited};
+ghost use Rattle.fw_node.specs.Agents.{AgentOf, HalfMaySpeak, PartOf, SpeaksHearing, activates, free_for, hearer, ready_for, again_packets, agent_becomes, agent_hears, agent_restarts, agent_tick_sends, agent_ticks, asked_last, asked_packets, becomes_at, begins, cancels, ended, ended_packets, grown, half_at, half_for, half_in, hears_at, new_agent, new_half, notes, place_from, place_heard, place_of, starts, waited};
 ghost use Rattle.fw_node.specs.AgentViews.{agent_of, part_activated, part_cancelled, part_free, part_ready, part_restarted, part_started, parts_called, parts_noted};
 ghost use Rattle.fw_node.specs.Cores.{session_core};
 ghost use Rattle.fw_node.specs.Halves.{half_hears, half_restarts};
@@ -414,10 +414,10 @@ fn grow_all<'p>(
     now: u32,
     outbox: &mut Outbox,
 )
-    requires { length outbox.old + 4 * length parts.old ≤ 128 }
+    requires { length outbox.old + 4 * length parts.old ≤ 64 }
     ensures halves { map (half_in 0) parts.new ≡ map (grown packages.now) (map (half_in 0) parts.old) }
     ensures sent { outbox.new ≡ outbox.old ++ flat_map again_packets (map (half_in 0) parts.old) }
-    ensures few { length outbox.new ≤ length outbox.old + 4 * length parts.old }
+    ensures few { length outbox.new + 4 * length (flat_map (begins packages.now) (map (grown packages.now) (map (half_in 0) parts.old))) ≤ length outbox.old + 4 * length parts.old }
     ensures log { log.new ≡ notes (grown packages.now) now log.old (map (half_in 0) parts.old) }
     ensures count { length parts.new ≡ length parts.old }
 {
@@ -434,7 +434,7 @@ fn wait_all<'p>(
     now: u32,
     outbox: &mut Outbox,
 )
-    requires { length outbox.old + 4 * length parts.old ≤ 128 }
+    requires { length outbox.old + 4 * length (flat_map (begins packages.now) (map (half_in 0) parts.old)) ≤ 64 }
     ensures halves { map (half_in 0) parts.new ≡ map (ended packages.now) (map (half_in 0) parts.old) }
     ensures sent { outbox.new ≡ outbox.old ++ flat_map (ended_packets packages.now) (map (half_in 0) parts.old) }
     ensures log { log.new ≡ notes (waited packages.now) now log.old (map (half_in 0) parts.old) }

@@ -206,7 +206,7 @@ impl<B: Bank> DeviceNode<B> {
 
     /// Gives up what isn't wished, and begins what is.
     fn ask(&mut self, outbox: &mut Outbox)
-        requires { length outbox.old ≤ 124 }
+        requires { length outbox.old ≤ 60 }
         ensures after { self.new ≡ record self.old { half = (last_part device_core self.old.half []).half } }
         ensures sent { outbox.new ≡ outbox.old ++ all_packets (last_part device_core self.old.half []).sent }
         ensures spoken { MaySpeak device_core self.new.half.core }
