@@ -1,5 +1,5 @@
 -- Places among the agent's halves.
-use Rattle.std.proofs.Common.{◌≡◌, ◌∙◌, ◌==◌, ◌+◌, ℕ, zero, suc, if◌then◌else◌, List, [], ◌∷◌, map, slice_get, Option, Some, None, refl, ap}
+use Rattle.std.proofs.Common.{◌≡◌, ◌∙◌, ◌==◌, ◌+◌, ℕ, zero, suc, if◌then◌else◌, List, [], ◌∷◌, map, slice_get, Option, Some, None, is_some, refl, ap}
 use Rattle.std.specs.Option.{option_map}
 use Rattle.fw_node.specs.Agents.{PartOf, half_at, half_in, place_from, place_of}
 
@@ -25,5 +25,12 @@ pub core_any : (a b : ℕ) (ps : List PartOf) (eid : ℕ)
     → option_map (λ h. h.core) (half_at (map (half_in a) ps) (place_of (map (half_in a) ps) eid)) ≡ option_map (λ h. h.core) (half_at (map (half_in b) ps) (place_of (map (half_in b) ps) eid))
 core_any a b ps eid =
     ap (λ o. option_map (λ h. h.core) (half_at (map (half_in a) ps) o)) (place_any a b ps eid) ∙ core_at a b ps (place_of (map (half_in b) ps) eid)
+
+-- whether there is one
+pub known_alike : {A B C : Type 0} (f : A → C) (g : B → C) (a : Option A) (b : Option B) → option_map f a ≡ option_map g b → is_some a ≡ is_some b
+known_alike f g None None e = refl
+known_alike f g None (Some y) e = absurd (cc)
+known_alike f g (Some x) None e = absurd (cc)
+known_alike f g (Some x) (Some y) e = refl
 
 pub ruleset places = (core_any)

@@ -96,7 +96,8 @@ impl AgentNode {
     /// The session with a device, if it is one of the agent's.
     #[tactic(auto, using(crate::proofs::Places::places))]
     pub fn session(&self, eid: u8) -> Option<&Session>
-        ensures { option_map (λ s. s.now) result ≡ option_map (λ h. h.core) (half_for self.now eid) }
+        ensures session { option_map (λ s. s.now) result ≡ option_map (λ h. h.core) (half_for self.now eid) }
+        ensures known { is_some result ≡ is_some (half_for self.now eid) }
     {
         session_in(self.parts.as_slice(), eid)
     }

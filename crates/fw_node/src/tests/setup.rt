@@ -15,7 +15,7 @@ pub const AGENT: u8 = 8;
 pub const DEVICE: u8 = 9;
 
 /// The device's component.
-const KEY: Key = Key {
+pub const KEY: Key = Key {
     classification: 10,
     identifier: 1,
 };
