@@ -2,7 +2,7 @@
 
 use crate::tests::bench::{Bench, Fault};
 use crate::tests::packages::{ONE, TWICE, file, image, package};
-use crate::tests::setup::{DEVICE, KEY};
+use crate::tests::setup::{DEVICE, GET_STATUS, IDLE, KEY};
 use fd_core::Bank;
 use fw_package::Package;
 use std::alloc::{AllocError, Global};
@@ -223,13 +223,6 @@ fn a_cancel_meets_a_stale_completion(rt: HostRuntime) -> Result<(), Fail> {
 
 /// The image that the device is made with.
 const FACTORY: &[u8] = &[0xAA];
-
-/// GetStatus, and its answer of an idle device that started anew.
-const GET_STATUS: &[u8] = &[0x01, 9, 8, 0xC8, 0x01, 0x80, 0x05, 0x1B];
-
-const IDLE: &[u8] = &[
-    0x01, 8, 9, 0xC0, 0x01, 0, 0x05, 0x1B, 0, 0, 0, 3, 0, 0x65, 0, 0, 0, 0, 0,
-];
 
 #[test]
 fn a_device_restarts_within_its_update(rt: HostRuntime) -> Result<(), Fail> {
