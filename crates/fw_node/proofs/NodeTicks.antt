@@ -25,7 +25,7 @@ wished_behind : {C : Type 0} (wish : Option CommandOf) (h : HalfOf C) (ms : List
 wished_behind None h ms = rw (append-nil ms) refl
 wished_behind (Some c) h ms = begun_behind (may_begin h.asker.caller) h c ms
 
-last_behind : {C : Type 0} (f : CoreOf C) (h : HalfOf C) (ms : List MessageOf) → last_part f h ms ≡ behind ms (last_part f h [])
+pub last_behind : {C : Type 0} (f : CoreOf C) (h : HalfOf C) (ms : List MessageOf) → last_part f h ms ≡ behind ms (last_part f h [])
 last_behind f h ms = wished_behind (f.wish h.core) (with_caller h (unwished_abandoned (f.wish h.core) h.asker.caller)) ms
 
 by_call : (h : HalfOf TimedDevice) (t : CallTick)

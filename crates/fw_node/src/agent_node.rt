@@ -8,7 +8,7 @@ ghost use Rattle.ua_core.specs.Calls.{agent_activated, is_free};
 ghost use Rattle.fw_node.specs.Agents.{AgentOf, HalfMaySpeak, PartOf, SpeaksHearing, activates, free_for, hearer, ready_for, again_packets, agent_becomes, agent_hears, agent_restarts, agent_tick_sends, agent_ticks, asked_last, asked_packets, becomes_at, begins, cancels, ended, ended_packets, grown, half_at, half_for, half_in, hears_at, new_agent, new_half, notes, place_from, place_heard, place_of, starts, waited};
 ghost use Rattle.fw_node.specs.AgentViews.{agent_of, part_activated, part_cancelled, part_free, part_ready, part_restarted, part_started, parts_called, parts_noted};
 ghost use Rattle.fw_node.specs.Cores.{session_core};
-ghost use Rattle.fw_node.specs.Halves.{half_hears, half_restarts};
+ghost use Rattle.fw_node.specs.Halves.{half_hears, half_restarts, half_ticks};
 ghost use Rattle.fw_node.specs.Nodes.{IsTold, MaySpeak};
 ghost use Rattle.std.specs.List.{AllByRecursion};
 ghost use Rattle.fw_node.specs.Packets.{all_packets};
@@ -142,6 +142,7 @@ impl AgentNode {
         requires { outbox.old ≡ [] }
         ensures after { self.new ≡ agent_ticks packages.now now self.old }
         ensures sent { outbox.new ≡ agent_tick_sends packages.now self.old }
+        ensures halves { self.new.halves ≡ map (λ h. (half_ticks (session_core packages.now) true h).half) self.old.halves }
         ensures spoken { self.old.deaf ≤ 1 → AllByRecursion (HalfMaySpeak packages.now) self.new.halves }
     {
         if self.deaf > 1 {

@@ -1,9 +1,11 @@
-use Rattle.std.proofs.Common.{◌∙◌, ◌≤◌, ap, arith, map, subst, sym}
+use Rattle.std.proofs.Common.{◌≡◌, ◌∙◌, true, ◌≤◌, ap, arith, map, subst, sym}
 use Rattle.std.proofs.lemmas.List.{with_items_is}
 use Rattle.std.specs.Vec.{with_items}
 use Rattle.std.specs.List.{AllByRecursion}
 use Rattle.fw_node.specs.Agents.{HalfMaySpeak, agent_tick_sends, agent_ticks, half_in}
-use Rattle.fw_node.proofs.AgentTicks.{deaf_ticks, hearing_sends, hearing_ticks}
+use Rattle.fw_node.specs.Cores.{session_core}
+use Rattle.fw_node.specs.Halves.{half_ticks}
+use Rattle.fw_node.proofs.AgentTicks.{deaf_ticks, hearing_sends, hearing_ticks, ticks_halves}
 use Rattle.fw_node.proofs.agent_node.AgentNode.on_tick.Goals as goal
 
 pub returns-then-self-gt1-clause-after : goal.returns-then-self-gt1-clause-after
@@ -44,3 +46,15 @@ returns-clause-spoken c few =
     let once = with_items v c.grow_all.new.parts in
     let last = with_items_is once c.wait_all.new.parts (c.wait_all.ensures.count ∙ c.as_mut_slice-2.ensures.len) in
     subst (λ ps. AllByRecursion (HalfMaySpeak c.args.packages.now) (map (half_in 0) ps)) (sym last) c.wait_all.ensures.spoken
+
+pub returns-then-self-gt1-clause-halves : goal.returns-then-self-gt1-clause-halves
+returns-then-self-gt1-clause-halves c =
+    ap (λ n. n.halves) (returns-then-self-gt1-clause-after c)
+    ∙ subst (λ n. (agent_ticks c.args.packages.now c.args.now n).halves ≡ map (λ h. (half_ticks (session_core c.args.packages.now) true h).half) n.halves) c.self.view_is
+    (ticks_halves c.args.packages.now c.args.now c.self.inside.deaf c.self.inside.desk c.self.inside.parts.items)
+
+pub returns-clause-halves : goal.returns-clause-halves
+returns-clause-halves c =
+    ap (λ n. n.halves) (returns-clause-after c)
+    ∙ subst (λ n. (agent_ticks c.args.packages.now c.args.now n).halves ≡ map (λ h. (half_ticks (session_core c.args.packages.now) true h).half) n.halves) c.self.view_is
+    (ticks_halves c.args.packages.now c.args.now c.self.inside.deaf c.self.inside.desk c.self.inside.parts.items)
