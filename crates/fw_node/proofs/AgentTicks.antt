@@ -108,9 +108,9 @@ ticked_half : (packages : List PackageText) (deaf : ℕ) (p : PartOf) → deaf �
     → ended packages (grown packages (half_in deaf p)) ≡ (half_ticks (session_core packages) true (half_in deaf p)).half
 ticked_half packages deaf p few =
     sym (
-      rw (le-leb deaf 1 few)
-      (ap (λ t. t.half) (ticked_by packages (half_in deaf p) (caller_tick p.ends.asking.caller).1
-      ∙ last_behind (session_core packages) (waited packages (grown packages (half_in deaf p))) (sent_by (caller_tick p.ends.asking.caller).1)))
+    rw (le-leb deaf 1 few)
+    (ap (λ t. t.half) (ticked_by packages (half_in deaf p) (caller_tick p.ends.asking.caller).1
+    ∙ last_behind (session_core packages) (waited packages (grown packages (half_in deaf p))) (sent_by (caller_tick p.ends.asking.caller).1)))
     )
 
 ticked_halves : (packages : List PackageText) (deaf : ℕ) (ps : List PartOf) → deaf ≤ 1

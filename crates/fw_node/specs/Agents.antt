@@ -1,5 +1,5 @@
 -- The agent's node: a half for each device that it updates, in configured order, and the event log.
-use Rattle.std.specs.Prelude.{ℕ, ◌-◌, ◌+◌, ◌==◌, nat_le, true, if◌then◌else◌, List, [], ◌∷◌, ◌++◌, flat_map, map, slice_get, slice_set, Option, Some, None, Result, Ok, Err, Bool}
+use Rattle.std.specs.Prelude.{ℕ, ◌≡◌, ◌-◌, ◌+◌, ◌==◌, nat_le, true, if◌then◌else◌, List, [], ◌∷◌, ◌++◌, flat_map, map, slice_get, slice_set, Option, Some, None, Result, Ok, Err, Bool}
 use Rattle.mctp_ctl.specs.declared.answers.Endpoint.{Endpoint}
 use Rattle.mctp_reasm.specs.Pieces.{MessageOf}
 use Rattle.mctp_wire.specs.Packet as wire
@@ -36,6 +36,11 @@ pub record AgentOf : Type 0 where
   pub deaf : ℕ
   pub halves : List (HalfOf TimedOf)
   pub log : LogOf
+
+-- a half is deaf for as long as its node
+pub record IsDeafFor (deaf : ℕ) (h : HalfOf TimedOf) : Type 0 where
+  pub asker : h.asker.deaf ≡ deaf
+  pub taker : h.taker.deaf ≡ deaf
 
 -- an agent as it is made, for the devices with these endpoint identifiers
 abbrev pub new_half : (own device : ℕ) → HalfOf TimedOf

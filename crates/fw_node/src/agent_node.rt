@@ -5,7 +5,7 @@ ghost use Rattle.mctp_wire.specs.Packet.{packet_of as packet_read};
 ghost use Rattle.fw_package.specs.Package.{PackageText};
 ghost use Rattle.sel_core.specs.Log.{sel_after, sel_reply};
 ghost use Rattle.ua_core.specs.Calls.{agent_activated, is_free};
-ghost use Rattle.fw_node.specs.Agents.{AgentOf, HalfMaySpeak, PartOf, SpeaksHearing, activates, free_for, hearer, ready_for, again_packets, agent_becomes, agent_hears, agent_restarts, agent_tick_sends, agent_ticks, asked_last, asked_packets, becomes_at, begins, cancels, ended, ended_packets, grown, half_at, half_for, half_in, hears_at, new_agent, new_half, notes, place_from, place_heard, place_of, starts, waited};
+ghost use Rattle.fw_node.specs.Agents.{AgentOf, HalfMaySpeak, IsDeafFor, PartOf, SpeaksHearing, activates, free_for, hearer, ready_for, again_packets, agent_becomes, agent_hears, agent_restarts, agent_tick_sends, agent_ticks, asked_last, asked_packets, becomes_at, begins, cancels, ended, ended_packets, grown, half_at, half_for, half_in, hears_at, new_agent, new_half, notes, place_from, place_heard, place_of, starts, waited};
 ghost use Rattle.fw_node.specs.AgentViews.{agent_of, part_activated, part_cancelled, part_free, part_ready, part_restarted, part_started, parts_called, parts_noted};
 ghost use Rattle.fw_node.specs.Cores.{session_core};
 ghost use Rattle.fw_node.specs.Halves.{half_hears, half_restarts, half_ticks};
@@ -81,7 +81,8 @@ impl AgentNode {
 
     /// Whether it drops every packet, since it started anew less than 40 ticks ago.
     pub fn is_deaf(&self) -> bool
-        ensures { result ≡ not (self.now.deaf == 0) }
+        ensures deaf { result ≡ not (self.now.deaf == 0) }
+        ensures halves { AllByRecursion (IsDeafFor self.now.deaf) self.now.halves }
     {
         self.deaf > 0
     }
