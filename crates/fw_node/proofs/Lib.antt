@@ -5,7 +5,9 @@ pub mod Loops
 mod NodeHears
 mod NodeServes
 mod NodeTicks
+mod OneATick
 mod PartHears
 mod Places
 mod Rows
+mod Speaking
 mod Working
