@@ -52,7 +52,7 @@ impl Outbox {
     /// How many packets there are to send.
     pub fn len(&self) -> usize
         ensures count { result ≡ length self.now }
-        ensures few { length self.now ≤ 128 }
+        ensures few { length self.now ≤ 64 }
     {
         self.packets.len()
     }

@@ -1,6 +1,7 @@
 -- Each step of the world's code leads on as its definition says.
-use Rattle.std.proofs.Common.{◌≡◌, ◌∙◌, ◌++◌, ◌==◌, ◌<◌, ℕ, zero, suc, [], ◌∷◌, Bool, true, false, is_some, length, List, map, slice_get, slice_set, Option, Some, None, ap, arith, inl, inr, refl, subst, sym}
+use Rattle.std.proofs.Common.{◌≡◌, ◌∙◌, ◌++◌, ◌==◌, ◌<◌, ◌≤◌, ◌+◌, IfSome, ℕ, zero, suc, [], ◌∷◌, Bool, true, false, is_some, length, List, map, slice_get, slice_set, Option, Some, None, ap, arith, inl, inr, refl, subst, sym}
 use Rattle.std.proofs.lemmas.Bool.Decides.{eqb_tells}
+use Rattle.std.specs.List.{AllByRecursion}
 use Rattle.std.specs.Option.{option_map}
 use Rattle.arrayvec.specs.declared.array_vec.ArrayVec.{ArrayVec}
 use Rattle.exch_lane.specs.Lanes.{Sent, numbered}
@@ -9,11 +10,13 @@ use Rattle.fd_core.specs.Steps.{applied_by}
 use Rattle.fd_core.specs.declared.states.Verdict.{Verdict}
 use Rattle.fw_message.specs.History.{EntryOf}
 use Rattle.fw_message.specs.Worlds.{NotedOf, noted_of}
-use Rattle.fw_node.specs.Agents.{agent_restarts, cancels, ready_for, starts}
-use Rattle.fw_node.specs.Nodes.{device_hears, device_judges}
+use Rattle.fw_node.specs.Agents.{HalfMaySpeak, agent_restarts, agent_ticks, cancels, hearer, ready_for, starts}
+use Rattle.fw_node.specs.Cores.{session_core}
+use Rattle.fw_node.specs.Halves.{half_hears}
+use Rattle.fw_node.specs.Nodes.{IsTold, device_hears, device_judges}
 use Rattle.fw_node.specs.Packets.{all_packets}
 use Rattle.fw_world.specs.Deliveries.{ComesTo, IsJudged}
-use Rattle.fw_world.specs.Replays.{Leads, faults_before, faults_of, may_step}
+use Rattle.fw_world.specs.Replays.{CanBeSaidBy, IsToldBy, IsToldTo, Leads, SiteSpeaks, faults_before, faults_of, may_step}
 use Rattle.fw_world.specs.Worlds.{SiteOf, WorldOf, activated_at, activates_on, asks_log, at_agent, at_device, calls, comes, delivers, judges, node_becomes, packets_of, place_of, restarts, sent_now, site_at, site_for, site_restarts, ticks, world_after}
 use Rattle.fw_world.specs.declared.step.Step.{Step}
 
@@ -27,24 +30,26 @@ pub differs : (a b : ℕ) → (a ≡ b → ⊥) → (a == b) ≡ false
 differs a b e = elim (eqb_tells a b) [ inl same ↦ absurd (e same.1) | inr other ↦ other.0 ]
 
 -- a step that calls no bank
-leads : (w v : WorldOf) (s : Step) → may_step w s ≡ None → v ≡ world_after true (faults_before w s) w s → Leads w s v
-leads w v s may after = record { may = may; works = true; faults = faults_before w s; after = after; worked = λ e. refl; failed = λ e. absurd (cc) }
+leads : (w v : WorldOf) (s : Step) → may_step w s ≡ None → v ≡ world_after true (faults_before w s) w s → CanBeSaidBy true w s → Leads w s v
+leads w v s may after said = record { may = may; works = true; faults = faults_before w s; after = after; worked = λ e. refl; failed = λ e. absurd (cc); said = said }
 
-pub tick_leads : (w v : WorldOf) → may_step w steps.Tick ≡ None → v ≡ ticks w → Leads w steps.Tick v
-tick_leads w v may after = leads w v steps.Tick may after
+pub tick_leads : (w v : WorldOf) → may_step w steps.Tick ≡ None → v ≡ ticks w
+    → (w.agent.deaf ≤ 1 → AllByRecursion (HalfMaySpeak w.packages) v.agent.halves) → AllByRecursion SiteSpeaks w.sites → Leads w steps.Tick v
+tick_leads w v may after agent sites =
+    leads w v steps.Tick may after (λ soon. subst (λ x. AllByRecursion (HalfMaySpeak w.packages) x.agent.halves) after (agent soon), sites)
 
 pub start_leads : (w v : WorldOf) (device number : ℕ) → may_step w (steps.Start device number) ≡ None → v ≡ calls w device (λ h. starts w.packages h number) → Leads w (steps.Start device number) v
-start_leads w v device number may after = leads w v (steps.Start device number) may after
+start_leads w v device number may after = leads w v (steps.Start device number) may after tt
 
 pub cancel_leads : (w v : WorldOf) (device : ℕ) → may_step w (steps.Cancel device) ≡ None → v ≡ calls w device (cancels w.packages) → Leads w (steps.Cancel device) v
-cancel_leads w v device may after = leads w v (steps.Cancel device) may after
+cancel_leads w v device may after = leads w v (steps.Cancel device) may after tt
 
 pub activate_leads : (w v : WorldOf) (device : ℕ) → may_step w (steps.Activate device) ≡ None → v ≡ activates_on w device (ready_for w.agent device) → Leads w (steps.Activate device) v
-activate_leads w v device may after = leads w v (steps.Activate device) may after
+activate_leads w v device may after = leads w v (steps.Activate device) may after tt
 
 pub agent_restart_leads : (w v : WorldOf) (node : ℕ) → node ≡ w.agent.endpoint.eid → v ≡ record w { agent = agent_restarts w.packages w.agent } → Leads w (steps.Restart node) v
 agent_restart_leads w v node is after =
-    leads w v (steps.Restart node) (rw (equals node w.agent.endpoint.eid is) refl) (rw (equals node w.agent.endpoint.eid is) after)
+    leads w v (steps.Restart node) (rw (equals node w.agent.endpoint.eid is) refl) (rw (equals node w.agent.endpoint.eid is) after) tt
 
 something_there : (xs : List SiteOf) (i : ℕ) → i < length xs → is_some (slice_get xs i) ≡ true
 something_there [] i lt = absurd (omega (arith, lt))
@@ -56,10 +61,10 @@ pub device_restart_leads : (w v : WorldOf) (node place : ℕ) → (node ≡ w.ag
 device_restart_leads w v node place is at within after =
     let known : is_some (site_for w.sites node) ≡ true = ap (λ p. is_some (site_at w.sites p)) at ∙ something_there w.sites place within in
     leads w v (steps.Restart node) (rw (differs node w.agent.endpoint.eid is, known) refl)
-    (rw (differs node w.agent.endpoint.eid is) (after ∙ ap (λ p. record w { sites = site_restarts w.sites p (site_at w.sites p) }) (sym at)))
+    (rw (differs node w.agent.endpoint.eid is) (after ∙ ap (λ p. record w { sites = site_restarts w.sites p (site_at w.sites p) }) (sym at))) tt
 
 pub log_leads : (w v : WorldOf) (bytes : ArrayVec ℕ 64 (Unit {0})) → v ≡ asks_log w bytes.items → Leads w (steps.Sel bytes) v
-log_leads w v bytes after = leads w v (steps.Sel bytes) refl after
+log_leads w v bytes after = leads w v (steps.Sel bytes) refl after tt
 
 -- a packet that comes
 it_comes : (works : Bool) (faults : ℕ) (w : WorldOf) (node : ℕ) (p : Option Sent) (bytes : List ℕ) → option_map (λ s. s.bytes) p ≡ Some bytes
@@ -67,12 +72,18 @@ it_comes : (works : Bool) (faults : ℕ) (w : WorldOf) (node : ℕ) (p : Option 
 it_comes works faults w node None bytes e = absurd (cc)
 it_comes works faults w node (Some p) bytes e = let same : p.bytes ≡ bytes = cc in ap (comes works faults w node) same
 
+it_is_told : (works : Bool) (w : WorldOf) (node : ℕ) (p : Option Sent) (bytes : List ℕ) → option_map (λ s. s.bytes) p ≡ Some bytes
+    → IsToldTo (node == w.agent.endpoint.eid) works w node bytes → IsToldBy works w node p
+it_is_told works w node None bytes e told = absurd (cc)
+it_is_told works w node (Some p) bytes e told = let same : p.bytes ≡ bytes = cc in subst (IsToldTo (node == w.agent.endpoint.eid) works w node) (sym same) told
+
 pub agent_leads : (w v : WorldOf) (device number node : ℕ) (bytes : List ℕ) → may_step w (steps.Deliver device number node) ≡ None
     → option_map (λ s. s.bytes) (numbered (packets_of w device) number) ≡ Some bytes → (node == w.agent.endpoint.eid) ≡ true → v ≡ at_agent w bytes
-    → Leads w (steps.Deliver device number node) v
-agent_leads w v device number node bytes may there is after =
+    → IfSome (hearer w.agent bytes) (λ h. IsTold (half_hears (session_core w.packages) true h bytes)) → Leads w (steps.Deliver device number node) v
+agent_leads w v device number node bytes may there is after told =
     leads w v (steps.Deliver device number node) may
     (after ∙ sym (it_comes true (faults_before w (steps.Deliver device number node)) w node (numbered (packets_of w device) number) bytes there ∙ rw is refl))
+    (it_is_told true w node (numbered (packets_of w device) number) bytes there (rw is told))
 
 -- the node at a place becomes another
 site_there : (w : WorldOf) (eid place : ℕ) (x : SiteOf) → place_of w.sites eid ≡ Some place → slice_get w.sites place ≡ Some x → site_for w.sites eid ≡ Some x
@@ -111,6 +122,8 @@ device_leads w v device number node bytes may there is k =
         ∙ sym (it_comes k.heard.heard.heard.works k.heard.became.node.faults w node (numbered (packets_of w device) number) bytes there ∙ rw is refl);
       worked = λ e. k.heard.heard.heard.worked e ∙ sym (ap faults_of site);
       failed = λ e. subst (λ n. Rose n k.heard.became.node.faults) (sym (ap faults_of site)) (k.heard.heard.heard.failed e);
+      said = it_is_told k.heard.heard.heard.works w node (numbered (packets_of w device) number) bytes there
+        (rw (is, site) k.heard.heard.heard.told);
     }
 
 -- a verdict
@@ -138,4 +151,5 @@ verdict_leads w v device verdict may k =
       after = judged_there w v device verdict k;
       worked = λ e. k.judged.judged.judged.worked e ∙ sym (ap faults_of site);
       failed = λ e. subst (λ n. Rose n k.judged.became.node.faults) (sym (ap faults_of site)) (k.judged.judged.judged.failed e);
+      said = tt;
     }

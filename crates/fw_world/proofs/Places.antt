@@ -1,6 +1,8 @@
 -- What stands at a place, and room there.
 use Rattle.std.proofs.Common.{◌≡◌, ◌≤◌, ◌<◌, ◌+◌, ◌∙◌, ℕ, zero, suc, List, [], ◌∷◌, ◌++◌, drop, get_or, length, map, slice_get, slice_set, take, Option, Some, None, refl, sym, ap, subst, arith}
-use Rattle.std.proofs.lemmas.List.{drop-set-lt, map-set}
+use Rattle.std.proofs.lemmas.List.{drop-set-lt, map-set, take_more}
+use Rattle.std.specs.List.{AllByRecursion}
+use Rattle.fw_world.specs.Replays.{SiteSpeaks}
 use Rattle.exch_lane.specs.Steps.{sent_at}
 use Rattle.fw_world.specs.Sites.{HaveRoom, RoomyOf, sites_of}
 use Rattle.fw_world.specs.Worlds.{SiteOf, place_for, place_of, post, post_at, site_at, site_for, site_restarts}
@@ -81,3 +83,12 @@ pub restart_there : (ss : List RoomyOf) (i : ℕ) (x y : RoomyOf) → i < length
     → sites_of (slice_set ss i y) ≡ site_restarts (sites_of ss) (Some i) (slice_get (sites_of ss) i)
 restart_there ss i x y lt is e =
     map-set (λ s. s.site) ss i y ∙ ap (slice_set (sites_of ss) i) e ∙ sym (ap (site_restarts (sites_of ss) (Some i)) (found_at ss i x lt is))
+
+-- one more of which something holds
+all_more : {X : Type 0} (P : X → Type 0) (xs : List X) (x : X) → AllByRecursion P xs → P x → AllByRecursion P (xs ++ x ∷ [])
+all_more P [] x h new = (new, tt)
+all_more P (y ∷ xs) x h new = (h.0, all_more P xs x h.1 new)
+
+pub spoken_more : (xs : List SiteOf) (i : ℕ) (x : SiteOf) → i < length xs → x ≡ get_or xs i x → AllByRecursion SiteSpeaks (take i xs) → SiteSpeaks x → AllByRecursion SiteSpeaks (take (i + 1) xs)
+spoken_more xs i x lt is h new =
+    subst (AllByRecursion SiteSpeaks) (sym (take_more xs i x lt)) (all_more SiteSpeaks (take i xs) (get_or xs i x) h (subst SiteSpeaks is new))

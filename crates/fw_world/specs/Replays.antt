@@ -1,6 +1,6 @@
 -- Replays: which steps may be taken, and runs of the packet world.
-use Rattle.std.specs.Prelude.{ℕ, ◌≡◌, ◌≢◌, ◌≤◌, ◌⊎◌, ◌+◌, ◌-◌, ◌^◌, ◌==◌, ◌&&◌, ◌||◌, ◌∷◌, [], Bool, true, false, not, if◌then◌else◌, nat_lt, nat_le, is_some, List, length, map, Option, Some, None}
-use Rattle.std.specs.List.{All}
+use Rattle.std.specs.Prelude.{ℕ, ◌≡◌, ◌≢◌, ◌≤◌, ◌⊎◌, ◌+◌, ◌-◌, ◌^◌, ◌==◌, ◌&&◌, ◌||◌, ◌∷◌, [], Bool, true, false, not, if◌then◌else◌, nat_lt, nat_le, IfSome, is_some, List, length, map, Option, Some, None}
+use Rattle.std.specs.List.{All, AllByRecursion}
 use Rattle.mctp_ctl.specs.declared.answers.Endpoint.{Endpoint}
 use Rattle.exch_lane.specs.Lanes.{IsEid, Sent, numbered}
 use Rattle.fw_package.specs.Package.{PackageText}
@@ -11,8 +11,10 @@ use Rattle.fd_core.specs.Steps.{device_verdict}
 use Rattle.fd_core.specs.declared.states.Verdict.{Verdict}
 use Rattle.ua_core.specs.Session.{SessionOf}
 use Rattle.fw_message.specs.Laws.{IsUnapplied}
-use Rattle.fw_node.specs.Agents.{free_for, half_for, new_agent, ready_for}
-use Rattle.fw_node.specs.Nodes.{DeviceNodeOf, new_device_node}
+use Rattle.fw_node.specs.Agents.{HalfMaySpeak, agent_ticks, free_for, half_for, hearer, new_agent, ready_for}
+use Rattle.fw_node.specs.Cores.{device_core, session_core}
+use Rattle.fw_node.specs.Halves.{half_hears, half_ticks}
+use Rattle.fw_node.specs.Nodes.{DeviceNodeOf, IsTold, MaySpeak, new_device_node}
 use Rattle.fw_world.specs.Worlds.{SiteOf, WorldOf, packets_of, site_for, world_after}
 use Rattle.fw_world.specs.declared.step.Refusal.TheVariants as refusals
 use Rattle.fw_world.specs.declared.step.Step.{Step}
@@ -100,6 +102,26 @@ node_of (steps.Sel bytes) = 0
 abbrev pub faults_before : WorldOf → Step → ℕ
 faults_before w s = faults_of (site_for w.sites (node_of s))
 
+-- What is known of codecs: the answer that a node gives to a command can be read again, and what the cores of nodes that hear
+-- wish after a tick can be said.
+abbrev pub IsToldTo : (agent works : Bool) → WorldOf → (node : ℕ) → List ℕ → Type 0
+IsToldTo true works w node bytes = IfSome (hearer w.agent bytes) (λ h. IsTold (half_hears (session_core w.packages) true h bytes))
+IsToldTo false works w node bytes = IfSome (site_for w.sites node) (λ x. IsTold (half_hears device_core works x.node.half bytes))
+
+abbrev pub IsToldBy : (works : Bool) → WorldOf → (node : ℕ) → Option Sent → Type 0
+IsToldBy works w node None = Unit {0}
+IsToldBy works w node (Some p) = IsToldTo (node == w.agent.endpoint.eid) works w node p.bytes
+
+abbrev pub SiteSpeaks : SiteOf → Type 0
+SiteSpeaks x = x.node.half.asker.deaf ≤ 1 → MaySpeak device_core (half_ticks device_core true x.node.half).half.core
+
+abbrev pub CanBeSaidBy : (works : Bool) → WorldOf → Step → Type 0
+CanBeSaidBy works w (steps.Deliver device number node) = IsToldBy works w node (numbered (packets_of w device) number)
+CanBeSaidBy works w steps.Tick =
+    (w.agent.deaf ≤ 1 → AllByRecursion (HalfMaySpeak w.packages) (agent_ticks w.packages (w.now + 1) w.agent).halves)
+    × AllByRecursion SiteSpeaks w.sites
+CanBeSaidBy works w s = Unit {0}
+
 -- A step leads from one world to another: it may be taken, and a call of a bank fails only where that bank's count of
 -- failures tells so.
 pub record Leads (w : WorldOf) (s : Step) (v : WorldOf) : Type 0 where
@@ -109,6 +131,7 @@ pub record Leads (w : WorldOf) (s : Step) (v : WorldOf) : Type 0 where
   pub after : v ≡ world_after works faults w s
   pub worked : works ≡ true → faults ≡ faults_before w s
   pub failed : works ≡ false → Rose (faults_before w s) faults
+  pub said : CanBeSaidBy works w s
 
 -- each step leads on from where the one before it led
 abbrev pub Run : WorldOf → List Step → WorldOf → Type 0

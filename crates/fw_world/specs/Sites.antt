@@ -9,7 +9,9 @@ use Rattle.fd_core.specs.Steps.{applied_by, device_verdict}
 use Rattle.fd_core.specs.declared.states.Verdict.{Verdict}
 use Rattle.fw_message.specs.History.{EntryOf}
 use Rattle.fw_message.specs.Worlds.{NotedOf, noted_of}
-use Rattle.fw_node.specs.Nodes.{DeviceNodeOf, device_hears, device_judges}
+use Rattle.fw_node.specs.Nodes.{IsTold, device_hears, device_judges}
+use Rattle.fw_node.specs.Cores.{device_core}
+use Rattle.fw_node.specs.Halves.{half_hears}
 use Rattle.fw_node.specs.Packets.{all_packets}
 use Rattle.fw_world.specs.Worlds.{SiteOf, activated_at, node_becomes, sent_now}
 
@@ -26,6 +28,7 @@ pub record Hears (now : ℕ) (old : SiteOf) (bytes : List ℕ) (new : SiteOf) : 
   pub packets : new.packets ≡ old.packets ++ sent_now now (all_packets (device_hears works old.node bytes).sent)
   pub worked : works ≡ true → new.node.faults ≡ old.node.faults
   pub failed : works ≡ false → Rose old.node.faults new.node.faults
+  pub told : IsTold (half_hears device_core works old.node.half bytes)
 
 -- and of the history: what is activated is noted
 pub record HearsNoting (now : ℕ) (old : SiteOf) (bytes : List ℕ) (new : SiteOf) (before after : List NotedOf) : Type 0 where

@@ -1,8 +1,9 @@
 //! The nodes of all devices in the world, in their order.
 
 ghost use Rattle.std.specs.Prelude.{[], ◌≡◌, ◌≤◌, ◌<◌, ◌+◌, ◌⊎◌, IfErr, IfSome, None, OnErr, OnOk, Some, ℕ, length, map, option_map, slice_get};
+ghost use Rattle.std.specs.List.{AllByRecursion};
 ghost use Rattle.fw_message.specs.Entries.{entry_of};
-ghost use Rattle.fw_world.specs.Replays.{verdict_fault};
+ghost use Rattle.fw_world.specs.Replays.{SiteSpeaks, verdict_fault};
 ghost use Rattle.fw_world.specs.Sites.{HaveRoom, HeardAt, JudgedAt, sites_of};
 ghost use Rattle.fw_world.specs.Worlds.{place_for, place_of, post, posts, site_at, site_for, site_restarts, site_ticks};
 
@@ -66,10 +67,10 @@ fn make_room_at<B: Bank>(sites: &mut [Site<B>], count: usize) -> Result<(), Allo
 
 /// Puts each packet that the agent sent behind those of the device that it is for, dated now. There is room for them.
 pub(crate) fn post_all<B: Bank>(sites: &mut Vec<Site<B>>, now: u32, outbox: &mut Outbox)
-    requires room { HaveRoom 256 sites.old.items }
-    requires few { length outbox.old ≤ 128 }
+    requires room { HaveRoom 128 sites.old.items }
+    requires few { length outbox.old ≤ 64 }
     ensures sites { sites_of sites.new.items ≡ posts now (sites_of sites.old.items) outbox.old }
-    ensures room { HaveRoom 128 sites.new.items }
+    ensures room { HaveRoom 64 sites.new.items }
     ensures outbox { outbox.new ≡ [] }
 {
     post_each(sites.as_mut_slice(), now, outbox);
@@ -77,10 +78,10 @@ pub(crate) fn post_all<B: Bank>(sites: &mut Vec<Site<B>>, now: u32, outbox: &mut
 
 /// The same over a slice.
 fn post_each<B: Bank>(sites: &mut [Site<B>], now: u32, outbox: &mut Outbox)
-    requires room { HaveRoom 256 sites.old }
-    requires few { length outbox.old ≤ 128 }
+    requires room { HaveRoom 128 sites.old }
+    requires few { length outbox.old ≤ 64 }
     ensures sites { sites_of sites.new ≡ posts now (sites_of sites.old) outbox.old }
-    ensures room { HaveRoom 128 sites.new }
+    ensures room { HaveRoom 64 sites.new }
     ensures outbox { outbox.new ≡ [] }
     ensures count { length sites.new ≡ length sites.old }
 {
@@ -116,20 +117,22 @@ fn place_for<B: Bank>(sites: &[Site<B>], packet: &[u8]) -> Option<usize>
 
 /// A tick passes for all devices; what they send is dated now.
 pub(crate) fn tick_all<B: Bank>(sites: &mut Vec<Site<B>>, now: u32, outbox: &mut Outbox)
-    requires room { HaveRoom 128 sites.old.items }
+    requires room { HaveRoom 64 sites.old.items }
     requires outbox { outbox.old ≡ [] }
     ensures sites { sites_of sites.new.items ≡ map (site_ticks now) (sites_of sites.old.items) }
     ensures outbox { outbox.new ≡ [] }
+    ensures spoken { AllByRecursion SiteSpeaks (sites_of sites.old.items) }
 {
     tick_each(sites.as_mut_slice(), now, outbox);
 }
 
 /// The same over a slice.
 fn tick_each<B: Bank>(sites: &mut [Site<B>], now: u32, outbox: &mut Outbox)
-    requires room { HaveRoom 128 sites.old }
+    requires room { HaveRoom 64 sites.old }
     requires outbox { outbox.old ≡ [] }
     ensures sites { sites_of sites.new ≡ map (site_ticks now) (sites_of sites.old) }
     ensures outbox { outbox.new ≡ [] }
+    ensures spoken { AllByRecursion SiteSpeaks (sites_of sites.old) }
     ensures count { length sites.new ≡ length sites.old }
 {
     for site in sites.iter_mut() {

@@ -8,7 +8,7 @@ abbrev pub invariant-loop-packet : goal.invariant-loop-packet
 invariant-loop-packet g l =
     record {
       sites : posts l.now (sites_of l.sites) l.outbox ≡ posts l.now (sites_of l.fn.sites) l.fn.outbox;
-      room : HaveRoom (128 + length l.outbox) l.sites;
+      room : HaveRoom (64 + length l.outbox) l.sites;
       count : length l.sites ≡ length l.fn.sites;
     }
 

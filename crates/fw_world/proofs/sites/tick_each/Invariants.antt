@@ -1,4 +1,6 @@
 use Rattle.std.proofs.Common.{◌≡◌, ◌++◌, [], drop, length, map, take}
+use Rattle.std.specs.List.{AllByRecursion}
+use Rattle.fw_world.specs.Replays.{SiteSpeaks}
 use Rattle.fw_world.specs.Sites.{HaveRoom, sites_of}
 use Rattle.fw_world.specs.Worlds.{site_ticks}
 use Rattle.fw_world.proofs.sites.tick_each.Given as goal
@@ -8,7 +10,8 @@ abbrev pub invariant-loop-site : goal.invariant-loop-site
 invariant-loop-site g l =
     record {
       sites : sites_of l.sites ≡ map (site_ticks l.now) (take l.site-index (sites_of l.fn.sites)) ++ drop l.site-index (sites_of l.fn.sites);
-      room : HaveRoom 128 (drop l.site-index l.sites);
+      room : HaveRoom 64 (drop l.site-index l.sites);
+      spoken : AllByRecursion SiteSpeaks (take l.site-index (sites_of l.fn.sites));
       outbox : l.outbox ≡ [];
       count : length l.sites ≡ length l.fn.sites;
     }
