@@ -2,6 +2,7 @@
 use Rattle.std.proofs.Common.{◌≡◌, ◌∙◌, ◌-◌, ◌+◌, ◌<◌, ◌≤◌, ℕ, true, List, [], ◌∷◌, ◌++◌, flat_map, map, take, length, get_or, inl, inr, refl, sym, ap, arith}
 use Rattle.std.proofs.lemmas.Bool.{cases_lt, le-leb, lt-leb, ne_eqb}
 use Rattle.std.proofs.lemmas.List.{take_more}
+use Rattle.std.specs.List.{AllByRecursion}
 use Rattle.pldm_exch.specs.Caller.{caller_tick}
 use Rattle.pldm_exch.specs.Sides.{asker_called}
 use Rattle.pldm_exch.specs.declared.caller.CallTick.{CallTick}
@@ -9,7 +10,7 @@ use Rattle.pldm_exch.specs.declared.caller.CallTick.TheVariants as ticks
 use Rattle.fw_package.specs.Package.{PackageText}
 use Rattle.sel_core.specs.Log.{LogOf, sel_restart}
 use Rattle.ua_core.specs.Session.{TimedOf}
-use Rattle.fw_node.specs.Agents.{AgentOf, PartOf, again_packets, agent_restarts, agent_tick_sends, agent_ticks, ended, ended_packets, grown, half_in, notes, silent_by, waited}
+use Rattle.fw_node.specs.Agents.{AgentOf, IsAddressed, PartOf, again_packets, agent_restarts, agent_tick_sends, agent_ticks, ended, ended_packets, grown, half_in, notes, silent_by, waited}
 use Rattle.fw_node.specs.AgentViews.{agent_of, part_restarted}
 use Rattle.fw_node.specs.Cores.{session_core}
 use Rattle.fw_node.specs.Halves.{HalfOf, aged, called, half_restarts, half_ticks, last_part}
@@ -126,3 +127,9 @@ ticks_halves packages now deaf d ps = elim (cases_lt 1 deaf) [
   | inl more ↦ ap (λ n. n.halves) (sym (deaf_ticks packages now deaf d ps more)) ∙ deaf_halves packages deaf ps more
   | inr few ↦ rw (le-leb deaf 1 few) (ticked_halves packages deaf ps few)
 ]
+
+-- what is sent doesn't depend on how long the agent was deaf
+pub addressed_any : (packages : List PackageText) (a b : ℕ) (ps : List PartOf) → AllByRecursion (IsAddressed packages) (map (half_in a) ps)
+    → AllByRecursion (IsAddressed packages) (map (half_in b) ps)
+addressed_any packages a b [] all = tt
+addressed_any packages a b (p ∷ ps) all = (record { again = all.0.again; begun = all.0.begun }, addressed_any packages a b ps all.1)
