@@ -1,5 +1,5 @@
 -- What a half sends goes to its peer.
-use Rattle.std.proofs.Common.{◌≡◌, ◌∙◌, ◌+◌, ◌++◌, ℕ, zero, suc, Bool, true, false, List, [], ◌∷◌, drop, length, map, nat_le, slice_get, take, inl, inr, Option, Some, None, IfSome, if◌then◌else◌, refl, sym, subst}
+use Rattle.std.proofs.Common.{◌≡◌, ◌+◌, ℕ, zero, suc, Bool, true, false, List, [], ◌∷◌, drop, length, map, nat_le, take, inl, inr, Option, Some, None, refl, sym, subst, arith}
 use Rattle.std.specs.List.{AllByRecursion}
 use Rattle.fw_package.specs.Package.{PackageText}
 use Rattle.fwup_wire.specs.Commands.{command_bytes, command_code}
@@ -11,6 +11,7 @@ use Rattle.fw_node.specs.BothEnds.{IsAsking}
 use Rattle.fw_node.specs.Cores.{session_core}
 use Rattle.fw_node.specs.Halves.{CoreOf, HalfOf, begins_if, begins_wish, last_part, unwished_abandoned, with_caller}
 use Rattle.fw_node.specs.Packets.{all_packets, packets_of, sent_by}
+use Rattle.fw_node.proofs.AgentTicks.{ticked_sent}
 use Rattle.fw_node.proofs.OneATick.{bool_cases, settled_is, tick_is}
 use Rattle.std.proofs.lemmas.Bool.Decides.{eqb_tells}
 use Rattle.std.proofs.lemmas.List.{append-nil}
@@ -65,6 +66,7 @@ last_for core h peer is =
 -- both parts of a tick
 pub addressed : (packages : List PackageText) (p : PartOf) → IsAsking p.ends.asking.peer p.ends.asking.caller → IsAddressed packages (half_in 0 p)
 addressed packages p h = record {
+  sent = ticked_sent packages 0 p (omega arith);
   again = again_for p.ends.asking.caller h;
   begun = last_for (session_core packages) (waited packages (grown packages (half_in 0 p))) p.ends.asking.peer (tick_is p.ends.asking.caller h);
 }

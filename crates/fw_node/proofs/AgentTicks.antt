@@ -15,8 +15,8 @@ use Rattle.fw_node.specs.AgentViews.{agent_of, part_restarted}
 use Rattle.fw_node.specs.Cores.{session_core}
 use Rattle.fw_node.specs.Halves.{HalfOf, aged, called, half_restarts, half_ticks, last_part}
 use Rattle.fw_node.specs.Notes.{noted}
-use Rattle.fw_node.specs.Packets.{sent_by}
-use Rattle.fw_node.proofs.NodeTicks.{last_behind}
+use Rattle.fw_node.specs.Packets.{all_packets, sent_by}
+use Rattle.fw_node.proofs.NodeTicks.{last_behind, packets_behind}
 use Rattle.fw_node.specs.declared.desk.Desk.{Desk}
 
 -- the log after one half more
@@ -128,8 +128,18 @@ ticks_halves packages now deaf d ps = elim (cases_lt 1 deaf) [
   | inr few ↦ rw (le-leb deaf 1 few) (ticked_halves packages deaf ps few)
 ]
 
+pub ticked_sent : (packages : List PackageText) (deaf : ℕ) (p : PartOf) → deaf ≤ 1
+    → all_packets (half_ticks (session_core packages) true (half_in deaf p)).sent ≡ again_packets (half_in deaf p) ++ ended_packets packages (grown packages (half_in deaf p))
+ticked_sent packages deaf p few =
+    let call = (caller_tick p.ends.asking.caller).1 in
+    let wait = waited packages (grown packages (half_in deaf p)) in
+    rw (le-leb deaf 1 few)
+    (ap (λ t. all_packets t.sent) (ticked_by packages (half_in deaf p) call ∙ last_behind (session_core packages) wait (sent_by call))
+    ∙ packets_behind (sent_by call) (last_part (session_core packages) wait []).sent)
+
 -- what is sent doesn't depend on how long the agent was deaf
-pub addressed_any : (packages : List PackageText) (a b : ℕ) (ps : List PartOf) → AllByRecursion (IsAddressed packages) (map (half_in a) ps)
-    → AllByRecursion (IsAddressed packages) (map (half_in b) ps)
-addressed_any packages a b [] all = tt
-addressed_any packages a b (p ∷ ps) all = (record { again = all.0.again; begun = all.0.begun }, addressed_any packages a b ps all.1)
+pub addressed_any : (packages : List PackageText) (deaf : ℕ) (ps : List PartOf) → deaf ≤ 1 → AllByRecursion (IsAddressed packages) (map (half_in 0) ps)
+    → AllByRecursion (IsAddressed packages) (map (half_in deaf) ps)
+addressed_any packages deaf [] few all = tt
+addressed_any packages deaf (p ∷ ps) few all =
+    (record { sent = ticked_sent packages deaf p few; again = all.0.again; begun = all.0.begun }, addressed_any packages deaf ps few all.1)

@@ -151,8 +151,9 @@ ended_packets packages h = asked_packets packages (waited packages h)
 abbrev pub IsFor : ℕ → List ℕ → Type 0
 IsFor eid packet = slice_get packet 1 ≡ Some eid
 
--- what a half sends in a tick goes to its peer
+-- what a half sends in a tick: the packets of both parts, which go to its peer
 pub record IsAddressed (packages : List PackageText) (h : HalfOf TimedOf) : Type 0 where
+  pub sent : all_packets (half_ticks (session_core packages) true h).sent ≡ again_packets h ++ ended_packets packages (grown packages h)
   pub again : AllByRecursion (IsFor h.peer) (again_packets h)
   pub begun : AllByRecursion (IsFor h.peer) (ended_packets packages (grown packages h))
 

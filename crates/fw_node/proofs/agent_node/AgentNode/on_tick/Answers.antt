@@ -66,6 +66,7 @@ returns-then-self-gt1-clause-addressed c few =
 
 pub returns-clause-addressed : goal.returns-clause-addressed
 returns-clause-addressed c few =
+    let deaf : c.self.inside.deaf ≤ 1 = subst (λ n. n.deaf ≤ 1) (sym c.self.view_is) few in
     subst (λ n. AllByRecursion (IsAddressed c.args.packages.now) n.halves) c.self.view_is
-    (addressed_any c.args.packages.now 0 c.self.inside.deaf c.self.inside.parts.items
+    (addressed_any c.args.packages.now c.self.inside.deaf c.self.inside.parts.items deaf
     (subst (λ ps. AllByRecursion (IsAddressed c.args.packages.now) (map (half_in 0) ps)) c.as_mut_slice.ensures.value c.grow_all.ensures.addressed))
