@@ -2,6 +2,7 @@
 use Rattle.std.proofs.Common.{◌≡◌, ◌∙◌, ◌-◌, ◌+◌, ◌<◌, ◌≤◌, ℕ, true, List, [], ◌∷◌, ◌++◌, flat_map, map, take, length, get_or, inl, inr, refl, sym, ap, arith}
 use Rattle.std.proofs.lemmas.Bool.{cases_lt, le-leb, lt-leb, ne_eqb}
 use Rattle.std.proofs.lemmas.List.{take_more}
+use Rattle.std.specs.List.{AllByRecursion}
 use Rattle.pldm_exch.specs.Caller.{caller_tick}
 use Rattle.pldm_exch.specs.Sides.{asker_called}
 use Rattle.pldm_exch.specs.declared.caller.CallTick.{CallTick}
@@ -9,13 +10,13 @@ use Rattle.pldm_exch.specs.declared.caller.CallTick.TheVariants as ticks
 use Rattle.fw_package.specs.Package.{PackageText}
 use Rattle.sel_core.specs.Log.{LogOf, sel_restart}
 use Rattle.ua_core.specs.Session.{TimedOf}
-use Rattle.fw_node.specs.Agents.{AgentOf, PartOf, again_packets, agent_restarts, agent_tick_sends, agent_ticks, ended, ended_packets, grown, half_in, notes, silent_by, waited}
+use Rattle.fw_node.specs.Agents.{AgentOf, IsAddressed, PartOf, again_packets, agent_restarts, agent_tick_sends, agent_ticks, ended, ended_packets, grown, half_in, notes, silent_by, waited}
 use Rattle.fw_node.specs.AgentViews.{agent_of, part_restarted}
 use Rattle.fw_node.specs.Cores.{session_core}
 use Rattle.fw_node.specs.Halves.{HalfOf, aged, called, half_restarts, half_ticks, last_part}
 use Rattle.fw_node.specs.Notes.{noted}
-use Rattle.fw_node.specs.Packets.{sent_by}
-use Rattle.fw_node.proofs.NodeTicks.{last_behind}
+use Rattle.fw_node.specs.Packets.{all_packets, sent_by}
+use Rattle.fw_node.proofs.NodeTicks.{last_behind, packets_behind}
 use Rattle.fw_node.specs.declared.desk.Desk.{Desk}
 
 -- the log after one half more
@@ -126,3 +127,19 @@ ticks_halves packages now deaf d ps = elim (cases_lt 1 deaf) [
   | inl more ↦ ap (λ n. n.halves) (sym (deaf_ticks packages now deaf d ps more)) ∙ deaf_halves packages deaf ps more
   | inr few ↦ rw (le-leb deaf 1 few) (ticked_halves packages deaf ps few)
 ]
+
+pub ticked_sent : (packages : List PackageText) (deaf : ℕ) (p : PartOf) → deaf ≤ 1
+    → all_packets (half_ticks (session_core packages) true (half_in deaf p)).sent ≡ again_packets (half_in deaf p) ++ ended_packets packages (grown packages (half_in deaf p))
+ticked_sent packages deaf p few =
+    let call = (caller_tick p.ends.asking.caller).1 in
+    let wait = waited packages (grown packages (half_in deaf p)) in
+    rw (le-leb deaf 1 few)
+    (ap (λ t. all_packets t.sent) (ticked_by packages (half_in deaf p) call ∙ last_behind (session_core packages) wait (sent_by call))
+    ∙ packets_behind (sent_by call) (last_part (session_core packages) wait []).sent)
+
+-- what is sent doesn't depend on how long the agent was deaf
+pub addressed_any : (packages : List PackageText) (deaf : ℕ) (ps : List PartOf) → deaf ≤ 1 → AllByRecursion (IsAddressed packages) (map (half_in 0) ps)
+    → AllByRecursion (IsAddressed packages) (map (half_in deaf) ps)
+addressed_any packages deaf [] few all = tt
+addressed_any packages deaf (p ∷ ps) few all =
+    (record { sent = ticked_sent packages deaf p few; again = all.0.again; begun = all.0.begun }, addressed_any packages deaf ps few all.1)

@@ -1,3 +1,4 @@
+mod Addressed
 mod AgentTicks
 mod Calls
 mod Controls

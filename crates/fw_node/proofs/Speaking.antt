@@ -3,7 +3,7 @@ use Rattle.std.proofs.Common.{◌≡◌, ◌∙◌, ◌+◌, ◌++◌, ◌<◌, 
 use Rattle.std.specs.List.{AllByRecursion}
 use Rattle.std.specs.Option.{option_map}
 use Rattle.std.proofs.lemmas.Bool.{ne_eqb}
-use Rattle.std.proofs.lemmas.List.{append-nil, drop_all, map-append, take_more}
+use Rattle.std.proofs.lemmas.List.{append-nil, drop_all, map-append, take_all, take_more}
 use Rattle.mctp_wire.specs.Packet as wire
 use Rattle.fw_package.specs.Package.{PackageText}
 use Rattle.ua_core.specs.Session.{TimedOf}
@@ -70,6 +70,14 @@ pub said_taken : (P : HalfOf TimedOf → Type 0) (f : HalfOf TimedOf → HalfOf 
     → AllByRecursion P (map f (take i hs)) → P (f h) → AllByRecursion P (map f (take (i + 1) hs))
 said_taken P f hs i h lt is said one =
     subst (AllByRecursion P) (sym (ap (map f) (take_more hs i h lt ∙ ap (λ x. take i hs ++ x ∷ []) (sym is)) ∙ map-append f (take i hs) (h ∷ []))) (said_more P (map f (take i hs)) (f h) said one)
+
+pub said_next : (P : HalfOf TimedOf → Type 0) (hs : List (HalfOf TimedOf)) (i : ℕ) (h : HalfOf TimedOf) → i < length hs → h ≡ get_or hs i h
+    → AllByRecursion P (take i hs) → P h → AllByRecursion P (take (i + 1) hs)
+said_next P hs i h lt is said one =
+    subst (AllByRecursion P) (sym (take_more hs i h lt ∙ ap (λ x. take i hs ++ x ∷ []) (sym is))) (said_more P (take i hs) h said one)
+
+pub said_of_all : (P : HalfOf TimedOf → Type 0) (hs : List (HalfOf TimedOf)) (i : ℕ) → length hs ≤ i → AllByRecursion P (take i hs) → AllByRecursion P hs
+said_of_all P hs i end said = subst (AllByRecursion P) (take_all i hs end) said
 
 pub said_all : (P : HalfOf TimedOf → Type 0) (f : HalfOf TimedOf → HalfOf TimedOf) (hs gs : List (HalfOf TimedOf)) (i : ℕ) → length hs ≤ i
     → gs ≡ map f (take i hs) ++ drop i hs → AllByRecursion P (map f (take i hs)) → AllByRecursion P gs

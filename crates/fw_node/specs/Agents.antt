@@ -1,5 +1,6 @@
 -- The agent's node: a half for each device that it updates, in configured order, and the event log.
 use Rattle.std.specs.Prelude.{ℕ, ◌≡◌, ◌-◌, ◌+◌, ◌==◌, nat_le, true, if◌then◌else◌, List, [], ◌∷◌, ◌++◌, flat_map, map, slice_get, slice_set, Option, Some, None, Result, Ok, Err, Bool}
+use Rattle.std.specs.List.{AllByRecursion}
 use Rattle.mctp_ctl.specs.declared.answers.Endpoint.{Endpoint}
 use Rattle.mctp_reasm.specs.Pieces.{MessageOf}
 use Rattle.mctp_wire.specs.Packet as wire
@@ -145,6 +146,16 @@ asked_packets packages h = all_packets (last_part (session_core packages) h []).
 
 abbrev pub ended_packets : List PackageText → HalfOf TimedOf → List (List ℕ)
 ended_packets packages h = asked_packets packages (waited packages h)
+
+-- a packet is for this endpoint
+abbrev pub IsFor : ℕ → List ℕ → Type 0
+IsFor eid packet = slice_get packet 1 ≡ Some eid
+
+-- what a half sends in a tick: the packets of both parts, which go to its peer
+pub record IsAddressed (packages : List PackageText) (h : HalfOf TimedOf) : Type 0 where
+  pub sent : all_packets (half_ticks (session_core packages) true h).sent ≡ again_packets h ++ ended_packets packages (grown packages h)
+  pub again : AllByRecursion (IsFor h.peer) (again_packets h)
+  pub begun : AllByRecursion (IsFor h.peer) (ended_packets packages (grown packages h))
 
 -- the messages of the requests that begin then
 abbrev pub begins : List PackageText → HalfOf TimedOf → List MessageOf

@@ -16,8 +16,10 @@ ends_new own peer = record { asking = asking_new own peer; answering = answering
 abbrev pub ends_older : EndsOf → EndsOf
 ends_older e = record { asking = asking_older e.asking; answering = answering_older e.answering }
 
--- there is a rest for each of the eight tags, and an open request is unanswered and has the last tag
-pub record IsAsking (c : CallerState) : Type 0 where
+-- There is a rest for each of the eight tags; an open request is unanswered and has the last tag; and requests go to the peer.
+pub record IsAsking (peer : ℕ) (c : CallerState) : Type 0 where
   pub rests : length c.rests ≡ 8
   pub tag : IfSome c.asked (λ o. o.tag ≡ last_tag c)
   pub unanswered : IfSome c.asked (λ o. c.answered ≡ false)
+  pub asks : c.peer ≡ peer
+  pub message : IfSome c.asked (λ o. o.message.dest ≡ peer)

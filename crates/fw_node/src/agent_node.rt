@@ -5,7 +5,7 @@ ghost use Rattle.mctp_wire.specs.Packet.{packet_of as packet_read};
 ghost use Rattle.fw_package.specs.Package.{PackageText};
 ghost use Rattle.sel_core.specs.Log.{sel_after, sel_reply};
 ghost use Rattle.ua_core.specs.Calls.{agent_activated, is_free};
-ghost use Rattle.fw_node.specs.Agents.{AgentOf, HalfMaySpeak, IsDeafFor, PartOf, SpeaksHearing, activates, free_for, hearer, ready_for, again_packets, agent_becomes, agent_hears, agent_restarts, agent_tick_sends, agent_ticks, asked_last, asked_packets, becomes_at, begins, cancels, ended, ended_packets, grown, half_at, half_for, half_in, hears_at, new_agent, new_half, notes, place_from, place_heard, place_of, starts, waited};
+ghost use Rattle.fw_node.specs.Agents.{AgentOf, HalfMaySpeak, IsAddressed, IsDeafFor, PartOf, SpeaksHearing, activates, free_for, hearer, ready_for, again_packets, agent_becomes, agent_hears, agent_restarts, agent_tick_sends, agent_ticks, asked_last, asked_packets, becomes_at, begins, cancels, ended, ended_packets, grown, half_at, half_for, half_in, hears_at, new_agent, new_half, notes, place_from, place_heard, place_of, starts, waited};
 ghost use Rattle.fw_node.specs.AgentViews.{agent_of, part_activated, part_cancelled, part_free, part_ready, part_restarted, part_started, parts_called, parts_noted};
 ghost use Rattle.fw_node.specs.Cores.{session_core};
 ghost use Rattle.fw_node.specs.Halves.{half_hears, half_restarts, half_ticks};
@@ -144,6 +144,7 @@ impl AgentNode {
         ensures after { self.new ≡ agent_ticks packages.now now self.old }
         ensures sent { outbox.new ≡ agent_tick_sends packages.now self.old }
         ensures halves { self.new.halves ≡ map (λ h. (half_ticks (session_core packages.now) true h).half) self.old.halves }
+        ensures addressed { self.old.deaf ≤ 1 → AllByRecursion (IsAddressed packages.now) self.old.halves }
         ensures spoken { self.old.deaf ≤ 1 → AllByRecursion (HalfMaySpeak packages.now) self.new.halves }
     {
         if self.deaf > 1 {
@@ -422,6 +423,7 @@ fn grow_all<'p>(
     ensures sent { outbox.new ≡ outbox.old ++ flat_map again_packets (map (half_in 0) parts.old) }
     ensures few { length outbox.new + 4 * length (flat_map (begins packages.now) (map (grown packages.now) (map (half_in 0) parts.old))) ≤ length outbox.old + 4 * length parts.old }
     ensures log { log.new ≡ notes (grown packages.now) now log.old (map (half_in 0) parts.old) }
+    ensures addressed { AllByRecursion (IsAddressed packages.now) (map (half_in 0) parts.old) }
     ensures count { length parts.new ≡ length parts.old }
 {
     for part in parts.iter_mut() {

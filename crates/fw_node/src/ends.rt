@@ -31,7 +31,7 @@ impl Model for Ends {
 
     ghost view = { λ e. record { asking = e.asker; answering = e.taker } };
 
-    ghost invariant = { λ e. (e.taker.own ≡ e.asker.own) × (e.taker.peer ≡ e.asker.peer) × IsAsking e.asker.caller };
+    ghost invariant = { λ e. (e.taker.own ≡ e.asker.own) × (e.taker.peer ≡ e.asker.peer) × IsAsking e.asker.peer e.asker.caller };
 }
 
 impl Ends {
@@ -143,7 +143,7 @@ impl Ends {
     pub(crate) fn tick(&mut self) -> CallTick
         ensures answer { result ≡ (caller_tick self.old.asking.caller).1 }
         ensures after { self.new ≡ ends_older self.old }
-        ensures lawful { IsAsking self.old.asking.caller }
+        ensures lawful { IsAsking self.old.asking.peer self.old.asking.caller }
     {
         self.taker.tick();
         self.asker.tick()

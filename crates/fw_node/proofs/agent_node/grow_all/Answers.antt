@@ -1,8 +1,9 @@
 use Rattle.std.proofs.Common.{◌∙◌, ap, arith, get_or, length, map}
 use Rattle.std.proofs.lemmas.List.{length-map, length-set}
-use Rattle.fw_node.specs.Agents.{again_packets, begins, grown, half_in}
+use Rattle.fw_node.specs.Agents.{IsAddressed, again_packets, begins, grown, half_in}
 use Rattle.fw_node.proofs.AgentTicks.{notes_more}
 use Rattle.fw_node.proofs.Loops.{done_more, fits_all, fits_more, half_was, sends_more}
+use Rattle.fw_node.proofs.Speaking.{said_next, said_of_all}
 use Rattle.fw_node.proofs.agent_node.grow_all.Goals as goal
 
 pub loop-part-preserved : goal.loop-part-preserved
@@ -18,6 +19,7 @@ loop-part-preserved c =
       sent = sends_more again_packets xs i (half_in 0 x) c.args.outbox.now c.loop-part.outbox c.grow.new.outbox (omega (arith, long)) was c.loop-part.invariant.sent c.grow.ensures.packets;
       log = notes_more (grown c.args.packages.now) c.args.now c.args.log.now c.loop-part.log c.grow.new.log xs i (half_in 0 x) (omega (arith, long)) was c.loop-part.invariant.log c.grow.ensures.log;
       room = fits_more (begins c.args.packages.now) (grown c.args.packages.now) xs i (half_in 0 x) (length c.args.outbox.now) (length c.loop-part.outbox) (length c.grow.new.outbox) (omega (arith, long)) was c.loop-part.invariant.room c.grow.ensures.few;
+      addressed = said_next (IsAddressed c.args.packages.now) xs i (half_in 0 x) (omega (arith, long)) was c.loop-part.invariant.addressed c.grow.ensures.addressed;
       count = length-set c.loop-part.parts i c.grow.new.self ∙ c.loop-part.invariant.count;
     }
 
@@ -28,3 +30,8 @@ returns-clause-few c =
     let fits = fits_all (begins c.args.packages.now) (grown c.args.packages.now) xs c.loop-part.part-index (length c.args.outbox.now) (length c.loop-part.outbox)
     (omega (arith, long, c.loop-part-test.false)) (omega (arith, long)) c.loop-part.invariant.room in
     omega (arith, fits, long)
+
+pub returns-clause-addressed : goal.returns-clause-addressed
+returns-clause-addressed c =
+    let long = length-map c.args.parts.now (half_in 0) in
+    said_of_all (IsAddressed c.args.packages.now) (map (half_in 0) c.args.parts.now) c.loop-part.part-index (omega (arith, long, c.loop-part-test.false)) c.loop-part.invariant.addressed

@@ -1,5 +1,6 @@
 use Rattle.std.proofs.Common.{◌≡◌, ◌≤◌, ◌+◌, ◌*◌, ◌++◌, drop, flat_map, length, map, take}
-use Rattle.fw_node.specs.Agents.{again_packets, begins, grown, half_in, notes}
+use Rattle.std.specs.List.{AllByRecursion}
+use Rattle.fw_node.specs.Agents.{IsAddressed, again_packets, begins, grown, half_in, notes}
 use Rattle.fw_node.proofs.agent_node.grow_all.Given as goal
 
 -- the parts so far have grown older, and what they send is sent and what happened is noted
@@ -10,5 +11,6 @@ invariant-loop-part l =
       sent : l.outbox ≡ l.fn.outbox ++ flat_map again_packets (take l.part-index (map (half_in 0) l.fn.parts));
       log : l.log ≡ notes (grown l.packages) l.now l.fn.log (take l.part-index (map (half_in 0) l.fn.parts));
       room : length l.outbox + 4 * length (flat_map (begins l.packages) (map (grown l.packages) (take l.part-index (map (half_in 0) l.fn.parts)))) ≤ length l.fn.outbox + 4 * l.part-index;
+      addressed : AllByRecursion (IsAddressed l.packages) (take l.part-index (map (half_in 0) l.fn.parts));
       count : length l.parts ≡ length l.fn.parts;
     }

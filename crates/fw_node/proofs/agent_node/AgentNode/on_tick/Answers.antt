@@ -2,10 +2,10 @@ use Rattle.std.proofs.Common.{◌≡◌, ◌∙◌, true, ◌≤◌, ap, arith, 
 use Rattle.std.proofs.lemmas.List.{with_items_is}
 use Rattle.std.specs.Vec.{with_items}
 use Rattle.std.specs.List.{AllByRecursion}
-use Rattle.fw_node.specs.Agents.{HalfMaySpeak, agent_tick_sends, agent_ticks, half_in}
+use Rattle.fw_node.specs.Agents.{HalfMaySpeak, IsAddressed, agent_tick_sends, agent_ticks, half_in}
 use Rattle.fw_node.specs.Cores.{session_core}
 use Rattle.fw_node.specs.Halves.{half_ticks}
-use Rattle.fw_node.proofs.AgentTicks.{deaf_ticks, hearing_sends, hearing_ticks, ticks_halves}
+use Rattle.fw_node.proofs.AgentTicks.{addressed_any, deaf_ticks, hearing_sends, hearing_ticks, ticks_halves}
 use Rattle.fw_node.proofs.agent_node.AgentNode.on_tick.Goals as goal
 
 pub returns-then-self-gt1-clause-after : goal.returns-then-self-gt1-clause-after
@@ -58,3 +58,15 @@ returns-clause-halves c =
     ap (λ n. n.halves) (returns-clause-after c)
     ∙ subst (λ n. (agent_ticks c.args.packages.now c.args.now n).halves ≡ map (λ h. (half_ticks (session_core c.args.packages.now) true h).half) n.halves) c.self.view_is
     (ticks_halves c.args.packages.now c.args.now c.self.inside.deaf c.self.inside.desk c.self.inside.parts.items)
+
+pub returns-then-self-gt1-clause-addressed : goal.returns-then-self-gt1-clause-addressed
+returns-then-self-gt1-clause-addressed c few =
+    let deaf : c.self.inside.deaf ≤ 1 = subst (λ n. n.deaf ≤ 1) (sym c.self.view_is) few in
+    absurd (omega (arith, deaf, c.if-self-gt1.true))
+
+pub returns-clause-addressed : goal.returns-clause-addressed
+returns-clause-addressed c few =
+    let deaf : c.self.inside.deaf ≤ 1 = subst (λ n. n.deaf ≤ 1) (sym c.self.view_is) few in
+    subst (λ n. AllByRecursion (IsAddressed c.args.packages.now) n.halves) c.self.view_is
+    (addressed_any c.args.packages.now c.self.inside.deaf c.self.inside.parts.items deaf
+    (subst (λ ps. AllByRecursion (IsAddressed c.args.packages.now) (map (half_in 0) ps)) c.as_mut_slice.ensures.value c.grow_all.ensures.addressed))
