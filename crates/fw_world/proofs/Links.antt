@@ -21,3 +21,4 @@ pub mod Sendings
 pub mod Sorted
 pub mod Ticks
 pub mod Ways
+pub mod WorldSteps

@@ -83,7 +83,7 @@ one_link now packages l true s g y x is e k = leads_to (link_after now packages 
 one_link now packages l false s g y x is e k = e ∙ is
 
 -- the event log
-sel_at : (w : WorldOf) (bytes : List ℕ) (eid : ℕ) → link_at (asks_log w bytes) eid ≡ link_at w eid
+pub sel_at : (w : WorldOf) (bytes : List ℕ) (eid : ℕ) → link_at (asks_log w bytes) eid ≡ link_at w eid
 sel_at w [] eid = refl
 sel_at w (command ∷ bytes) eid = refl
 
@@ -139,7 +139,7 @@ cancel_projects w device eid l is =
     (call_at w device eid (cancels w.packages) (λ h. refl)) (λ e. refl)
 
 -- an activation
-known_if : (known : Bool) (fault : Option StepFault) → where_known known fault ≡ None → fault ≡ None
+pub known_if : (known : Bool) (fault : Option StepFault) → where_known known fault ≡ None → fault ≡ None
 known_if true fault e = e
 known_if false fault e = absurd (cc)
 
