@@ -1,5 +1,5 @@
 -- Each step of the world is a step of the link of each device, or nothing to it.
-use Rattle.std.proofs.Common.{◌≡◌, ◌≢◌, ◌∙◌, ◌+◌, ◌-◌, ◌^◌, ◌==◌, ◌&&◌, ◌||◌, ◌≤◌, ◌<◌, ℕ, Bool, true, false, if◌then◌else◌, is_some, List, [], ◌∷◌, nat_lt, Option, Some, None, IfSome, IsSomeAnd, inl, inr, refl, sym, ap, subst, arith}
+use Rattle.std.proofs.Common.{◌≡◌, ◌∙◌, ◌+◌, ◌==◌, ◌&&◌, ◌≤◌, ℕ, Bool, true, false, is_some, Option, Some, None, IfSome, inl, inr, refl, sym, ap, subst}
 use Rattle.std.specs.List.{AllByRecursion}
 use Rattle.std.proofs.lemmas.Bool.{cases_lt, eq-eqb, lt-ltb}
 use Rattle.std.proofs.lemmas.Bool.Decides.{eqb_tells}
@@ -9,7 +9,7 @@ use Rattle.fw_message.specs.declared.side.Side.TheVariants as sides
 use Rattle.fw_node.specs.Agents.{half_for}
 use Rattle.fw_world.specs.LinkLaws.{CanBeSaid, IsToldOn}
 use Rattle.fw_world.specs.Links.{LinkOf}
-use Rattle.fw_world.specs.Replays.{has_session, is_device, is_node, may_step, packet_fault, ready_fault, where_known}
+use Rattle.fw_world.specs.Replays.{has_session, is_device, is_node, may_step, packet_fault, where_known}
 use Rattle.fw_world.specs.Worlds.{WorldOf, delivers, packets_of, site_for, world_after}
 use Rattle.fw_world.specs.declared.step.Step.{Step}
 use Rattle.fw_world.specs.declared.step.Step.TheVariants as steps
