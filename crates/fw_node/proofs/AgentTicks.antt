@@ -1,15 +1,21 @@
 -- A tick of the agent, as the code goes.
-use Rattle.std.proofs.Common.{◌≡◌, ◌∙◌, ◌-◌, ◌+◌, ◌<◌, ◌≤◌, ℕ, true, List, [], ◌∷◌, ◌++◌, flat_map, map, take, length, get_or, refl, sym, ap, arith}
-use Rattle.std.proofs.lemmas.Bool.{le-leb, lt-leb, ne_eqb}
+use Rattle.std.proofs.Common.{◌≡◌, ◌∙◌, ◌-◌, ◌+◌, ◌<◌, ◌≤◌, ℕ, true, List, [], ◌∷◌, ◌++◌, flat_map, map, take, length, get_or, inl, inr, refl, sym, ap, arith}
+use Rattle.std.proofs.lemmas.Bool.{cases_lt, le-leb, lt-leb, ne_eqb}
 use Rattle.std.proofs.lemmas.List.{take_more}
+use Rattle.pldm_exch.specs.Caller.{caller_tick}
+use Rattle.pldm_exch.specs.Sides.{asker_called}
+use Rattle.pldm_exch.specs.declared.caller.CallTick.{CallTick}
+use Rattle.pldm_exch.specs.declared.caller.CallTick.TheVariants as ticks
 use Rattle.fw_package.specs.Package.{PackageText}
 use Rattle.sel_core.specs.Log.{LogOf, sel_restart}
 use Rattle.ua_core.specs.Session.{TimedOf}
-use Rattle.fw_node.specs.Agents.{AgentOf, PartOf, again_packets, agent_restarts, agent_tick_sends, agent_ticks, ended, ended_packets, grown, half_in, notes, waited}
+use Rattle.fw_node.specs.Agents.{AgentOf, PartOf, again_packets, agent_restarts, agent_tick_sends, agent_ticks, ended, ended_packets, grown, half_in, notes, silent_by, waited}
 use Rattle.fw_node.specs.AgentViews.{agent_of, part_restarted}
 use Rattle.fw_node.specs.Cores.{session_core}
-use Rattle.fw_node.specs.Halves.{HalfOf, half_restarts, half_ticks}
+use Rattle.fw_node.specs.Halves.{HalfOf, aged, called, half_restarts, half_ticks, last_part}
 use Rattle.fw_node.specs.Notes.{noted}
+use Rattle.fw_node.specs.Packets.{sent_by}
+use Rattle.fw_node.proofs.NodeTicks.{last_behind}
 use Rattle.fw_node.specs.declared.desk.Desk.{Desk}
 
 -- the log after one half more
@@ -89,3 +95,34 @@ hearing_sends packages deaf d sent last ps qs few grows first second =
     let all : map (half_in 0) qs ≡ map (grown packages) (map (half_in deaf) ps) = grows ∙ grown_any packages 0 deaf ps in
     let again : sent ≡ flat_map again_packets (map (half_in deaf) ps) = first ∙ again_any 0 deaf ps in
     rw (le-leb deaf 1 few, second, all, again) refl
+
+-- The parts of a tick, one after the other, are the tick of each half.
+ticked_by : (packages : List PackageText) (h : HalfOf TimedOf) (call : CallTick)
+    → called (session_core packages) (aged h) (asker_called (aged h).asker call)
+    ≡ last_part (session_core packages) (waited packages (record (aged h) { core = silent_by call h.core packages })) (sent_by call)
+ticked_by packages h ticks.Nothing = refl
+ticked_by packages h (ticks.Send m) = refl
+ticked_by packages h ticks.GaveUp = refl
+
+ticked_half : (packages : List PackageText) (deaf : ℕ) (p : PartOf) → deaf ≤ 1
+    → ended packages (grown packages (half_in deaf p)) ≡ (half_ticks (session_core packages) true (half_in deaf p)).half
+ticked_half packages deaf p few =
+    sym (
+    rw (le-leb deaf 1 few)
+    (ap (λ t. t.half) (ticked_by packages (half_in deaf p) (caller_tick p.ends.asking.caller).1
+    ∙ last_behind (session_core packages) (waited packages (grown packages (half_in deaf p))) (sent_by (caller_tick p.ends.asking.caller).1)))
+    )
+
+ticked_halves : (packages : List PackageText) (deaf : ℕ) (ps : List PartOf) → deaf ≤ 1
+    → map (ended packages) (map (grown packages) (map (half_in deaf) ps)) ≡ map (λ h. (half_ticks (session_core packages) true h).half) (map (half_in deaf) ps)
+ticked_halves packages deaf [] few = refl
+ticked_halves packages deaf (p ∷ ps) few =
+    ap (λ h. h ∷ map (ended packages) (map (grown packages) (map (half_in deaf) ps))) (ticked_half packages deaf p few)
+    ∙ ap (λ hs. (half_ticks (session_core packages) true (half_in deaf p)).half ∷ hs) (ticked_halves packages deaf ps few)
+
+pub ticks_halves : (packages : List PackageText) (now deaf : ℕ) (d : Desk) (ps : List PartOf)
+    → (agent_ticks packages now (agent_of deaf d ps)).halves ≡ map (λ h. (half_ticks (session_core packages) true h).half) (map (half_in deaf) ps)
+ticks_halves packages now deaf d ps = elim (cases_lt 1 deaf) [
+  | inl more ↦ ap (λ n. n.halves) (sym (deaf_ticks packages now deaf d ps more)) ∙ deaf_halves packages deaf ps more
+  | inr few ↦ rw (le-leb deaf 1 few) (ticked_halves packages deaf ps few)
+]

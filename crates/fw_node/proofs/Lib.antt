@@ -1,11 +1,13 @@
 mod AgentTicks
 mod Calls
 mod Controls
-mod Loops
+pub mod Loops
 mod NodeHears
 mod NodeServes
 mod NodeTicks
+mod OneATick
 mod PartHears
 mod Places
 mod Rows
+mod Speaking
 mod Working

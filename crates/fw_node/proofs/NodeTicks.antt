@@ -1,6 +1,7 @@
 -- A tick of a device node, as the code goes.
-use Rattle.std.proofs.Common.{◌≡◌, ◌∙◌, ◌≤◌, ◌++◌, ◌∷◌, [], Bool, true, false, List, Option, Some, None, refl, ap}
+use Rattle.std.proofs.Common.{◌≡◌, ◌∙◌, ◌≤◌, ◌++◌, [], Bool, true, false, List, Option, Some, None, refl}
 use Rattle.std.proofs.lemmas.Bool.{le-leb}
+use Rattle.std.proofs.lemmas.List.{append-nil}
 use Rattle.std.proofs.lemmas.Grind.{flat_map-append}
 use Rattle.mctp_reasm.specs.Pieces.{MessageOf}
 use Rattle.pldm_exch.specs.Caller.{caller_tick, may_begin}
@@ -16,19 +17,15 @@ use Rattle.fw_node.specs.Packets.{all_packets, packets_of, sent_by}
 abbrev pub behind : {C : Type 0} → List MessageOf → Ticked C → Ticked C
 behind ms t = record { half = t.half; sent = ms ++ t.sent }
 
-nil_behind : {A : Type 0} (xs : List A) → xs ++ [] ≡ xs
-nil_behind [] = refl
-nil_behind (x ∷ xs) = ap (λ ys. x ∷ ys) (nil_behind xs)
-
 begun_behind : {C : Type 0} (may : Bool) (h : HalfOf C) (c : CommandOf) (ms : List MessageOf) → begins_if may h c ms ≡ behind ms (begins_if may h c [])
 begun_behind true h c ms = refl
-begun_behind false h c ms = rw (nil_behind ms) refl
+begun_behind false h c ms = rw (append-nil ms) refl
 
 wished_behind : {C : Type 0} (wish : Option CommandOf) (h : HalfOf C) (ms : List MessageOf) → begins_wish wish h ms ≡ behind ms (begins_wish wish h [])
-wished_behind None h ms = rw (nil_behind ms) refl
+wished_behind None h ms = rw (append-nil ms) refl
 wished_behind (Some c) h ms = begun_behind (may_begin h.asker.caller) h c ms
 
-last_behind : {C : Type 0} (f : CoreOf C) (h : HalfOf C) (ms : List MessageOf) → last_part f h ms ≡ behind ms (last_part f h [])
+pub last_behind : {C : Type 0} (f : CoreOf C) (h : HalfOf C) (ms : List MessageOf) → last_part f h ms ≡ behind ms (last_part f h [])
 last_behind f h ms = wished_behind (f.wish h.core) (with_caller h (unwished_abandoned (f.wish h.core) h.asker.caller)) ms
 
 by_call : (h : HalfOf TimedDevice) (t : CallTick)

@@ -1,7 +1,8 @@
 -- Places among the agent's halves.
-use Rattle.std.proofs.Common.{◌≡◌, ◌∙◌, ◌==◌, ◌+◌, ℕ, zero, suc, if◌then◌else◌, List, [], ◌∷◌, map, slice_get, Option, Some, None, refl, ap}
+use Rattle.std.proofs.Common.{◌≡◌, ◌∙◌, ◌==◌, ◌+◌, ℕ, zero, suc, if◌then◌else◌, List, [], ◌∷◌, map, slice_get, Option, Some, None, is_some, refl, ap}
+use Rattle.std.specs.List.{AllByRecursion}
 use Rattle.std.specs.Option.{option_map}
-use Rattle.fw_node.specs.Agents.{PartOf, half_at, half_in, place_from, place_of}
+use Rattle.fw_node.specs.Agents.{IsDeafFor, PartOf, half_at, half_in, place_from, place_of}
 
 -- a place doesn't depend on how long the agent is deaf
 any_from : (a b n : ℕ) (ps : List PartOf) (eid : ℕ) → place_from n (map (half_in a) ps) eid ≡ place_from n (map (half_in b) ps) eid
@@ -25,5 +26,17 @@ pub core_any : (a b : ℕ) (ps : List PartOf) (eid : ℕ)
     → option_map (λ h. h.core) (half_at (map (half_in a) ps) (place_of (map (half_in a) ps) eid)) ≡ option_map (λ h. h.core) (half_at (map (half_in b) ps) (place_of (map (half_in b) ps) eid))
 core_any a b ps eid =
     ap (λ o. option_map (λ h. h.core) (half_at (map (half_in a) ps) o)) (place_any a b ps eid) ∙ core_at a b ps (place_of (map (half_in b) ps) eid)
+
+-- all halves are deaf alike
+pub deaf_alike : (deaf : ℕ) (ps : List PartOf) → AllByRecursion (IsDeafFor deaf) (map (half_in deaf) ps)
+deaf_alike deaf [] = tt
+deaf_alike deaf (p ∷ ps) = (record { asker = refl; taker = refl }, deaf_alike deaf ps)
+
+-- whether there is one
+pub known_alike : {A B C : Type 0} (f : A → C) (g : B → C) (a : Option A) (b : Option B) → option_map f a ≡ option_map g b → is_some a ≡ is_some b
+known_alike f g None None e = refl
+known_alike f g None (Some y) e = absurd (cc)
+known_alike f g (Some x) None e = absurd (cc)
+known_alike f g (Some x) (Some y) e = refl
 
 pub ruleset places = (core_any)

@@ -1,5 +1,5 @@
 -- The agent's node: a half for each device that it updates, in configured order, and the event log.
-use Rattle.std.specs.Prelude.{ℕ, ◌-◌, ◌+◌, ◌==◌, nat_le, true, if◌then◌else◌, List, [], ◌∷◌, ◌++◌, flat_map, map, slice_get, slice_set, Option, Some, None, Result, Ok, Err, Bool}
+use Rattle.std.specs.Prelude.{ℕ, ◌≡◌, ◌-◌, ◌+◌, ◌==◌, nat_le, true, if◌then◌else◌, List, [], ◌∷◌, ◌++◌, flat_map, map, slice_get, slice_set, Option, Some, None, Result, Ok, Err, Bool}
 use Rattle.mctp_ctl.specs.declared.answers.Endpoint.{Endpoint}
 use Rattle.mctp_reasm.specs.Pieces.{MessageOf}
 use Rattle.mctp_wire.specs.Packet as wire
@@ -16,7 +16,7 @@ use Rattle.ua_core.specs.Session.{SessionOf, TimedOf}
 use Rattle.fw_node.specs.BothEnds.{EndsOf, ends_new}
 use Rattle.fw_node.specs.Cores.{session_core}
 use Rattle.fw_node.specs.Halves.{HalfOf, aged, half_hears, half_restarts, half_ticks, idled, last_part, recast}
-use Rattle.fw_node.specs.Nodes.{NodeHeard, finished, half_of}
+use Rattle.fw_node.specs.Nodes.{MaySpeak, NodeHeard, SpeaksAfter, finished, half_of}
 use Rattle.fw_node.specs.Notes.{noted}
 use Rattle.fw_node.specs.Packets.{all_packets, sent_by}
 
@@ -36,6 +36,11 @@ pub record AgentOf : Type 0 where
   pub deaf : ℕ
   pub halves : List (HalfOf TimedOf)
   pub log : LogOf
+
+-- a half is deaf for as long as its node
+pub record IsDeafFor (deaf : ℕ) (h : HalfOf TimedOf) : Type 0 where
+  pub asker : h.asker.deaf ≡ deaf
+  pub taker : h.taker.deaf ≡ deaf
 
 -- an agent as it is made, for the devices with these endpoint identifiers
 abbrev pub new_half : (own device : ℕ) → HalfOf TimedOf
@@ -84,10 +89,26 @@ hears_at packages n bytes now (Some place) (Some h) =
     half_heard n now place h (finished roles.Agent n.endpoint n.tid (half_hears (session_core packages) true h bytes))
 hears_at packages n bytes now place h = agent_unmoved n
 
+-- what the session of a half wishes, if it wishes anything, can be said
+abbrev pub HalfMaySpeak : List PackageText → HalfOf TimedOf → Type 0
+HalfMaySpeak packages h = MaySpeak (session_core packages) h.core
+
+-- after a packet its session is as it was, or what it wishes can be said
+abbrev pub SpeaksHearing : List PackageText → AgentOf → List ℕ → HalfOf TimedOf → Type 0
+SpeaksHearing packages n bytes h =
+    SpeaksAfter
+    (session_core packages)
+    h.core
+    (finished roles.Agent n.endpoint n.tid (half_hears (session_core packages) true h bytes)).half.core
+
 -- the place of the half that hears a packet: that of the device that sent it
 abbrev pub place_heard : List (HalfOf TimedOf) → Result (Head × List ℕ) WireFault → Option ℕ
 place_heard hs (Ok p) = place_of hs p.0.source
 place_heard hs (Err fault) = None
+
+-- that half
+abbrev pub hearer : AgentOf → List ℕ → Option (HalfOf TimedOf)
+hearer n bytes = half_at n.halves (place_heard n.halves (wire.packet_of bytes))
 
 -- What a packet is for the agent: the half of the device that sent it hears it; a deaf agent drops every packet.
 abbrev pub agent_hears : List PackageText → AgentOf → List ℕ → (now : ℕ) → AgentHeard
@@ -124,6 +145,10 @@ asked_packets packages h = all_packets (last_part (session_core packages) h []).
 
 abbrev pub ended_packets : List PackageText → HalfOf TimedOf → List (List ℕ)
 ended_packets packages h = asked_packets packages (waited packages h)
+
+-- the messages of the requests that begin then
+abbrev pub begins : List PackageText → HalfOf TimedOf → List MessageOf
+begins packages h = (last_part (session_core packages) (waited packages h) []).sent
 
 -- The log after a part of a tick, which is done for all halves in order: what happened to each session is noted.
 abbrev pub notes : (HalfOf TimedOf → HalfOf TimedOf) → (now : ℕ) → LogOf → List (HalfOf TimedOf) → LogOf

@@ -1,6 +1,7 @@
 -- Both ends of a node for one peer, as the code has them.
 use Rattle.pldm_exch.specs.Ends.{AnsweringOf, AskingOf, answering_new, answering_older, asking_new, asking_older}
-use Rattle.std.specs.Prelude.{ℕ}
+use Rattle.pldm_exch.specs.Caller.{CallerState, last_tag}
+use Rattle.std.specs.Prelude.{ℕ, ◌≡◌, IfSome, false, length}
 
 -- what a node has to ask a peer, and to answer it
 pub record EndsOf : Type 0 where
@@ -14,3 +15,9 @@ ends_new own peer = record { asking = asking_new own peer; answering = answering
 -- after a tick
 abbrev pub ends_older : EndsOf → EndsOf
 ends_older e = record { asking = asking_older e.asking; answering = answering_older e.answering }
+
+-- there is a rest for each of the eight tags, and an open request is unanswered and has the last tag
+pub record IsAsking (c : CallerState) : Type 0 where
+  pub rests : length c.rests ≡ 8
+  pub tag : IfSome c.asked (λ o. o.tag ≡ last_tag c)
+  pub unanswered : IfSome c.asked (λ o. c.answered ≡ false)

@@ -1,6 +1,6 @@
 -- The nodes: what is finished by the node itself, and the device node. A node answers control and base requests for all its
 -- halves; what a half makes of packets and ticks is in `Halves`.
-use Rattle.std.specs.Prelude.{ℕ, ◌≡◌, ◌≤◌, ◌==◌, Bool, false, true, if◌then◌else◌, List, [], ◌∷◌, is_some, length, Option, Some, None, Result, Ok, Err}
+use Rattle.std.specs.Prelude.{ℕ, ◌≡◌, ◌⊎◌, IfSome, ◌≤◌, ◌==◌, Bool, false, true, if◌then◌else◌, List, [], ◌∷◌, is_some, length, Option, Some, None, Result, Ok, Err}
 use Rattle.mctp_ctl.specs.Control.{answer_of}
 use Rattle.mctp_ctl.specs.declared.answers.Endpoint.{Endpoint}
 use Rattle.mctp_reasm.specs.Pieces.{MessageOf}
@@ -13,7 +13,7 @@ use Rattle.pldm_exch.specs.Ends.{asker_of, taker_of}
 use Rattle.pldm_exch.specs.Kept.{kept_with}
 use Rattle.pldm_exch.specs.Requests.{reply_message}
 use Rattle.fwup_wire.specs.Answers.{answer_bytes, answer_in}
-use Rattle.fwup_wire.specs.Commands.{command_code}
+use Rattle.fwup_wire.specs.Commands.{IsSpoken, command_code}
 use Rattle.fwup_wire.specs.Values.{AnswerOf, CommandOf}
 use Rattle.fd_core.specs.Banks.{Rose}
 use Rattle.fd_core.specs.States.{DeviceOf}
@@ -84,6 +84,14 @@ IsTold heard = Unit {0}
 abbrev pub IsAnswered : {C : Type 0} → CoreOf C → (quiet works : Bool) → C → Result CommandOf ℕ → Type 0
 IsAnswered core quiet works c (Ok command) = IsHeardAgain command (core.take c command quiet works).answer
 IsAnswered core quiet works c (Err code) = Unit {0}
+
+-- what a core wishes to ask, if it wishes anything, can be said
+abbrev pub MaySpeak : {C : Type 0} → CoreOf C → C → Type 0
+MaySpeak core c = IfSome (core.wish c) IsSpoken
+
+-- after a call a core is as it was, or what it wishes can be said
+abbrev pub SpeaksAfter : {C : Type 0} → CoreOf C → (before after : C) → Type 0
+SpeaksAfter core before after = (after ≡ before) ⊎ MaySpeak core after
 
 -- A device node: its endpoint, its terminus identifier, its half for the agent, and its bank's count of failures.
 pub record DeviceNodeOf : Type 0 where

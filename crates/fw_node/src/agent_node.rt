@@ -5,10 +5,12 @@ ghost use Rattle.mctp_wire.specs.Packet.{packet_of as packet_read};
 ghost use Rattle.fw_package.specs.Package.{PackageText};
 ghost use Rattle.sel_core.specs.Log.{sel_after, sel_reply};
 ghost use Rattle.ua_core.specs.Calls.{agent_activated, is_free};
-ghost use Rattle.fw_node.specs.Agents.{AgentOf, PartOf, activates, free_for, ready_for, again_packets, agent_becomes, agent_hears, agent_restarts, agent_tick_sends, agent_ticks, asked_last, asked_packets, becomes_at, cancels, ended, ended_packets, grown, half_at, half_for, half_in, hears_at, new_agent, new_half, notes, place_from, place_heard, place_of, starts, waited};
+ghost use Rattle.fw_node.specs.Agents.{AgentOf, HalfMaySpeak, IsDeafFor, PartOf, SpeaksHearing, activates, free_for, hearer, ready_for, again_packets, agent_becomes, agent_hears, agent_restarts, agent_tick_sends, agent_ticks, asked_last, asked_packets, becomes_at, begins, cancels, ended, ended_packets, grown, half_at, half_for, half_in, hears_at, new_agent, new_half, notes, place_from, place_heard, place_of, starts, waited};
 ghost use Rattle.fw_node.specs.AgentViews.{agent_of, part_activated, part_cancelled, part_free, part_ready, part_restarted, part_started, parts_called, parts_noted};
 ghost use Rattle.fw_node.specs.Cores.{session_core};
-ghost use Rattle.fw_node.specs.Halves.{half_restarts};
+ghost use Rattle.fw_node.specs.Halves.{half_hears, half_restarts, half_ticks};
+ghost use Rattle.fw_node.specs.Nodes.{IsTold, MaySpeak};
+ghost use Rattle.std.specs.List.{AllByRecursion};
 ghost use Rattle.fw_node.specs.Packets.{all_packets};
 
 use crate::desk::{Desk, note};
@@ -79,7 +81,8 @@ impl AgentNode {
 
     /// Whether it drops every packet, since it started anew less than 40 ticks ago.
     pub fn is_deaf(&self) -> bool
-        ensures { result ≡ not (self.now.deaf == 0) }
+        ensures deaf { result ≡ not (self.now.deaf == 0) }
+        ensures halves { AllByRecursion (IsDeafFor self.now.deaf) self.now.halves }
     {
         self.deaf > 0
     }
@@ -94,7 +97,8 @@ impl AgentNode {
     /// The session with a device, if it is one of the agent's.
     #[tactic(auto, using(crate::proofs::Places::places))]
     pub fn session(&self, eid: u8) -> Option<&Session>
-        ensures { option_map (λ s. s.now) result ≡ option_map (λ h. h.core) (half_for self.now eid) }
+        ensures session { option_map (λ s. s.now) result ≡ option_map (λ h. h.core) (half_for self.now eid) }
+        ensures known { is_some result ≡ is_some (half_for self.now eid) }
     {
         session_in(self.parts.as_slice(), eid)
     }
@@ -112,6 +116,8 @@ impl AgentNode {
         requires { outbox.old ≡ [] }
         ensures after { self.new ≡ (agent_hears packages.now self.old bytes.now now).agent }
         ensures sent { outbox.new ≡ all_packets (agent_hears packages.now self.old bytes.now now).sent }
+        ensures told { IfSome (hearer self.old bytes.now) (λ h. IsTold (half_hears (session_core packages.now) true h bytes.now)) }
+        ensures spoken { IfSome (hearer self.old bytes.now) (SpeaksHearing packages.now self.old bytes.now) }
     {
         if self.deaf > 0 {
             return;
@@ -137,6 +143,8 @@ impl AgentNode {
         requires { outbox.old ≡ [] }
         ensures after { self.new ≡ agent_ticks packages.now now self.old }
         ensures sent { outbox.new ≡ agent_tick_sends packages.now self.old }
+        ensures halves { self.new.halves ≡ map (λ h. (half_ticks (session_core packages.now) true h).half) self.old.halves }
+        ensures spoken { self.old.deaf ≤ 1 → AllByRecursion (HalfMaySpeak packages.now) self.new.halves }
     {
         if self.deaf > 1 {
             self.deaf -= 1;
@@ -176,6 +184,7 @@ impl AgentNode {
         ensures free { OnOk result (free_for self.old eid ≡ Some true) }
         ensures busy { IfErr result (λ e. (e ≡ StartFault.Busy) ↔ (free_for self.old eid ≡ Some false)) }
         ensures kept { OnErr result (self.new ≡ self.old) }
+        ensures spoken { OnOk result (IfSome (half_for self.old eid) (λ h. HalfMaySpeak packages.now (starts packages.now h number))) }
     {
         let Some(place) = place_of(self.parts.as_slice(), eid) else {
             return Err(StartFault::Busy);
@@ -197,7 +206,8 @@ impl AgentNode {
     /// Cancels the update of a device; nothing changes where it is none of the agent's. It is noted at `now`; a deaf agent
     /// takes it too.
     pub fn cancel<'p>(&mut self, packages: &'p [Package<'p>], eid: u8, now: u32)
-        ensures { self.new ≡ agent_becomes self.old now eid (cancels packages.now) }
+        ensures cancelled { self.new ≡ agent_becomes self.old now eid (cancels packages.now) }
+        ensures spoken { IfSome (half_for self.old eid) (λ h. HalfMaySpeak packages.now (cancels packages.now h)) }
     {
         let Some(place) = place_of(self.parts.as_slice(), eid) else {
             return;
@@ -224,6 +234,7 @@ impl AgentNode {
         ensures ready { OnOk result (option_map (λ s. agent_becomes self.old now eid (λ h. activates packages.now h s)) (ready_for self.old eid) ≡ Some self.new) }
         ensures not { OnErr result (ready_for self.old eid ≡ None) }
         ensures kept { OnErr result (self.new ≡ self.old) }
+        ensures spoken { OnOk result (IfSome (half_for self.old eid) (λ h. IfSome (ready_for self.old eid) (λ s. HalfMaySpeak packages.now (activates packages.now h s)))) }
     {
         let Some(place) = place_of(self.parts.as_slice(), eid) else {
             return Err(NotReady);
@@ -244,7 +255,8 @@ impl AgentNode {
     /// Starts anew: no update is under way, and the agent is deaf and silent for 40 ticks. The records of its sessions and of
     /// its log stay.
     pub fn restart(&mut self)
-        ensures { (packages : List PackageText) → self.new ≡ agent_restarts packages self.old }
+        ensures restarted { (packages : List PackageText) → self.new ≡ agent_restarts packages self.old }
+        ensures spoken { (packages : List PackageText) → AllByRecursion (HalfMaySpeak packages) self.new.halves }
     {
         restart_all(self.parts.as_mut_slice());
         self.desk.tid = Tid::unassigned();
@@ -323,6 +335,8 @@ fn hear_at<'p>(
     requires outbox { outbox.old ≡ [] }
     ensures after { agent_of 0 desk.new parts.new ≡ (hears_at packages.now (agent_of 0 desk.old parts.old) bytes.now now (Some place) (slice_get (map (half_in 0) parts.old) place)).agent }
     ensures sent { outbox.new ≡ all_packets (hears_at packages.now (agent_of 0 desk.old parts.old) bytes.now now (Some place) (slice_get (map (half_in 0) parts.old) place)).sent }
+    ensures told { IfSome (slice_get (map (half_in 0) parts.old) place) (λ h. IsTold (half_hears (session_core packages.now) true h bytes.now)) }
+    ensures spoken { IfSome (slice_get (map (half_in 0) parts.old) place) (SpeaksHearing packages.now (agent_of 0 desk.old parts.old) bytes.now) }
     ensures count { length parts.new ≡ length parts.old }
 {
     parts[place].hear(desk, packages, bytes, now, outbox);
@@ -344,6 +358,7 @@ fn start_at<'p>(
     ensures busy { IfErr result (λ e. (e ≡ StartFault.Busy) ↔ (part_free (slice_get parts.old place) ≡ Some false)) }
     ensures kept { OnErr result (parts.new ≡ parts.old) }
     ensures unnoted { OnErr result (log.new ≡ log.old) }
+    ensures spoken { OnOk result (IfSome (slice_get parts.old place) (λ p. MaySpeak (session_core packages.now) (part_started packages.now number p).session)) }
     ensures count { length parts.new ≡ length parts.old }
 {
     match parts[place].start(log, packages, number, now) {
@@ -364,6 +379,7 @@ fn cancel_at<'p>(
     requires { place < length parts.old }
     ensures parts { parts.new ≡ parts_called parts.old place (part_cancelled packages.now) }
     ensures log { log.new ≡ parts_noted log.old now parts.old place (part_cancelled packages.now) }
+    ensures spoken { IfSome (slice_get parts.old place) (λ p. MaySpeak (session_core packages.now) (part_cancelled packages.now p).session) }
     ensures count { length parts.new ≡ length parts.old }
 {
     parts[place].cancel(log, packages, now);
@@ -383,6 +399,7 @@ fn activate_at<'p>(
     ensures not { OnErr result (part_ready (slice_get parts.old place) ≡ None) }
     ensures kept { OnErr result (parts.new ≡ parts.old) }
     ensures unnoted { OnErr result (log.new ≡ log.old) }
+    ensures spoken { OnOk result (IfSome (part_ready (slice_get parts.old place)) (λ s. MaySpeak (session_core packages.now) (record { session = s; idle = 0 }))) }
     ensures count { length parts.new ≡ length parts.old }
 {
     match parts[place].activate(log, packages, now) {
@@ -400,10 +417,10 @@ fn grow_all<'p>(
     now: u32,
     outbox: &mut Outbox,
 )
-    requires { length outbox.old + 4 * length parts.old ≤ 128 }
+    requires { length outbox.old + 4 * length parts.old ≤ 64 }
     ensures halves { map (half_in 0) parts.new ≡ map (grown packages.now) (map (half_in 0) parts.old) }
     ensures sent { outbox.new ≡ outbox.old ++ flat_map again_packets (map (half_in 0) parts.old) }
-    ensures few { length outbox.new ≤ length outbox.old + 4 * length parts.old }
+    ensures few { length outbox.new + 4 * length (flat_map (begins packages.now) (map (grown packages.now) (map (half_in 0) parts.old))) ≤ length outbox.old + 4 * length parts.old }
     ensures log { log.new ≡ notes (grown packages.now) now log.old (map (half_in 0) parts.old) }
     ensures count { length parts.new ≡ length parts.old }
 {
@@ -420,10 +437,11 @@ fn wait_all<'p>(
     now: u32,
     outbox: &mut Outbox,
 )
-    requires { length outbox.old + 4 * length parts.old ≤ 128 }
+    requires { length outbox.old + 4 * length (flat_map (begins packages.now) (map (half_in 0) parts.old)) ≤ 64 }
     ensures halves { map (half_in 0) parts.new ≡ map (ended packages.now) (map (half_in 0) parts.old) }
     ensures sent { outbox.new ≡ outbox.old ++ flat_map (ended_packets packages.now) (map (half_in 0) parts.old) }
     ensures log { log.new ≡ notes (waited packages.now) now log.old (map (half_in 0) parts.old) }
+    ensures spoken { AllByRecursion (HalfMaySpeak packages.now) (map (half_in 0) parts.new) }
     ensures count { length parts.new ≡ length parts.old }
 {
     for part in parts.iter_mut() {

@@ -13,7 +13,7 @@ ghost use Rattle.fd_core.specs.Wishes.{has_failed};
 ghost use Rattle.fw_node.specs.Cores.{device_core, timed};
 ghost use Rattle.fw_node.specs.Brings.{incoming_of};
 ghost use Rattle.fw_node.specs.Halves.{IncomingOf, aged, answers, half_brings, half_hears, half_ticks, idled, last_part, read_by, reply_read, settled, takes_if};
-ghost use Rattle.fw_node.specs.Nodes.{DeviceNodeOf, HearsIt, IsAnswered, IsTold, JudgesIt, control_sent, device_hears, device_judges, device_restarts, finished, half_of, new_device_node, other_reply, other_tid, replied};
+ghost use Rattle.fw_node.specs.Nodes.{DeviceNodeOf, HearsIt, IsAnswered, IsTold, JudgesIt, MaySpeak, SpeaksAfter, control_sent, device_hears, device_judges, device_restarts, finished, half_of, new_device_node, other_reply, other_tid, replied};
 ghost use Rattle.fw_node.specs.Packets.{all_packets, sent_by};
 
 use crate::ends::Ends;
@@ -106,6 +106,7 @@ impl<B: Bank> DeviceNode<B> {
         requires { outbox.old ≡ [] }
         ensures heard { HearsIt self.old bytes.now self.new outbox.new }
         ensures endpoint { self.new.endpoint ≡ self.old.endpoint }
+        ensures spoken { SpeaksAfter device_core self.old.half.core self.new.half.core }
     {
         let _works = self.hear(bytes, outbox);
     }
@@ -117,6 +118,7 @@ impl<B: Bank> DeviceNode<B> {
         requires { outbox.old ≡ [] }
         ensures after { self.new ≡ record self.old { half = (half_ticks device_core true self.old.half).half } }
         ensures sent { outbox.new ≡ all_packets (half_ticks device_core true self.old.half).sent }
+        ensures spoken { self.old.half.asker.deaf ≤ 1 → MaySpeak device_core self.new.half.core }
     {
         if self.deaf > 1 {
             self.deaf -= 1;
@@ -138,6 +140,7 @@ impl<B: Bank> DeviceNode<B> {
         ensures kept { OnErr result (self.new ≡ self.old) }
         ensures tid { self.new.tid ≡ self.old.tid }
         ensures endpoint { self.new.endpoint ≡ self.old.endpoint }
+        ensures spoken { OnOk result (MaySpeak device_core self.new.half.core) }
     {
         let Some(_works) = self.judge(verdict) else {
             return Err(NotNow);
@@ -166,7 +169,8 @@ impl<B: Bank> DeviceNode<B> {
 
     /// Starts anew: what was applied and not activated is dropped, and the node is deaf and silent for 40 ticks.
     pub fn restart(&mut self)
-        ensures { self.new ≡ device_restarts self.old }
+        ensures restarted { self.new ≡ device_restarts self.old }
+        ensures spoken { MaySpeak device_core self.new.half.core }
     {
         self.device.restart();
         self.ends = Ends::new(self.ends.own(), self.ends.peer());
@@ -176,7 +180,8 @@ impl<B: Bank> DeviceNode<B> {
 
     /// Gives up what is open and no longer wished.
     fn settle(&mut self)
-        ensures { self.new ≡ record self.old { half = settled device_core self.old.half } }
+        ensures settled { self.new ≡ record self.old { half = settled device_core self.old.half } }
+        ensures spoken { MaySpeak device_core self.old.half.core }
     {
         let wish = self.device.wish();
         self.ends.abandon_unless(&wish);
@@ -201,9 +206,10 @@ impl<B: Bank> DeviceNode<B> {
 
     /// Gives up what isn't wished, and begins what is.
     fn ask(&mut self, outbox: &mut Outbox)
-        requires { length outbox.old ≤ 124 }
+        requires { length outbox.old ≤ 60 }
         ensures after { self.new ≡ record self.old { half = (last_part device_core self.old.half []).half } }
         ensures sent { outbox.new ≡ outbox.old ++ all_packets (last_part device_core self.old.half []).sent }
+        ensures spoken { MaySpeak device_core self.new.half.core }
     {
         let wish = self.device.wish();
         self.ends.abandon_unless(&wish);
@@ -227,6 +233,7 @@ impl<B: Bank> DeviceNode<B> {
         ensures failed { result ≡ false → Rose self.old.faults self.new.faults }
         ensures told { IsTold (half_hears device_core result self.old.half bytes.now) }
         ensures endpoint { self.new.endpoint ≡ self.old.endpoint }
+        ensures spoken { SpeaksAfter device_core self.old.half.core self.new.half.core }
     {
         if self.deaf > 0 {
             return true;
@@ -250,6 +257,7 @@ impl<B: Bank> DeviceNode<B> {
     fn incoming(&mut self, bytes: &[u8]) -> Incoming
         requires { self.old.half.asker.deaf ≡ 0 }
         ensures brings { (works : Bool) → half_hears device_core works self.old.half bytes.now ≡ half_brings device_core works self.new.half (incoming_of result) }
+        ensures core { self.new.half.core ≡ self.old.half.core }
         ensures tid { self.new.tid ≡ self.old.tid }
         ensures endpoint { self.new.endpoint ≡ self.old.endpoint }
         ensures faults { self.new.faults ≡ self.old.faults }
@@ -264,6 +272,7 @@ impl<B: Bank> DeviceNode<B> {
         ensures failed { result ≡ false → Rose self.old.faults self.new.faults }
         ensures tid { self.new.tid ≡ self.old.tid }
         ensures endpoint { self.new.endpoint ≡ self.old.endpoint }
+        ensures spoken { MaySpeak device_core self.new.half.core }
     {
         let works = self.learn_answer(heard);
         self.settle();
@@ -298,6 +307,7 @@ impl<B: Bank> DeviceNode<B> {
         ensures failed { result ≡ false → Rose self.old.faults self.new.faults }
         ensures told { IsTold (half_brings device_core result self.old.half (IncomingOf.New request.now)) }
         ensures endpoint { self.new.endpoint ≡ self.old.endpoint }
+        ensures spoken { SpeaksAfter device_core self.old.half.core self.new.half.core }
     {
         if request.head().pldm_type == TYPE_FIRMWARE_UPDATE {
             return self.take(request, outbox);
@@ -330,6 +340,7 @@ impl<B: Bank> DeviceNode<B> {
         ensures failed { result ≡ false → Rose self.old.faults self.new.faults }
         ensures tid { self.new.tid ≡ self.old.tid }
         ensures endpoint { self.new.endpoint ≡ self.old.endpoint }
+        ensures spoken { MaySpeak device_core self.new.half.core }
     {
         let (reply, works) = self.reply_to(request);
         self.answer(request, reply.as_slice(), outbox);

@@ -6,7 +6,7 @@ ghost use Rattle.fwup_wire.specs.Lent.{command_of};
 ghost use Rattle.pldm_exch.specs.Caller.{begun, caller_tick, is_quiet, may_begin};
 ghost use Rattle.pldm_exch.specs.Requests.{reply_message};
 ghost use Rattle.pldm_exch.specs.Sides.{answered_with, answering_row, asking_after, asking_row};
-ghost use Rattle.fw_node.specs.BothEnds.{ends_new, ends_older};
+ghost use Rattle.fw_node.specs.BothEnds.{IsAsking, ends_new, ends_older};
 ghost use Rattle.fw_node.specs.Halves.{answering_after, incoming, unwished_abandoned, wished_or};
 ghost use Rattle.fw_node.specs.Brings.{incoming_of};
 
@@ -25,17 +25,18 @@ pub(crate) struct Ends {
 
 impl Model for Ends {
     ghost use Rattle.std.specs.Prelude.{◌≡◌};
-    ghost use Rattle.fw_node.specs.BothEnds.{EndsOf};
+    ghost use Rattle.fw_node.specs.BothEnds.{EndsOf, IsAsking};
 
     ghost Value = { EndsOf };
 
     ghost view = { λ e. record { asking = e.asker; answering = e.taker } };
 
-    ghost invariant = { λ e. (e.taker.own ≡ e.asker.own) × (e.taker.peer ≡ e.asker.peer) };
+    ghost invariant = { λ e. (e.taker.own ≡ e.asker.own) × (e.taker.peer ≡ e.asker.peer) × IsAsking e.asker.caller };
 }
 
 impl Ends {
     /// The ends of the node `own` for the node `peer`, before the first request and the first answer.
+    #[tactic(auto, using(crate::proofs::OneATick::callers_stay))]
     pub(crate) fn new(own: u8, peer: u8) -> Ends
         ensures { result ≡ ends_new own peer }
     {
@@ -67,6 +68,7 @@ impl Ends {
     }
 
     /// Gives the open request up, unless it is of this command.
+    #[tactic(auto, using(crate::proofs::OneATick::callers_stay))]
     pub(crate) fn abandon_unless(&mut self, wish: &Option<Command<'_>>)
         ensures { self.new ≡ record self.old { asking = record self.old.asking { caller = unwished_abandoned (option_map command_of wish.now) self.old.asking.caller } } }
     {
@@ -96,6 +98,7 @@ impl Ends {
     }
 
     /// Begins a request of this command, and gives out the message to send.
+    #[tactic(auto, using(crate::proofs::OneATick::callers_stay))]
     pub(crate) fn begin(&mut self, command: &Command<'_>) -> Message
         requires may { may_begin self.old.asking.caller ≡ true }
         requires fits { IsWritable (command_of command.now) }
@@ -107,7 +110,7 @@ impl Ends {
     }
 
     /// Hears the bytes of a packet.
-    #[tactic(auto, using(crate::proofs::Rows::rows))]
+    #[tactic(auto, using(crate::proofs::Rows::rows, crate::proofs::OneATick::callers_stay))]
     pub(crate) fn hear(&mut self, bytes: &[u8]) -> Incoming
         ensures incoming { incoming_of result ≡ incoming (asking_row self.old.asking bytes.now) (answering_row self.old.answering bytes.now) }
         ensures asking { self.new.asking ≡ asking_after self.old.asking (asking_row self.old.asking bytes.now) }
@@ -136,9 +139,11 @@ impl Ends {
     }
 
     /// A tick passes: what is held and kept grows older, and the open request is sent again or given up.
+    #[tactic(auto, using(crate::proofs::OneATick::callers_stay))]
     pub(crate) fn tick(&mut self) -> CallTick
         ensures answer { result ≡ (caller_tick self.old.asking.caller).1 }
         ensures after { self.new ≡ ends_older self.old }
+        ensures lawful { IsAsking self.old.asking.caller }
     {
         self.taker.tick();
         self.asker.tick()

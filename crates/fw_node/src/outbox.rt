@@ -9,9 +9,9 @@ use mctp_wire::RawPacket;
 use std::alloc::{AllocError, Global};
 use std::marker::Model;
 
-/// The most packets that a node sends in a call: a request that is sent again and one that begins, of four packets each, for
-/// each of 16 peers.
-const CAPACITY: usize = 128;
+/// The most packets that a node sends in a call: a request that is sent again or one that begins, of four packets, for each
+/// of 16 peers. Beside a request that was just sent again none may begin.
+const CAPACITY: usize = 64;
 
 /// The packets that a node sends in a call, in the order of sending. It is handed in empty, and is made once with its
 /// memory.
@@ -27,11 +27,11 @@ impl Model for Outbox {
 
     ghost view = { λ o. map (λ p. p.items) o.packets.items };
 
-    ghost invariant = { λ o. (o.packets.capacity ≡ 128) × (length o.packets.items ≤ 128) };
+    ghost invariant = { λ o. (o.packets.capacity ≡ 64) × (length o.packets.items ≤ 64) };
 }
 
 impl Outbox {
-    /// An outbox without packets, with room for 128.
+    /// An outbox without packets, with room for 64.
     ///
     /// # Errors
     /// `AllocError` where that memory is refused.
@@ -67,7 +67,7 @@ impl Outbox {
 
     /// Puts the packets of a message behind those that are there.
     pub fn send(&mut self, message: &Message)
-        requires { length self.old ≤ 124 }
+        requires { length self.old ≤ 60 }
         ensures packets { self.new ≡ self.old ++ packets_of message.now }
         ensures few { length self.new ≤ length self.old + 4 }
     {

@@ -1,6 +1,6 @@
 //! What both kinds of node send by themselves.
 
-ghost use Rattle.std.specs.Prelude.{◌≡◌, ◌≤◌, ◌+◌, ◌++◌, ◌∷◌, [], length};
+ghost use Rattle.std.specs.Prelude.{◌≡◌, ◌≤◌, ◌+◌, ◌*◌, ◌++◌, ◌∷◌, [], length};
 ghost use Rattle.mctp_ctl.specs.Control.{answer_of};
 ghost use Rattle.fw_node.specs.Nodes.{control_sent, other_reply, other_tid};
 ghost use Rattle.fw_node.specs.Packets.{all_packets, sent_by};
@@ -35,9 +35,10 @@ pub(crate) fn reply_to_other(tid: &mut Tid, role: Role, request: &Request) -> Re
 
 /// Sends what a tick asks to be sent again.
 pub(crate) fn send_again(outbox: &mut Outbox, call: &CallTick)
-    requires { length outbox.old ≤ 124 }
+    requires { length outbox.old ≤ 60 }
     ensures sent { outbox.new ≡ outbox.old ++ all_packets (sent_by call.now) }
     ensures few { length outbox.new ≤ length outbox.old + 4 }
+    ensures each { length outbox.new ≤ length outbox.old + 4 * length (sent_by call.now) }
 {
     if let CallTick::Send(message) = call {
         outbox.send(message);

@@ -1,7 +1,11 @@
 mod Activating
 mod Components
+mod Joins
 mod Judging
+mod Leading
 mod Links
 mod Noting
+mod Places
+mod Recording
 mod Rooms
 mod Ticking

@@ -1,3 +1,6 @@
+pub mod Deliveries
+pub mod JoinLaws
+pub mod Joins
 pub mod Lanes
 pub mod LinkLaws
 pub mod Links

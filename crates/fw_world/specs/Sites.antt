@@ -1,5 +1,5 @@
 -- A device's node in the world, as the code has it.
-use Rattle.std.specs.Prelude.{ℕ, ◌≡◌, ◌≤◌, ◌++◌, [], ◌∷◌, Bool, false, true, IfSome, is_some, List, length, map, Option, Some, None}
+use Rattle.std.specs.Prelude.{ℕ, ◌≡◌, ◌≤◌, ◌++◌, [], ◌∷◌, Bool, false, true, IfSome, is_some, List, length, map, slice_get, slice_set, Option, Some, None}
 use Rattle.exch_lane.specs.Lanes.{Sent}
 use Rattle.fd_core.specs.Banks.{Rose}
 use Rattle.fd_core.specs.States.{DeviceState, Phase}
@@ -65,3 +65,28 @@ AreReady v (Some images) = (is_ready v.phase ≡ true) × (images ≡ puts v.row
 abbrev pub IsCopyOf : List RowOf → (capacity : ℕ) → List Put → Option (Key × ℕ) → Type 0
 IsCopyOf rows capacity images None = Unit {0}
 IsCopyOf rows capacity images (Some s) = IfSome (applied_of (row_of rows s.0)) (λ image. length image.bytes ≤ capacity → images ≡ record { key = s.0; bytes = image.bytes } ∷ [])
+
+-- each of these has room for so many packets
+abbrev pub HaveRoom : ℕ → List RoomyOf → Type 0
+HaveRoom n [] = Unit {0}
+HaveRoom n (s ∷ ss) = (n ≤ s.room) × HaveRoom n ss
+
+-- the nodes with their packets
+abbrev pub sites_of : List RoomyOf → List SiteOf
+sites_of ss = map (λ s. s.site) ss
+
+-- One of the nodes hears a packet.
+pub record HeardAt (now : ℕ) (old : List SiteOf) (place : ℕ) (bytes : List ℕ) (new : List SiteOf) (before after : List NotedOf) : Type 0 where
+  pub site : SiteOf
+  pub became : SiteOf
+  pub there : slice_get old place ≡ Some site
+  pub heard : HearsNoting now site bytes became before after
+  pub put : new ≡ slice_set old place became
+
+-- One of them has a verdict.
+pub record JudgedAt (old : List SiteOf) (place : ℕ) (verdict : Verdict) (new : List SiteOf) (before after : List NotedOf) : Type 0 where
+  pub site : SiteOf
+  pub became : SiteOf
+  pub there : slice_get old place ≡ Some site
+  pub judged : JudgesNoting site verdict became before after
+  pub put : new ≡ slice_set old place became

@@ -1,7 +1,9 @@
 -- The packet world: an agent, its devices, every packet that was ever sent between them, and what happened. What a step makes
 -- of it is what the step's node makes of it. A packet stays after it came, so that it may come again, later, or never.
-use Rattle.std.specs.Prelude.{ℕ, ◌+◌, ◌==◌, ◌∷◌, ◌++◌, [], Bool, true, if◌then◌else◌, List, drop, length, map, slice_get, slice_set, Option, Some, None}
+use Rattle.std.specs.Prelude.{ℕ, ◌+◌, ◌==◌, ◌∷◌, ◌++◌, [], Bool, true, if◌then◌else◌, List, length, map, option_to_list, slice_get, slice_set, Option, Some, None, Result, Ok, Err}
 use Rattle.mctp_wire.specs.Packet as wire
+use Rattle.mctp_wire.specs.declared.fault.WireFault.{WireFault}
+use Rattle.mctp_wire.specs.declared.layout.Head.{Head}
 use Rattle.exch_lane.specs.Lanes.{Sent, numbered}
 use Rattle.exch_lane.specs.Steps.{sent_at}
 use Rattle.fw_package.specs.Package.{PackageText}
@@ -16,7 +18,7 @@ use Rattle.ua_core.specs.Session.{SessionOf, TimedOf}
 use Rattle.ua_core.specs.declared.planned.Recorded.{Recorded}
 use Rattle.fw_message.specs.History.{EntryOf}
 use Rattle.fw_message.specs.Worlds.{NotedOf, noted_of}
-use Rattle.fw_node.specs.Agents.{AgentOf, activates, agent_becomes, agent_hears, agent_restarts, agent_tick_sends, agent_ticks, cancels, half_at, place_heard, ready_for, starts}
+use Rattle.fw_node.specs.Agents.{AgentOf, activates, agent_becomes, agent_hears, agent_restarts, agent_tick_sends, agent_ticks, cancels, half_for, ready_for, starts}
 use Rattle.fw_node.specs.Cores.{TimedDevice, device_core}
 use Rattle.fw_node.specs.Halves.{HalfHeard, HalfOf, half_hears, half_ticks}
 use Rattle.fw_node.specs.Nodes.{DeviceNodeOf, device_hears, device_judges, device_restarts}
@@ -74,26 +76,34 @@ abbrev pub posts : ℕ → List SiteOf → List (List ℕ) → List SiteOf
 posts now xs [] = xs
 posts now xs (packet ∷ packets) = posts now (post now xs packet) packets
 
--- what the agent records: exactly what the records of a session rose by
-abbrev pub risen : TimedOf → TimedOf → List Recorded
-risen before after = drop (length before.session.records) after.session.records
+-- how many records a session has, and the one that stands behind so many
+abbrev pub made_by : Option (HalfOf TimedOf) → ℕ
+made_by None = 0
+made_by (Some h) = length h.core.session.records
 
-abbrev pub recorded_for : Option (HalfOf TimedOf) → Option (HalfOf TimedOf) → List NotedOf
-recorded_for (Some before) (Some after) = map (λ r. noted_of before.peer (EntryOf.Recording r)) (risen before.core after.core)
-recorded_for before after = []
+abbrev pub record_behind : ℕ → Option (HalfOf TimedOf) → Option Recorded
+record_behind made None = None
+record_behind made (Some h) = slice_get h.core.session.records made
 
--- The agent hears these bytes: the half of the device that sent them.
-abbrev pub recorded_in : AgentOf → AgentOf → Option ℕ → List NotedOf
-recorded_in before after place = recorded_for (half_at before.halves place) (half_at after.halves place)
+-- with the sender of a packet
+abbrev pub sender_of : Result (Head × List ℕ) WireFault → Option ℕ
+sender_of (Ok p) = Some p.0.source
+sender_of (Err fault) = None
 
+-- what the agent records in a call: the record that stands behind those of before
+abbrev pub recorded_from : AgentOf → AgentOf → Option ℕ → List NotedOf
+recorded_from before after None = []
+recorded_from before after (Some device) =
+    map (λ r. noted_of device (EntryOf.Recording r)) (option_to_list (record_behind (made_by (half_for before device)) (half_for after device)))
+
+-- The agent hears these bytes.
 abbrev pub at_agent : WorldOf → List ℕ → WorldOf
 at_agent w bytes =
     record w {
       agent = (agent_hears w.packages w.agent bytes w.now).agent;
       sites = posts w.now w.sites (all_packets (agent_hears w.packages w.agent bytes w.now).sent);
       history = w.history
-          ++ recorded_in w.agent (agent_hears w.packages w.agent bytes w.now).agent
-          (place_heard w.agent.halves (wire.packet_of bytes));
+        ++ recorded_from w.agent (agent_hears w.packages w.agent bytes w.now).agent (sender_of (wire.packet_of bytes));
     }
 
 -- what a device activates when its half hears: the images of a command that it takes
@@ -197,7 +207,7 @@ asks_log w (command ∷ bytes) =
 
 -- The world after a step. `works` says whether the one call of a bank that the step makes succeeds, and `faults` is that
 -- bank's count of failures then.
-unfoldable pub world_after : (works : Bool) → (faults : ℕ) → WorldOf → Step → WorldOf
+abbrev pub world_after : (works : Bool) → (faults : ℕ) → WorldOf → Step → WorldOf
 world_after works faults w (steps.Deliver device number node) =
     delivers works faults w node (numbered (packets_of w device) number)
 world_after works faults w steps.Tick = ticks w

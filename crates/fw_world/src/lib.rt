@@ -2,13 +2,18 @@
 //! image that a device activates and of every component that the agent records as applied.
 #![tactic(auto)]
 
+mod joined;
 mod laws;
 mod site;
+mod sites;
 mod step;
+mod world;
 
 pub use fw_message::{
     Entry, Event, Held, Image, MessageStep, MessageStepFault, MessageWorld, Side, Way,
     message_replay, messages_are_safe, runs_stay_tied, worlds_are_safe,
 };
+pub use joined::links_are_messages;
 pub use laws::links_are_lanes;
 pub use step::{LogRequest, Refusal, Step, StepFault};
+pub use world::World;

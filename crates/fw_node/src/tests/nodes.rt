@@ -1,6 +1,6 @@
 //! Rows of packets and ticks.
 
-use crate::tests::setup::{Event, agent_answers, device_fails};
+use crate::tests::setup::{Event, GET_STATUS, IDLE, agent_answers, device_fails};
 
 /// RequestUpdate: transfer size 240, one component, set text `A`; tag 0, identifier 0.
 const REQUEST_UPDATE: &[u8] = &[
@@ -12,14 +12,6 @@ const TAKEN: &[u8] = &[0x01, 8, 9, 0xC0, 0x01, 0, 0x05, 0x10, 0, 0, 0, 0];
 
 /// The device is in an update already.
 const ALREADY: &[u8] = &[0x01, 8, 9, 0xC0, 0x01, 0, 0x05, 0x10, 0x81];
-
-/// GetStatus, and its answer of an idle device that started anew.
-const GET_STATUS: &[u8] = &[0x01, 9, 8, 0xC8, 0x01, 0x80, 0x05, 0x1B];
-
-/// IDLE after a start, with nothing to tell.
-const IDLE: &[u8] = &[
-    0x01, 8, 9, 0xC0, 0x01, 0, 0x05, 0x1B, 0, 0, 0, 3, 0, 0x65, 0, 0, 0, 0, 0,
-];
 
 #[test]
 fn a_repeated_request_meets_its_kept_answer(rt: HostRuntime) {

@@ -15,10 +15,18 @@ pub const AGENT: u8 = 8;
 pub const DEVICE: u8 = 9;
 
 /// The device's component.
-const KEY: Key = Key {
+pub const KEY: Key = Key {
     classification: 10,
     identifier: 1,
 };
+
+/// GetStatus to the device.
+pub const GET_STATUS: &[u8] = &[0x01, 9, 8, 0xC8, 0x01, 0x80, 0x05, 0x1B];
+
+/// Its answer of an idle device that started anew.
+pub const IDLE: &[u8] = &[
+    0x01, 8, 9, 0xC0, 0x01, 0, 0x05, 0x1B, 0, 0, 0, 3, 0, 0x65, 0, 0, 0, 0, 0,
+];
 
 /// What happens to a node: a packet comes, or so many ticks pass in which it sends nothing, or it starts anew.
 #[derive(Clone, Copy)]

@@ -1,0 +1,242 @@
+//! The nodes of all devices in the world, in their order.
+
+ghost use Rattle.std.specs.Prelude.{[], ◌≡◌, ◌≤◌, ◌<◌, ◌+◌, ◌⊎◌, IfErr, IfSome, None, OnErr, OnOk, Some, ℕ, length, map, option_map, slice_get};
+ghost use Rattle.fw_message.specs.Entries.{entry_of};
+ghost use Rattle.fw_world.specs.Replays.{verdict_fault};
+ghost use Rattle.fw_world.specs.Sites.{HaveRoom, HeardAt, JudgedAt, sites_of};
+ghost use Rattle.fw_world.specs.Worlds.{place_for, place_of, post, posts, site_at, site_for, site_restarts, site_ticks};
+
+use crate::site::Site;
+use crate::step::StepFault;
+use fd_core::{Bank, Verdict};
+use fw_message::Entry;
+use fw_node::Outbox;
+use mctp_wire::RawPacket;
+use std::alloc::{AllocError, Global};
+
+/// Where the device of this identifier stands.
+pub(crate) fn place_of<B: Bank>(sites: &[Site<B>], eid: u8) -> Option<usize>
+    ensures place { result ≡ place_of (sites_of sites.now) eid }
+    ensures within { IfSome result (λ place. place < length sites.now) }
+{
+    for (place, site) in sites.iter().enumerate() {
+        if site.eid() == eid {
+            return Some(place);
+        }
+    }
+    None
+}
+
+/// What stands at the place of this identifier.
+#[tactic(auto, using(crate::proofs::Places::at_place))]
+pub(crate) fn site_for<B: Bank>(sites: &[Site<B>], eid: u8) -> Option<&Site<B>>
+    ensures { option_map (λ s. s.now.site) result ≡ site_for (sites_of sites.now) eid }
+{
+    let Some(place) = place_of(sites, eid) else {
+        return None;
+    };
+    Some(&sites[place])
+}
+
+/// Makes room for so many packets at each device.
+pub(crate) fn make_room<B: Bank>(
+    sites: &mut Vec<Site<B>>,
+    count: usize,
+) -> Result<(), AllocError>
+    ensures room { OnOk result (HaveRoom count sites.new.items) }
+    ensures same { sites_of sites.new.items ≡ sites_of sites.old.items }
+{
+    make_room_at(sites.as_mut_slice(), count)
+}
+
+/// The same over a slice.
+fn make_room_at<B: Bank>(sites: &mut [Site<B>], count: usize) -> Result<(), AllocError>
+    ensures room { OnOk result (HaveRoom count sites.new) }
+    ensures same { sites_of sites.new ≡ sites_of sites.old }
+    ensures count { length sites.new ≡ length sites.old }
+{
+    for site in sites.iter_mut() {
+        match site.make_room(count) {
+            Ok(()) => {}
+            Err(error) => return Err(error),
+        }
+    }
+    Ok(())
+}
+
+/// Puts each packet that the agent sent behind those of the device that it is for, dated now. There is room for them.
+pub(crate) fn post_all<B: Bank>(sites: &mut Vec<Site<B>>, now: u32, outbox: &mut Outbox)
+    requires room { HaveRoom 256 sites.old.items }
+    requires few { length outbox.old ≤ 128 }
+    ensures sites { sites_of sites.new.items ≡ posts now (sites_of sites.old.items) outbox.old }
+    ensures room { HaveRoom 128 sites.new.items }
+    ensures outbox { outbox.new ≡ [] }
+{
+    post_each(sites.as_mut_slice(), now, outbox);
+}
+
+/// The same over a slice.
+fn post_each<B: Bank>(sites: &mut [Site<B>], now: u32, outbox: &mut Outbox)
+    requires room { HaveRoom 256 sites.old }
+    requires few { length outbox.old ≤ 128 }
+    ensures sites { sites_of sites.new ≡ posts now (sites_of sites.old) outbox.old }
+    ensures room { HaveRoom 128 sites.new }
+    ensures outbox { outbox.new ≡ [] }
+    ensures count { length sites.new ≡ length sites.old }
+{
+    while let Some(packet) = outbox.pop() {
+        post(sites, now, packet);
+    }
+}
+
+/// Puts a packet that the agent sent behind those of the device that it is for. There is room for it.
+#[tactic(auto, using(crate::proofs::Places::post_nowhere))]
+fn post<B: Bank>(sites: &mut [Site<B>], now: u32, packet: RawPacket)
+    requires { HaveRoom 1 sites.old }
+    ensures sites { sites_of sites.new ≡ post now (sites_of sites.old) packet.items }
+    ensures room { (n : ℕ) → HaveRoom (n + 1) sites.old → HaveRoom n sites.new }
+    ensures count { length sites.new ≡ length sites.old }
+{
+    let Some(place) = place_for(sites, packet.as_slice()) else {
+        return;
+    };
+    sites[place].post(now, packet);
+}
+
+/// The place of the device that a packet is for, which its second byte says (DSP0236).
+fn place_for<B: Bank>(sites: &[Site<B>], packet: &[u8]) -> Option<usize>
+    ensures place { result ≡ place_for (sites_of sites.now) packet.now }
+    ensures within { IfSome result (λ place. place < length sites.now) }
+{
+    let [_, dest, ..] = packet else {
+        return None;
+    };
+    place_of(sites, *dest)
+}
+
+/// A tick passes for all devices; what they send is dated now.
+pub(crate) fn tick_all<B: Bank>(sites: &mut Vec<Site<B>>, now: u32, outbox: &mut Outbox)
+    requires room { HaveRoom 128 sites.old.items }
+    requires outbox { outbox.old ≡ [] }
+    ensures sites { sites_of sites.new.items ≡ map (site_ticks now) (sites_of sites.old.items) }
+    ensures outbox { outbox.new ≡ [] }
+{
+    tick_each(sites.as_mut_slice(), now, outbox);
+}
+
+/// The same over a slice.
+fn tick_each<B: Bank>(sites: &mut [Site<B>], now: u32, outbox: &mut Outbox)
+    requires room { HaveRoom 128 sites.old }
+    requires outbox { outbox.old ≡ [] }
+    ensures sites { sites_of sites.new ≡ map (site_ticks now) (sites_of sites.old) }
+    ensures outbox { outbox.new ≡ [] }
+    ensures count { length sites.new ≡ length sites.old }
+{
+    for site in sites.iter_mut() {
+        site.tick(now, outbox);
+    }
+}
+
+/// The node at a place hears the bytes of a packet; what it sends is dated now, and what it activates is noted.
+pub(crate) fn hear_at<B: Bank>(
+    sites: &mut Vec<Site<B>>,
+    place: usize,
+    alloc: Global,
+    now: u32,
+    bytes: &[u8],
+    outbox: &mut Outbox,
+    history: &mut Vec<Entry>,
+) -> Result<(), AllocError>
+    requires place { place < length sites.old.items }
+    requires outbox { outbox.old ≡ [] }
+    ensures heard { OnOk result (HeardAt now (sites_of sites.old.items) place bytes.now (sites_of sites.new.items) (map entry_of history.old.items) (map entry_of history.new.items)) }
+    ensures same { OnErr result (sites_of sites.new.items ≡ sites_of sites.old.items) }
+    ensures unnoted { OnErr result (map entry_of history.new.items ≡ map entry_of history.old.items) }
+    ensures outbox { outbox.new ≡ [] }
+{
+    hear_in(sites.as_mut_slice(), place, alloc, now, bytes, outbox, history)
+}
+
+/// The same over a slice.
+fn hear_in<B: Bank>(
+    sites: &mut [Site<B>],
+    place: usize,
+    alloc: Global,
+    now: u32,
+    bytes: &[u8],
+    outbox: &mut Outbox,
+    history: &mut Vec<Entry>,
+) -> Result<(), AllocError>
+    requires place { place < length sites.old }
+    requires outbox { outbox.old ≡ [] }
+    ensures heard { OnOk result (HeardAt now (sites_of sites.old) place bytes.now (sites_of sites.new) (map entry_of history.old.items) (map entry_of history.new.items)) }
+    ensures same { OnErr result (sites_of sites.new ≡ sites_of sites.old) }
+    ensures unnoted { OnErr result (map entry_of history.new.items ≡ map entry_of history.old.items) }
+    ensures outbox { outbox.new ≡ [] }
+    ensures count { length sites.new ≡ length sites.old }
+{
+    match sites[place].hear(alloc, now, bytes, outbox, history) {
+        Ok(()) => {}
+        Err(error) => return Err(error),
+    }
+    Ok(())
+}
+
+/// The node at a place has a verdict; what it applies is noted.
+pub(crate) fn judge_at<B: Bank>(
+    sites: &mut Vec<Site<B>>,
+    place: usize,
+    alloc: Global,
+    verdict: Verdict,
+    history: &mut Vec<Entry>,
+) -> Result<(), StepFault>
+    requires place { place < length sites.old.items }
+    ensures judged { OnOk result (JudgedAt (sites_of sites.old.items) place verdict (sites_of sites.new.items) (map entry_of history.old.items) (map entry_of history.new.items)) }
+    ensures may { OnOk result (verdict_fault verdict (slice_get (sites_of sites.old.items) place) ≡ None) }
+    ensures refused { IfErr result (λ e. (verdict_fault verdict (slice_get (sites_of sites.old.items) place) ≡ Some e) ⊎ ((e ≡ StepFault.Memory) × (verdict_fault verdict (slice_get (sites_of sites.old.items) place) ≡ None))) }
+    ensures same { OnErr result (sites_of sites.new.items ≡ sites_of sites.old.items) }
+    ensures unnoted { OnErr result (map entry_of history.new.items ≡ map entry_of history.old.items) }
+{
+    judge_in(sites.as_mut_slice(), place, alloc, verdict, history)
+}
+
+/// The same over a slice.
+fn judge_in<B: Bank>(
+    sites: &mut [Site<B>],
+    place: usize,
+    alloc: Global,
+    verdict: Verdict,
+    history: &mut Vec<Entry>,
+) -> Result<(), StepFault>
+    requires place { place < length sites.old }
+    ensures judged { OnOk result (JudgedAt (sites_of sites.old) place verdict (sites_of sites.new) (map entry_of history.old.items) (map entry_of history.new.items)) }
+    ensures may { OnOk result (verdict_fault verdict (slice_get (sites_of sites.old) place) ≡ None) }
+    ensures refused { IfErr result (λ e. (verdict_fault verdict (slice_get (sites_of sites.old) place) ≡ Some e) ⊎ ((e ≡ StepFault.Memory) × (verdict_fault verdict (slice_get (sites_of sites.old) place) ≡ None))) }
+    ensures same { OnErr result (sites_of sites.new ≡ sites_of sites.old) }
+    ensures unnoted { OnErr result (map entry_of history.new.items ≡ map entry_of history.old.items) }
+    ensures count { length sites.new ≡ length sites.old }
+{
+    match sites[place].judge(alloc, verdict, history) {
+        Ok(()) => {}
+        Err(fault) => return Err(fault),
+    }
+    Ok(())
+}
+
+/// The node at a place starts anew.
+pub(crate) fn restart_at<B: Bank>(sites: &mut Vec<Site<B>>, place: usize)
+    requires { place < length sites.old.items }
+    ensures { sites_of sites.new.items ≡ site_restarts (sites_of sites.old.items) (Some place) (slice_get (sites_of sites.old.items) place) }
+{
+    restart_in(sites.as_mut_slice(), place);
+}
+
+/// The same over a slice.
+#[tactic(auto, using(crate::proofs::Places::restart_there))]
+fn restart_in<B: Bank>(sites: &mut [Site<B>], place: usize)
+    requires { place < length sites.old }
+    ensures sites { sites_of sites.new ≡ site_restarts (sites_of sites.old) (Some place) (slice_get (sites_of sites.old) place) }
+    ensures count { length sites.new ≡ length sites.old }
+{
+    sites[place].restart();
+}
