@@ -90,7 +90,6 @@ pub projection : (law : LaneIsACell) (works : Bool) (faults : ℕ) (w : WorldOf)
     → ((device : ℕ) (d : LinkOf) → link_at w device ≡ Some d → IfSome (link_step works w.agent.endpoint.eid s device) (CanBeSaid w.packages d))
     → link_at w eid ≡ Some l
     → StepsTo w.now w.packages l (link_step works w.agent.endpoint.eid s eid) (link_at (world_after works faults w s) eid)
-unfolding world_after
 projection law works faults w (steps.Deliver device number node) eid l k may said is =
     let known = both_hold (is_device w device) (is_node w node) (known_both (is_device w device && is_node w node) (packet_fault w.now (numbered (packets_of w device) number)) may) in
     linked_by law works faults w device number node eid l (link_at w device) k refl (k.known device known.0) is
