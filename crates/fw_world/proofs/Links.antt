@@ -8,6 +8,7 @@ pub mod Firsts
 pub mod Goes
 pub mod Hears
 pub mod InLanes
+pub mod Keys
 pub mod Listed
 pub mod Misses
 pub mod Moves

@@ -52,12 +52,12 @@ stranger_at w bytes p eid hears reads none =
 abbrev pub heard_half : WorldOf → List ℕ → HalfOf TimedOf → HalfOf TimedOf
 heard_half w bytes h = (finished roles.Agent w.agent.endpoint w.agent.tid (half_hears (session_core w.packages) true h bytes)).half
 
-heard_half_peer : (w : WorldOf) (bytes : List ℕ) (h : HalfOf TimedOf) → (heard_half w bytes h).peer ≡ h.peer
+pub heard_half_peer : (w : WorldOf) (bytes : List ℕ) (h : HalfOf TimedOf) → (heard_half w bytes h).peer ≡ h.peer
 heard_half_peer w bytes h =
     finished_peer roles.Agent w.agent.endpoint w.agent.tid (half_hears (session_core w.packages) true h bytes)
     ∙ rows_peer (session_core w.packages) true h (asker_row h.own h.peer h.asker bytes) (taker_row h.own h.peer h.taker bytes)
 
-hears_put : (w : WorldOf) (bytes : List ℕ) (o : Option ℕ) (s : Option (HalfOf TimedOf))
+pub hears_put : (w : WorldOf) (bytes : List ℕ) (o : Option ℕ) (s : Option (HalfOf TimedOf))
     → (hears_at w.packages w.agent bytes w.now o s).agent.halves ≡ put_at (heard_half w bytes) w.agent.halves o s
 hears_put w bytes None s = refl
 hears_put w bytes (Some place) None = refl

@@ -31,7 +31,7 @@ same_place : (n : ℕ) (hs : List (HalfOf TimedOf)) (eid : ℕ) → place_from n
 same_place n [] eid = refl
 same_place n (h ∷ hs) eid = ap (λ o. if h.peer == eid then Some n else o) (same_place (n + 1) hs eid)
 
-same_half : (hs : List (HalfOf TimedOf)) (o : Option ℕ) → half_at hs o ≡ at_place hs o
+pub same_half : (hs : List (HalfOf TimedOf)) (o : Option ℕ) → half_at hs o ≡ at_place hs o
 same_half hs None = refl
 same_half hs (Some i) = refl
 
@@ -175,7 +175,7 @@ all_soon deaf (h ∷ hs) soon k = (rw k.0.asking soon, rw k.0.answering soon, al
 abbrev pub half_after_tick : List PackageText → HalfOf TimedOf → HalfOf TimedOf
 half_after_tick packages h = (half_ticks (session_core packages) true h).half
 
-halves_after_tick : (packages : List PackageText) (now : ℕ) (n : AgentOf) → AllByRecursion (IsHalfOf n.deaf) n.halves → (agent_ticks packages now n).halves ≡ map (half_after_tick packages) n.halves
+pub halves_after_tick : (packages : List PackageText) (now : ℕ) (n : AgentOf) → AllByRecursion (IsHalfOf n.deaf) n.halves → (agent_ticks packages now n).halves ≡ map (half_after_tick packages) n.halves
 halves_after_tick packages now n k = elim (cases_lt 1 n.deaf) [
   | inl more ↦ rw (lt-leb n.deaf 1 more) refl
   | inr soon ↦ rw (le-leb n.deaf 1 soon) (agent_halves_after packages n.halves (all_soon n.deaf n.halves soon k))

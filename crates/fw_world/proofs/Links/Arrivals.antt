@@ -78,13 +78,13 @@ heard_on_device works now bytes l = record l {
   packets = posted now l.packets (sent_in (half_hears device_core works l.device bytes));
 }
 
-device_put : (works : Bool) (faults : ℕ) (w : WorldOf) (bytes : List ℕ) (o : Option ℕ) (s : Option SiteOf)
+pub device_put : (works : Bool) (faults : ℕ) (w : WorldOf) (bytes : List ℕ) (o : Option ℕ) (s : Option SiteOf)
     → (at_device works faults w bytes o s).sites ≡ put_at (heard_site works faults w.now bytes) w.sites o s
 device_put works faults w bytes None s = refl
 device_put works faults w bytes (Some p) None = refl
 device_put works faults w bytes (Some p) (Some x) = refl
 
-device_agent : (works : Bool) (faults : ℕ) (w : WorldOf) (bytes : List ℕ) (o : Option ℕ) (s : Option SiteOf) → (at_device works faults w bytes o s).agent ≡ w.agent
+pub device_agent : (works : Bool) (faults : ℕ) (w : WorldOf) (bytes : List ℕ) (o : Option ℕ) (s : Option SiteOf) → (at_device works faults w bytes o s).agent ≡ w.agent
 device_agent works faults w bytes None s = refl
 device_agent works faults w bytes (Some p) None = refl
 device_agent works faults w bytes (Some p) (Some x) = refl

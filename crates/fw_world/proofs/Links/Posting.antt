@@ -21,7 +21,7 @@ same_place : (n : ℕ) (xs : List SiteOf) (eid : ℕ) → place_from n xs eid �
 same_place n [] eid = refl
 same_place n (x ∷ xs) eid = ap (λ o. if x.node.endpoint.eid == eid then Some n else o) (same_place (n + 1) xs eid)
 
-same_site : (xs : List SiteOf) (o : Option ℕ) → site_at xs o ≡ at_place xs o
+pub same_site : (xs : List SiteOf) (o : Option ℕ) → site_at xs o ≡ at_place xs o
 same_site xs None = refl
 same_site xs (Some i) = refl
 

@@ -74,7 +74,7 @@ agent_link_if : (here : Bool) (g : HalfOf TimedOf → HalfOf TimedOf) (o : Optio
 agent_link_if true g o s = agent_link g o s
 agent_link_if false g o s = refl
 
-becomes_put : (n : AgentOf) (now : ℕ) (g : HalfOf TimedOf → HalfOf TimedOf) (o : Option ℕ) (s : Option (HalfOf TimedOf)) → (becomes_at n now g o s).halves ≡ put_at g n.halves o s
+pub becomes_put : (n : AgentOf) (now : ℕ) (g : HalfOf TimedOf → HalfOf TimedOf) (o : Option ℕ) (s : Option (HalfOf TimedOf)) → (becomes_at n now g o s).halves ≡ put_at g n.halves o s
 becomes_put n now g None s = refl
 becomes_put n now g (Some p) None = refl
 becomes_put n now g (Some p) (Some h) = refl
@@ -112,7 +112,7 @@ device_link_if : (here : Bool) (f : SiteOf → SiteOf) (g : HalfOf TimedDevice �
 device_link_if true f g acts o s = device_link f g acts o s
 device_link_if false f g acts o s = refl
 
-restarts_put : (xs : List SiteOf) (o : Option ℕ) (s : Option SiteOf) → site_restarts xs o s ≡ put_at (λ x. record x { node = device_restarts x.node }) xs o s
+pub restarts_put : (xs : List SiteOf) (o : Option ℕ) (s : Option SiteOf) → site_restarts xs o s ≡ put_at (λ x. record x { node = device_restarts x.node }) xs o s
 restarts_put xs None s = refl
 restarts_put xs (Some p) None = refl
 restarts_put xs (Some p) (Some x) = refl
@@ -130,16 +130,16 @@ device_restart_at w node eid =
 abbrev pub judged_by : Verdict → Bool → HalfOf TimedDevice → HalfOf TimedDevice
 judged_by verdict works h = recast device_core h (record { device = verdict_after h.core.device verdict works; idle = 0 })
 
-abbrev judged_site : Bool → (faults : ℕ) → Verdict → SiteOf → SiteOf
+abbrev pub judged_site : Bool → (faults : ℕ) → Verdict → SiteOf → SiteOf
 judged_site works faults verdict x = record x { node = node_becomes x.node faults x.node.tid (device_judges works x.node verdict) }
 
-judges_put : (works : Bool) (faults : ℕ) (w : WorldOf) (verdict : Verdict) (o : Option ℕ) (s : Option SiteOf)
+pub judges_put : (works : Bool) (faults : ℕ) (w : WorldOf) (verdict : Verdict) (o : Option ℕ) (s : Option SiteOf)
     → (judges works faults w verdict o s).sites ≡ put_at (judged_site works faults verdict) w.sites o s
 judges_put works faults w verdict None s = refl
 judges_put works faults w verdict (Some p) None = refl
 judges_put works faults w verdict (Some p) (Some x) = refl
 
-judges_agent : (works : Bool) (faults : ℕ) (w : WorldOf) (verdict : Verdict) (o : Option ℕ) (s : Option SiteOf) → (judges works faults w verdict o s).agent ≡ w.agent
+pub judges_agent : (works : Bool) (faults : ℕ) (w : WorldOf) (verdict : Verdict) (o : Option ℕ) (s : Option SiteOf) → (judges works faults w verdict o s).agent ≡ w.agent
 judges_agent works faults w verdict None s = refl
 judges_agent works faults w verdict (Some p) None = refl
 judges_agent works faults w verdict (Some p) (Some x) = refl
