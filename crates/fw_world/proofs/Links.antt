@@ -14,6 +14,7 @@ pub mod Misses
 pub mod Moves
 pub mod Openings
 pub mod Phases
+pub mod Places
 pub mod Posting
 pub mod Projected
 pub mod Projection

@@ -14,7 +14,7 @@ use Rattle.fw_world.proofs.Links.Posting.{site_eid, site_is_first}
 use Rattle.fw_world.proofs.Links.Projection.{link_at, link_from}
 
 -- a fact of each, one after the other
-every : {A : Type 0} (P : A → Type 0) (xs : List A) → All P xs → AllByRecursion P xs
+pub every : {A : Type 0} (P : A → Type 0) (xs : List A) → All P xs → AllByRecursion P xs
 every P [] h = tt
 every P (x ∷ xs) h = (h zero x (omega arith), every P xs (λ k d lt. h (suc k) d (omega (arith, lt))))
 
@@ -52,11 +52,11 @@ links_in (h ∷ hs) (x ∷ xs) = record { agent = h; device = x.node.half; packe
 abbrev pub links_of : WorldOf → List LinkOf
 links_of w = links_in w.agent.halves w.sites
 
-no_link : (o : Option (HalfOf TimedOf)) → None ≡ link_from o None
+pub no_link : (o : Option (HalfOf TimedOf)) → None ≡ link_from o None
 no_link None = refl
 no_link (Some h) = refl
 
-link_in_place : (hs : List (HalfOf TimedOf)) (xs : List SiteOf) (i : ℕ) → slice_get (links_in hs xs) i ≡ link_from (slice_get hs i) (slice_get xs i)
+pub link_in_place : (hs : List (HalfOf TimedOf)) (xs : List SiteOf) (i : ℕ) → slice_get (links_in hs xs) i ≡ link_from (slice_get hs i) (slice_get xs i)
 link_in_place [] xs i = refl
 link_in_place (h ∷ hs) [] i = no_link (slice_get (h ∷ hs) i)
 link_in_place (h ∷ hs) (x ∷ xs) zero = refl
