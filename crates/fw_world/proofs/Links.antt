@@ -8,10 +8,13 @@ pub mod Firsts
 pub mod Goes
 pub mod Hears
 pub mod InLanes
+pub mod Keys
+pub mod Listed
 pub mod Misses
 pub mod Moves
 pub mod Openings
 pub mod Phases
+pub mod Places
 pub mod Posting
 pub mod Projected
 pub mod Projection
@@ -21,3 +24,4 @@ pub mod Sendings
 pub mod Sorted
 pub mod Ticks
 pub mod Ways
+pub mod WorldSteps

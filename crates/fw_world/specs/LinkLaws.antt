@@ -43,10 +43,12 @@ pub record GoesAlong (before after : List EntryOf → LaneOf) (steps : List Step
   pub cell_before : IsCellOf (before was.entries) was
   pub cell_after : IsCellOf (after is.entries) is
 
--- The link takes the step, it is explained again, and both of its lanes go along.
+-- The link takes the step and stays between its two nodes, it is explained again, and both of its lanes go along.
 pub record StepsInLanes (now : ℕ) (packages : List PackageText) (l : LinkOf) (s : LinkStep) (before : LinkExplained now l) : Type 0 where
   pub stepped : LinkStepped
   pub after : link_after now packages l s ≡ Some stepped
+  pub agent_own : stepped.after.agent.own ≡ l.agent.own
+  pub device_own : stepped.after.device.own ≡ l.device.own
   pub explained : LinkExplained (time_after now s) stepped.after
   pub down : GoesAlong (down_lane now l) (down_lane (time_after now s) stepped.after) (down_steps packages l s) before.down.run explained.down.run
   pub up : GoesAlong (up_lane now l) (up_lane (time_after now s) stepped.after) (up_steps packages l s) before.up.run explained.up.run

@@ -1,5 +1,5 @@
 -- A packet that comes to the agent, on the link of each device.
-use Rattle.std.proofs.Common.{◌≡◌, ◌≢◌, ◌∙◌, ◌+◌, ◌==◌, ℕ, Bool, true, false, if◌then◌else◌, List, [], ◌∷◌, ◌++◌, map, Option, Some, None, IfSome, Ok, inl, inr, refl, sym, ap, subst}
+use Rattle.std.proofs.Common.{◌≡◌, ◌≢◌, ◌∙◌, ◌==◌, ℕ, true, if◌then◌else◌, List, [], ◌++◌, Option, Some, None, Ok, inl, inr, refl, sym, ap, subst}
 use Rattle.std.specs.List.{AllByRecursion, filter}
 use Rattle.std.specs.Option.{option_map}
 use Rattle.std.proofs.lemmas.Bool.{eq-eqb, ne_eqb}
@@ -9,10 +9,10 @@ use Rattle.mctp_wire.specs.declared.layout.Head.{Head}
 use Rattle.pldm_base.specs.declared.terminus.Role.TheVariants as roles
 use Rattle.pldm_exch.specs.Sides.{asker_row, taker_row}
 use Rattle.ua_core.specs.Session.{TimedOf}
-use Rattle.fw_node.specs.Agents.{AgentHeard, AgentOf, agent_hears, agent_unmoved, half_at, half_for, hears_at, place_of as half_place}
+use Rattle.fw_node.specs.Agents.{AgentOf, agent_hears, agent_unmoved, half_at, half_for, hears_at, place_of as half_place}
 use Rattle.fw_node.specs.Cores.{session_core}
 use Rattle.fw_node.specs.Halves.{HalfOf, half_hears}
-use Rattle.fw_node.specs.Nodes.{NodeHeard, finished}
+use Rattle.fw_node.specs.Nodes.{finished}
 use Rattle.fw_node.specs.Packets.{all_packets}
 use Rattle.fw_package.specs.Package.{PackageText}
 use Rattle.fw_world.specs.Links.{LinkOf, posted}
@@ -52,12 +52,12 @@ stranger_at w bytes p eid hears reads none =
 abbrev pub heard_half : WorldOf → List ℕ → HalfOf TimedOf → HalfOf TimedOf
 heard_half w bytes h = (finished roles.Agent w.agent.endpoint w.agent.tid (half_hears (session_core w.packages) true h bytes)).half
 
-heard_half_peer : (w : WorldOf) (bytes : List ℕ) (h : HalfOf TimedOf) → (heard_half w bytes h).peer ≡ h.peer
+pub heard_half_peer : (w : WorldOf) (bytes : List ℕ) (h : HalfOf TimedOf) → (heard_half w bytes h).peer ≡ h.peer
 heard_half_peer w bytes h =
     finished_peer roles.Agent w.agent.endpoint w.agent.tid (half_hears (session_core w.packages) true h bytes)
     ∙ rows_peer (session_core w.packages) true h (asker_row h.own h.peer h.asker bytes) (taker_row h.own h.peer h.taker bytes)
 
-hears_put : (w : WorldOf) (bytes : List ℕ) (o : Option ℕ) (s : Option (HalfOf TimedOf))
+pub hears_put : (w : WorldOf) (bytes : List ℕ) (o : Option ℕ) (s : Option (HalfOf TimedOf))
     → (hears_at w.packages w.agent bytes w.now o s).agent.halves ≡ put_at (heard_half w bytes) w.agent.halves o s
 hears_put w bytes None s = refl
 hears_put w bytes (Some place) None = refl
@@ -122,10 +122,10 @@ agent_hears_at w bytes p h eid hears reads there k home =
     let half = half_for w.agent p.0.source in
     let heard = half_hears (session_core w.packages) true h bytes in
     let sent : (hears_at w.packages w.agent bytes w.now place half).sent ≡ sent_in heard =
-        hears_sends w bytes place half h refl there ∙ finished_sent roles.Agent w.agent.endpoint w.agent.tid heard k in
+    hears_sends w bytes place half h refl there ∙ finished_sent roles.Agent w.agent.endpoint w.agent.tid heard k in
     let sites : site_for (posts w.now w.sites (all_packets (hears_at w.packages w.agent bytes w.now place half).sent)) eid
-        ≡ option_map (with_packets w.now (filter (is_to eid) (all_packets (sent_in heard)))) (site_for w.sites eid) =
-        ap (λ ms. site_for (posts w.now w.sites (all_packets ms)) eid) sent ∙ posts_at w.now (all_packets (sent_in heard)) w.sites eid in
+    ≡ option_map (with_packets w.now (filter (is_to eid) (all_packets (sent_in heard)))) (site_for w.sites eid) =
+    ap (λ ms. site_for (posts w.now w.sites (all_packets ms)) eid) sent ∙ posts_at w.now (all_packets (sent_in heard)) w.sites eid in
     ap (λ n. link_from (half_for n.agent eid) (site_for (posts w.now w.sites (all_packets n.sent)) eid)) (heard_from w bytes p hears reads)
     ∙ ap (λ s. link_from (half_for (hears_at w.packages w.agent bytes w.now place half).agent eid) s) sites
     ∙ ap (λ hs. link_from (half_at hs (half_place hs eid)) (option_map (with_packets w.now (filter (is_to eid) (all_packets (sent_in heard)))) (site_for w.sites eid))) (hears_put w bytes place half)

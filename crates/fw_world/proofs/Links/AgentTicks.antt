@@ -1,14 +1,14 @@
 -- What the agent's tick is for one of its devices.
-use Rattle.std.proofs.Common.{◌≡◌, ◌≢◌, ◌∙◌, ◌+◌, ◌-◌, ◌==◌, ◌≤◌, ◌<◌, ℕ, zero, suc, Bool, true, false, if◌then◌else◌, List, [], ◌∷◌, ◌++◌, flat_map, map, nat_le, slice_get, slice_set, Option, Some, None, IfSome, inl, inr, refl, sym, ap, subst, arith}
+use Rattle.std.proofs.Common.{◌≡◌, ◌≢◌, ◌∙◌, ◌+◌, ◌==◌, ◌≤◌, ◌<◌, ℕ, true, if◌then◌else◌, List, [], ◌∷◌, ◌++◌, flat_map, map, slice_set, Option, Some, None, IfSome, inl, inr, refl, sym, ap, subst}
 use Rattle.std.specs.List.{AllByRecursion, filter}
 use Rattle.std.specs.Option.{option_map}
-use Rattle.std.proofs.lemmas.Bool.{cases_lt, eq-eqb, le-leb, lt-leb, ne_eqb}
+use Rattle.std.proofs.lemmas.Bool.{cases_lt, le-leb, lt-leb}
 use Rattle.std.proofs.lemmas.Bool.Decides.{eqb_tells}
 use Rattle.std.proofs.lemmas.List.{append-nil}
 use Rattle.std.proofs.lemmas.List.Elements.{filter-append}
 use Rattle.fw_package.specs.Package.{PackageText}
 use Rattle.ua_core.specs.Session.{TimedOf}
-use Rattle.fw_node.specs.Agents.{AgentOf, again_packets, agent_tick_sends, agent_ticks, ended, ended_packets, grown, half_at, half_for, place_from, place_of}
+use Rattle.fw_node.specs.Agents.{AgentOf, again_packets, agent_tick_sends, agent_ticks, ended_packets, grown, half_at, half_for, place_from, place_of}
 use Rattle.fw_node.specs.Cores.{session_core}
 use Rattle.fw_node.specs.Halves.{HalfOf, half_ticks}
 use Rattle.fw_node.specs.Packets.{all_packets}
@@ -31,7 +31,7 @@ same_place : (n : ℕ) (hs : List (HalfOf TimedOf)) (eid : ℕ) → place_from n
 same_place n [] eid = refl
 same_place n (h ∷ hs) eid = ap (λ o. if h.peer == eid then Some n else o) (same_place (n + 1) hs eid)
 
-same_half : (hs : List (HalfOf TimedOf)) (o : Option ℕ) → half_at hs o ≡ at_place hs o
+pub same_half : (hs : List (HalfOf TimedOf)) (o : Option ℕ) → half_at hs o ≡ at_place hs o
 same_half hs None = refl
 same_half hs (Some i) = refl
 
@@ -175,7 +175,7 @@ all_soon deaf (h ∷ hs) soon k = (rw k.0.asking soon, rw k.0.answering soon, al
 abbrev pub half_after_tick : List PackageText → HalfOf TimedOf → HalfOf TimedOf
 half_after_tick packages h = (half_ticks (session_core packages) true h).half
 
-halves_after_tick : (packages : List PackageText) (now : ℕ) (n : AgentOf) → AllByRecursion (IsHalfOf n.deaf) n.halves → (agent_ticks packages now n).halves ≡ map (half_after_tick packages) n.halves
+pub halves_after_tick : (packages : List PackageText) (now : ℕ) (n : AgentOf) → AllByRecursion (IsHalfOf n.deaf) n.halves → (agent_ticks packages now n).halves ≡ map (half_after_tick packages) n.halves
 halves_after_tick packages now n k = elim (cases_lt 1 n.deaf) [
   | inl more ↦ rw (lt-leb n.deaf 1 more) refl
   | inr soon ↦ rw (le-leb n.deaf 1 soon) (agent_halves_after packages n.halves (all_soon n.deaf n.halves soon k))

@@ -1,12 +1,7 @@
 -- A packet that comes to a node of the world, on the link of each device.
-use Rattle.std.proofs.Common.{◌≡◌, ◌≢◌, ◌∙◌, ◌+◌, ◌==◌, ℕ, Bool, true, false, if◌then◌else◌, List, [], ◌∷◌, ◌++◌, map, slice_set, Option, Some, None, IfSome, Ok, inl, inr, refl, sym, ap, subst}
-use Rattle.std.specs.List.{AllByRecursion, filter}
+use Rattle.std.proofs.Common.{◌≡◌, ◌∙◌, ◌==◌, ℕ, Bool, true, false, if◌then◌else◌, List, ◌++◌, Option, Some, None, IfSome, Ok, refl, sym, ap}
 use Rattle.std.specs.Option.{option_map}
-use Rattle.std.proofs.lemmas.Bool.{eq-eqb, ne_eqb}
-use Rattle.std.proofs.lemmas.Bool.Decides.{eqb_tells}
 use Rattle.mctp_ctl.specs.declared.answers.Endpoint.{Endpoint}
-use Rattle.mctp_wire.specs.Packet as wire
-use Rattle.mctp_wire.specs.declared.layout.Head.{Head}
 use Rattle.pldm_base.specs.declared.terminus.Role.{Role}
 use Rattle.pldm_base.specs.declared.terminus.Role.TheVariants as roles
 use Rattle.fwup_wire.specs.Values.{CommandOf}
@@ -14,22 +9,20 @@ use Rattle.mctp_reasm.specs.Held.{Held}
 use Rattle.mctp_reasm.specs.Pieces.{MessageOf}
 use Rattle.pldm_base.specs.declared.header.PldmHead.{PldmHead}
 use Rattle.pldm_exch.specs.Caller.{is_quiet}
-use Rattle.pldm_exch.specs.Sides.{AskerRow, TakerRow, asker_row, taker_row}
+use Rattle.pldm_exch.specs.Sides.{AskerRow, TakerRow}
 use Rattle.std.specs.Prelude.{Result, Err}
 use Rattle.ua_core.specs.Session.{TimedOf}
-use Rattle.fw_node.specs.Agents.{AgentHeard, AgentOf, agent_hears, half_at, half_for, hears_at, place_of as half_place}
-use Rattle.fw_node.specs.Cores.{TimedDevice, device_core, session_core}
+use Rattle.fw_node.specs.Agents.{half_for}
+use Rattle.fw_node.specs.Cores.{device_core}
 use Rattle.fw_node.specs.Halves.{CoreOf, HalfHeard, HalfOf, half_hears, half_hears_by, half_takes, read_by, takes_if, takes_read}
 use Rattle.fw_node.specs.Nodes.{device_hears, finished}
 use Rattle.fw_node.specs.Packets.{all_packets}
 use Rattle.fw_world.specs.Links.{LinkOf, posted}
-use Rattle.fw_world.specs.Worlds.{SiteOf, WorldOf, at_agent, at_device, node_becomes, place_of, posts, sent_now, site_for}
-use Rattle.fw_world.proofs.Links.AgentTicks.{half_put}
+use Rattle.fw_world.specs.Worlds.{SiteOf, WorldOf, at_device, node_becomes, place_of, sent_now, site_for}
 use Rattle.fw_world.proofs.Links.Firsts.{put_at}
 use Rattle.fw_world.proofs.Links.Hears.{IsPassed, half_in, sent_in}
-use Rattle.fw_world.proofs.Links.Posting.{all_mine, is_to, none_behind, none_mine, posts_at, site_put, with_packets}
+use Rattle.fw_world.proofs.Links.Posting.{site_put}
 use Rattle.fw_world.proofs.Links.Projection.{link_at, link_from}
-use Rattle.fw_world.proofs.Links.Sendings.{GoesTo}
 use Rattle.fw_world.proofs.Links.Sorted.{posted_behind}
 
 -- what a node makes of what went through its half
@@ -85,13 +78,13 @@ heard_on_device works now bytes l = record l {
   packets = posted now l.packets (sent_in (half_hears device_core works l.device bytes));
 }
 
-device_put : (works : Bool) (faults : ℕ) (w : WorldOf) (bytes : List ℕ) (o : Option ℕ) (s : Option SiteOf)
+pub device_put : (works : Bool) (faults : ℕ) (w : WorldOf) (bytes : List ℕ) (o : Option ℕ) (s : Option SiteOf)
     → (at_device works faults w bytes o s).sites ≡ put_at (heard_site works faults w.now bytes) w.sites o s
 device_put works faults w bytes None s = refl
 device_put works faults w bytes (Some p) None = refl
 device_put works faults w bytes (Some p) (Some x) = refl
 
-device_agent : (works : Bool) (faults : ℕ) (w : WorldOf) (bytes : List ℕ) (o : Option ℕ) (s : Option SiteOf) → (at_device works faults w bytes o s).agent ≡ w.agent
+pub device_agent : (works : Bool) (faults : ℕ) (w : WorldOf) (bytes : List ℕ) (o : Option ℕ) (s : Option SiteOf) → (at_device works faults w bytes o s).agent ≡ w.agent
 device_agent works faults w bytes None s = refl
 device_agent works faults w bytes (Some p) None = refl
 device_agent works faults w bytes (Some p) (Some x) = refl

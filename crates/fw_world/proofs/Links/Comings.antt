@@ -162,7 +162,7 @@ comes_as_reply law core works now a b ps h number s is soon mine =
     (reply_comes law core works now a b ps h row n s refl (lane_number (is_of a.own b.own) ps number s is mine) soon)
 
 -- a fact of all packets, of one of them
-fact_at : {A : Type 0} (P : A → Type 0) (xs : List A) (i : ℕ) (x : A) → AllByRecursion P xs → slice_get xs i ≡ Some x → P x
+pub fact_at : {A : Type 0} (P : A → Type 0) (xs : List A) (i : ℕ) (x : A) → AllByRecursion P xs → slice_get xs i ≡ Some x → P x
 fact_at P [] i x h e = absurd (cc)
 fact_at P (y ∷ ys) zero x h e = let is : y ≡ x = cc in rw is at h.0
 fact_at P (y ∷ ys) (suc i) x h e = fact_at P ys i x h.1 e

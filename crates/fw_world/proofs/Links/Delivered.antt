@@ -1,8 +1,8 @@
 -- A packet that comes in the world comes on its device's link, and is nothing to the others.
-use Rattle.std.proofs.Common.{◌≡◌, ◌≢◌, ◌⊎◌, ◌∙◌, ◌+◌, ◌==◌, ◌&&◌, ◌||◌, ◌≤◌, ◌<◌, ℕ, Bool, true, false, if◌then◌else◌, is_some, List, [], ◌∷◌, nat_lt, Option, Some, None, IfSome, IsSomeAnd, Ok, inl, inr, refl, sym, ap, subst, arith}
+use Rattle.std.proofs.Common.{◌≡◌, ◌≢◌, ◌⊎◌, ◌∙◌, ◌+◌, ◌==◌, ◌≤◌, ℕ, Bool, true, false, if◌then◌else◌, List, [], Option, Some, None, IfSome, IsSomeAnd, Ok, inl, inr, refl, sym, ap, subst}
 use Rattle.std.specs.List.{AllByRecursion}
 use Rattle.std.specs.Option.{option_map}
-use Rattle.std.proofs.lemmas.Bool.{cases_lt, eqb-true, le-ltb, lt-ltb, ne_eqb}
+use Rattle.std.proofs.lemmas.Bool.{le-ltb}
 use Rattle.std.proofs.lemmas.Bool.Decides.{eqb_tells}
 use Rattle.mctp_wire.specs.Packet as wire
 use Rattle.mctp_wire.specs.declared.layout.Head.{Head}
@@ -13,14 +13,12 @@ use Rattle.ua_core.specs.Session.{TimedOf}
 use Rattle.fw_message.specs.declared.side.Side.TheVariants as sides
 use Rattle.fw_node.specs.Agents.{half_for}
 use Rattle.fw_node.specs.Cores.{TimedDevice, device_core, session_core}
-use Rattle.fw_node.specs.Halves.{HalfHeard, HalfOf, half_hears}
+use Rattle.fw_node.specs.Halves.{HalfHeard, half_hears}
 use Rattle.fw_node.specs.Packets.{all_packets}
 use Rattle.fw_world.specs.Lanes.{LinkExplained}
-use Rattle.fw_world.specs.LinkLaws.{CanBeSaid, IsToldOn}
-use Rattle.fw_world.specs.Links.{LinkOf, LinkStep, LinkStepped, agent_heard, delivers_on, device_heard, hears_on, link_after, posted}
-use Rattle.fw_world.specs.Replays.{packet_fault}
-use Rattle.fw_world.specs.Worlds.{SiteOf, WorldOf, at_agent, at_device, comes, delivers, packets_at, packets_of, place_of, site_for}
-use Rattle.fw_world.specs.declared.step.StepFault.TheVariants as faults
+use Rattle.fw_world.specs.LinkLaws.{IsToldOn}
+use Rattle.fw_world.specs.Links.{LinkOf, LinkStep, agent_heard, delivers_on, device_heard, link_after, posted}
+use Rattle.fw_world.specs.Worlds.{SiteOf, WorldOf, at_agent, at_device, packets_at, packets_of, place_of, site_for}
 use Rattle.fw_world.proofs.Links.AgentArrivals.{agent_hears_at, deaf_agent_at, heard_on_agent, stranger_at}
 use Rattle.fw_world.proofs.Links.Arrivals.{device_hears_at, heard_on_device}
 use Rattle.fw_world.proofs.Links.Comings.{hears_in_lane}
@@ -28,7 +26,7 @@ use Rattle.fw_world.proofs.Links.Hears.{IsPassed, half_in, sent_in}
 use Rattle.fw_world.proofs.Links.InLanes.{ways_of}
 use Rattle.fw_world.proofs.Links.Misses.{GoesBetween, deaf_hears_nothing, link_packet_between, others_packet}
 use Rattle.fw_world.proofs.Links.Projected.{StepsTo, comes_as, leads_to, link_half, link_site, where_mine}
-use Rattle.fw_world.proofs.Links.Projection.{link_at, link_from}
+use Rattle.fw_world.proofs.Links.Projection.{link_at}
 use Rattle.fw_world.proofs.Links.Sendings.{GoesTo, agent_heard_to}
 use Rattle.fw_world.proofs.Links.Ways.{turned}
 
@@ -152,7 +150,7 @@ strange_packet : (works : Bool) (l d : LinkOf) (bytes : List ℕ) (g : GoesBetwe
 strange_packet works l d bytes g agent device =
     others_packet device_core works l.device bytes
     (λ q e. let same : (g.head, g.body) ≡ q = (let both : Ok (g.head, g.body) ≡ Ok q = sym g.reads ∙ e in cc) in
-        subst (λ x. x.0.dest ≢ l.device.own) same (neither g.head.source g.head.dest l.device.own d.agent.own d.device.own agent device g.ends))
+    subst (λ x. x.0.dest ≢ l.device.own) same (neither g.head.source g.head.dest l.device.own d.agent.own d.device.own agent device g.ends))
 
 -- A device: a packet comes on its link alone.
 pub device_gets : (law : LaneIsACell) (works : Bool) (faults : ℕ) (w : WorldOf) (device number node eid : ℕ) (d l : LinkOf) (p : Sent) → IsLinkOf w device d → IsLinkOf w eid l
@@ -166,33 +164,33 @@ device_gets law works faults w device number node eid d l p kd kl there is at so
     elim (eqb_tells node eid) [
       | inr elsewhere ↦
           let stays : after ≡ Some l =
-              device_hears_at works faults w p.bytes node eid (λ e. absurd (let no = elsewhere.0 in cc))
-              ∙ ap (λ b. if b then option_map (heard_on_device works w.now p.bytes) (link_at w eid) else link_at w eid) elsewhere.0 ∙ is in
+          device_hears_at works faults w p.bytes node eid (λ e. absurd (let no = elsewhere.0 in cc))
+          ∙ ap (λ b. if b then option_map (heard_on_device works w.now p.bytes) (link_at w eid) else link_at w eid) elsewhere.0 ∙ is in
           subst (λ s. StepsTo w.now w.packages l s after)
           (sym (ap (λ b. where_mine (device == eid) (comes_as works number false b)) elsewhere.0 ∙ comes_none works number (device == eid))) stays
       | inl here ↦ elim (eqb_tells device eid) [
         | inl mine ↦
             let same : d ≡ l = (let both : Some d ≡ Some l = sym there ∙ ap (link_at w) mine.1 ∙ is in cc) in
             let passed : IsPassed (half_hears device_core works l.device p.bytes) =
-                subst (λ x. IsPassed (half_hears device_core works x.device p.bytes)) same
-                (device_passed law w.now w.packages d works number p kd.explained at soon (told (here.1 ∙ sym mine.1))) in
+            subst (λ x. IsPassed (half_hears device_core works x.device p.bytes)) same
+            (device_passed law w.now w.packages d works number p kd.explained at soon (told (here.1 ∙ sym mine.1))) in
             let goes : after ≡ Some (heard_on_device works w.now p.bytes l) =
-                device_hears_at works faults w p.bytes node eid (λ e. subst (λ o. IfSome o (λ x. IsPassed (half_hears device_core works x.device p.bytes))) (sym is) passed)
-                ∙ ap (λ b. if b then option_map (heard_on_device works w.now p.bytes) (link_at w eid) else link_at w eid) here.0
-                ∙ ap (option_map (heard_on_device works w.now p.bytes)) is in
+            device_hears_at works faults w p.bytes node eid (λ e. subst (λ o. IfSome o (λ x. IsPassed (half_hears device_core works x.device p.bytes))) (sym is) passed)
+            ∙ ap (λ b. if b then option_map (heard_on_device works w.now p.bytes) (link_at w eid) else link_at w eid) here.0
+            ∙ ap (option_map (heard_on_device works w.now p.bytes)) is in
             subst (λ s. StepsTo w.now w.packages l s after)
             (sym (ap (λ b. where_mine b (comes_as works number false (node == eid))) mine.0 ∙ ap (λ b. comes_as works number false b) here.0))
             (leads_to (link_after w.now w.packages l (LinkStep.Deliver number sides.Device works)) (heard_on_device works w.now p.bytes) after l goes
             (device_deliver w.now w.packages l works number p (subst (λ x. numbered x.packets number ≡ Some p) same at) soon passed))
         | inr strange ↦
             let silent : half_hears device_core works l.device p.bytes ≡ HalfHeard.Went l.device [] =
-                strange_packet works l d p.bytes between (λ z. other (here.1 ∙ sym kl.device ∙ z ∙ kd.agent)) (λ z. strange.1 (sym kd.device ∙ sym z ∙ kl.device)) in
+            strange_packet works l d p.bytes between (λ z. other (here.1 ∙ sym kl.device ∙ z ∙ kd.agent)) (λ z. strange.1 (sym kd.device ∙ sym z ∙ kl.device)) in
             let passed : IsPassed (half_hears device_core works l.device p.bytes) = subst IsPassed (sym silent) tt in
             let stays : after ≡ Some l =
-                device_hears_at works faults w p.bytes node eid (λ e. subst (λ o. IfSome o (λ x. IsPassed (half_hears device_core works x.device p.bytes))) (sym is) passed)
-                ∙ ap (λ b. if b then option_map (heard_on_device works w.now p.bytes) (link_at w eid) else link_at w eid) here.0
-                ∙ ap (option_map (heard_on_device works w.now p.bytes)) is
-                ∙ ap Some (device_same works w.now p.bytes l silent) in
+            device_hears_at works faults w p.bytes node eid (λ e. subst (λ o. IfSome o (λ x. IsPassed (half_hears device_core works x.device p.bytes))) (sym is) passed)
+            ∙ ap (λ b. if b then option_map (heard_on_device works w.now p.bytes) (link_at w eid) else link_at w eid) here.0
+            ∙ ap (option_map (heard_on_device works w.now p.bytes)) is
+            ∙ ap Some (device_same works w.now p.bytes l silent) in
             subst (λ s. StepsTo w.now w.packages l s after)
             (sym (ap (λ b. where_mine b (comes_as works number false (node == eid))) strange.0)) stays
       ]

@@ -35,7 +35,7 @@ ways_of now l e = record {
 
 ways_turned : {A B : Type 0} (now later : ℕ) (a x : HalfOf A) (b y : HalfOf B) (ps qs : List Sent) (ss ts : List StepOf) (h : BothWays now a b ps)
     → WaysGo now later b y a x ps qs ts ss (turned now a b ps h) → WaysGo now later a x b y ps qs ss ts h
-ways_turned now later a x b y ps qs ss ts h w = record { explained = turned later y x qs w.explained; asks = w.answers; answers = w.asks }
+ways_turned now later a x b y ps qs ss ts h w = record { same = record { own = w.same.other; peer = w.same.back; other = w.same.own; back = w.same.peer }; explained = turned later y x qs w.explained; asks = w.answers; answers = w.asks }
 
 -- A link takes a step, and both ways go on.
 pub record LinkGoes (now later : ℕ) (l : LinkOf) (e : LinkExplained now l) (o : Option LinkStepped) (ds us : List StepOf) : Type 0 where
@@ -50,6 +50,8 @@ in_lanes now packages l s e g =
     record {
       stepped = g.stepped;
       after = g.after;
+      agent_own = g.ways.same.own;
+      device_own = g.ways.same.other;
       explained = record { ends = x.ends; agent_peer = x.peer; device_peer = x.back; down = x.asks; up = x.answers; packets = x.packets };
       down = g.ways.asks;
       up = g.ways.answers;

@@ -1,13 +1,12 @@
 -- A packet that isn't for a half, or comes to a deaf one, changes nothing.
-use Rattle.std.proofs.Common.{◌≡◌, ◌≢◌, ◌⊎◌, ◌≤◌, ◌+◌, ◌∙◌, ℕ, ◌==◌, ◌&&◌, not, Bool, true, false, if◌then◌else◌, List, [], Option, Some, None, Ok, Err, Result, inl, inr, refl, sym, ap}
+use Rattle.std.proofs.Common.{◌≡◌, ◌≢◌, ◌⊎◌, ◌≤◌, ◌+◌, ◌∙◌, ℕ, ◌==◌, ◌&&◌, not, Bool, true, false, if◌then◌else◌, List, [], Some, None, Ok, Err, Result, inl, inr, refl, ap}
 use Rattle.std.proofs.lemmas.Bool.{eqb-true, ne_eqb}
 use Rattle.mctp_wire.specs.Packet as wire
 use Rattle.mctp_wire.specs.declared.fault.WireFault.{WireFault}
 use Rattle.mctp_wire.specs.declared.layout.Head.{Head}
-use Rattle.mctp_reasm.specs.Inboxes.{for_end, is_for, packet_for}
-use Rattle.pldm_exch.specs.Ends.{AskerOf, TakerOf}
+use Rattle.mctp_reasm.specs.Inboxes.{for_end, is_for}
 use Rattle.pldm_exch.specs.Sides.{AskerRow, TakerRow, asker_row, taker_row}
-use Rattle.exch_lane.specs.Laws.{in_lane, is_between, read_between}
+use Rattle.exch_lane.specs.Laws.{in_lane, read_between}
 use Rattle.fw_node.specs.Halves.{CoreOf, HalfHeard, HalfOf, half_hears, half_hears_by}
 use Rattle.exch_lane.specs.Lanes.{Sent, numbered}
 use Rattle.fw_world.specs.Lanes.{LinkExplained}

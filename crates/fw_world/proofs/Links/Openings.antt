@@ -1,9 +1,9 @@
 -- A link on which nothing was sent yet is explained.
-use Rattle.std.proofs.Common.{◌≡◌, ◌∙◌, ℕ, List, [], ◌∷◌, Option, Some, None, refl, sym, ap}
+use Rattle.std.proofs.Common.{◌≡◌, ℕ, List, [], refl, ap}
 use Rattle.std.specs.List.{AllByRecursion, filter}
 use Rattle.pldm_exch.specs.Ends.{AskerOf, TakerOf, asker_new, taker_new}
 use Rattle.exch_lane.specs.Cells.{no_cell_yet}
-use Rattle.exch_lane.specs.Lanes.{AreEnds, EntryOf, LaneOf, Sent, lane_new}
+use Rattle.exch_lane.specs.Lanes.{AreEnds, LaneOf, Sent, lane_new}
 use Rattle.fw_node.specs.Halves.{HalfOf}
 use Rattle.fw_world.specs.Lanes.{Explained, LinkExplained, is_of, way_of}
 use Rattle.fw_world.specs.Links.{LinkOf}

@@ -1,5 +1,5 @@
 -- A tick of the agent, all of whose halves do each part before the next begins, is a tick of each half.
-use Rattle.std.proofs.Common.{◌≡◌, ◌∙◌, ◌≤◌, ◌<◌, ◌-◌, ◌==◌, ◌++◌, ◌∷◌, [], Bool, true, false, List, map, Option, Some, None, ℕ, refl, ap, arith}
+use Rattle.std.proofs.Common.{◌≡◌, ◌∙◌, ◌≤◌, ◌<◌, ◌-◌, ◌++◌, ◌∷◌, [], Bool, true, false, List, map, Option, Some, None, refl, ap, arith}
 use Rattle.std.proofs.lemmas.Bool.{le-leb, lt-leb, ne_eqb}
 use Rattle.std.proofs.lemmas.Grind.{flat_map-append}
 use Rattle.std.proofs.lemmas.List.{append-nil}
@@ -13,7 +13,7 @@ use Rattle.fwup_wire.specs.Values.{CommandOf}
 use Rattle.ua_core.specs.Session.{TimedOf}
 use Rattle.fw_node.specs.Agents.{again_packets, ended, ended_packets, grown, silent_by, waited}
 use Rattle.fw_node.specs.Cores.{session_core}
-use Rattle.fw_node.specs.Halves.{CoreOf, HalfOf, Ticked, aged, begins_if, begins_wish, called, half_counts, half_ticks, idled, last_part, unwished_abandoned, with_caller}
+use Rattle.fw_node.specs.Halves.{CoreOf, HalfOf, Ticked, aged, begins_if, begins_wish, called, half_ticks, idled, last_part, unwished_abandoned, with_caller}
 use Rattle.fw_node.specs.Packets.{all_packets, packets_of, sent_by}
 
 -- what was sent before stands before what is sent at last

@@ -1,13 +1,11 @@
 -- The agent's packets are put behind those of the devices that they go to.
-use Rattle.std.proofs.Common.{◌≡◌, ◌≢◌, ◌∙◌, ◌+◌, ◌==◌, ℕ, zero, suc, Bool, true, false, if◌then◌else◌, List, [], ◌∷◌, ◌++◌, flat_map, map, slice_get, slice_set, Option, Some, None, IfSome, inl, inr, refl, sym, ap, subst, arith}
+use Rattle.std.proofs.Common.{◌≡◌, ◌≢◌, ◌∙◌, ◌+◌, ◌==◌, ℕ, Bool, true, false, if◌then◌else◌, List, [], ◌∷◌, ◌++◌, map, slice_set, Option, Some, None, IfSome, inl, inr, refl, sym, ap, subst}
 use Rattle.std.specs.List.{AllByRecursion, filter}
 use Rattle.std.specs.Option.{option_map}
 use Rattle.std.proofs.lemmas.Bool.{eq-eqb, ne_eqb}
 use Rattle.std.proofs.lemmas.Bool.Decides.{eqb_tells}
 use Rattle.std.proofs.lemmas.List.{append-nil, append_assoc}
-use Rattle.exch_lane.specs.Lanes.{Sent}
-use Rattle.exch_lane.specs.Steps.{sent_at}
-use Rattle.fw_world.specs.Worlds.{SiteOf, place_for, place_from, place_of, post, post_at, posts, sent_now, site_at, site_for}
+use Rattle.fw_world.specs.Worlds.{SiteOf, place_from, place_of, post, post_at, posts, sent_now, site_at, site_for}
 use Rattle.fw_world.proofs.Links.Firsts.{at_place, first_changed, first_key, first_of, first_put, first_set, is_first, place_by, put_at}
 use Rattle.fw_world.proofs.Links.Sendings.{GoesTo}
 
@@ -23,7 +21,7 @@ same_place : (n : ℕ) (xs : List SiteOf) (eid : ℕ) → place_from n xs eid �
 same_place n [] eid = refl
 same_place n (x ∷ xs) eid = ap (λ o. if x.node.endpoint.eid == eid then Some n else o) (same_place (n + 1) xs eid)
 
-same_site : (xs : List SiteOf) (o : Option ℕ) → site_at xs o ≡ at_place xs o
+pub same_site : (xs : List SiteOf) (o : Option ℕ) → site_at xs o ≡ at_place xs o
 same_site xs None = refl
 same_site xs (Some i) = refl
 

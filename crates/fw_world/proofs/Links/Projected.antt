@@ -1,5 +1,5 @@
 -- A step of the world is a step of the link of each device, or nothing to it.
-use Rattle.std.proofs.Common.{◌≡◌, ◌≢◌, ◌∙◌, ◌+◌, ◌-◌, ◌^◌, ◌==◌, ◌&&◌, ◌≤◌, ℕ, Bool, true, false, if◌then◌else◌, is_some, List, [], ◌∷◌, map, nat_le, nat_lt, length, Option, Some, None, IfSome, IsSomeAnd, inl, inr, refl, sym, ap, subst}
+use Rattle.std.proofs.Common.{◌≡◌, ◌∙◌, ◌-◌, ◌^◌, ◌==◌, ◌&&◌, ℕ, Bool, true, false, if◌then◌else◌, is_some, List, [], ◌∷◌, nat_lt, Option, Some, None, IsSomeAnd, inl, inr, refl, sym, ap, subst}
 use Rattle.std.specs.List.{AllByRecursion}
 use Rattle.std.specs.Option.{option_map}
 use Rattle.std.proofs.lemmas.Bool.{eqb-true}
@@ -12,13 +12,11 @@ use Rattle.fd_core.specs.declared.states.Verdict.TheVariants as verdicts
 use Rattle.fw_package.specs.Package.{PackageText}
 use Rattle.ua_core.specs.Calls.{agent_activated, is_free}
 use Rattle.ua_core.specs.Session.{SessionOf, TimedOf}
-use Rattle.exch_lane.specs.Lanes.{Sent}
 use Rattle.fw_message.specs.Pairs.{may_start}
 use Rattle.fw_message.specs.declared.side.Side.TheVariants as sides
 use Rattle.fw_node.specs.Agents.{activates, cancels, free_for, free_in, half_for, ready_for, ready_in, starts}
 use Rattle.fw_node.specs.Cores.{device_core, session_core}
 use Rattle.fw_node.specs.Halves.{HalfOf, half_restarts, recast}
-use Rattle.fw_world.specs.Lanes.{LinkExplained}
 use Rattle.fw_world.specs.Links.{LinkOf, LinkStep, LinkStepped, judges_on, link_after, link_ticks}
 use Rattle.fw_world.specs.Replays.{is_package, ready_fault, start_fault, verdict_fault, where_known}
 use Rattle.fw_world.specs.Worlds.{SiteOf, WorldOf, activates_on, asks_log, calls, judges, place_of, restarts, site_for, ticks}
@@ -83,7 +81,7 @@ one_link now packages l true s g y x is e k = leads_to (link_after now packages 
 one_link now packages l false s g y x is e k = e ∙ is
 
 -- the event log
-sel_at : (w : WorldOf) (bytes : List ℕ) (eid : ℕ) → link_at (asks_log w bytes) eid ≡ link_at w eid
+pub sel_at : (w : WorldOf) (bytes : List ℕ) (eid : ℕ) → link_at (asks_log w bytes) eid ≡ link_at w eid
 sel_at w [] eid = refl
 sel_at w (command ∷ bytes) eid = refl
 
@@ -139,7 +137,7 @@ cancel_projects w device eid l is =
     (call_at w device eid (cancels w.packages) (λ h. refl)) (λ e. refl)
 
 -- an activation
-known_if : (known : Bool) (fault : Option StepFault) → where_known known fault ≡ None → fault ≡ None
+pub known_if : (known : Bool) (fault : Option StepFault) → where_known known fault ≡ None → fault ≡ None
 known_if true fault e = e
 known_if false fault e = absurd (cc)
 

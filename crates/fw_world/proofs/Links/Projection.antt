@@ -1,25 +1,21 @@
 -- What a step of the world is for the link of one device.
-use Rattle.std.proofs.Common.{◌≡◌, ◌≢◌, ◌∙◌, ◌+◌, ◌==◌, ℕ, Bool, true, false, if◌then◌else◌, List, [], ◌∷◌, ◌++◌, map, slice_set, Option, Some, None, IfSome, inl, inr, refl, sym, ap, subst}
-use Rattle.std.specs.List.{AllByRecursion, filter}
+use Rattle.std.proofs.Common.{◌≡◌, ◌∙◌, ◌+◌, ◌==◌, ℕ, Bool, true, false, if◌then◌else◌, List, ◌++◌, Option, Some, None, refl, sym, ap}
+use Rattle.std.specs.List.{AllByRecursion}
 use Rattle.std.specs.Option.{option_map}
-use Rattle.std.proofs.lemmas.Bool.{ne_eqb}
-use Rattle.std.proofs.lemmas.Bool.Decides.{eqb_tells}
-use Rattle.mctp_reasm.specs.Pieces.{MessageOf}
-use Rattle.exch_lane.specs.Lanes.{Sent}
 use Rattle.fw_package.specs.Package.{PackageText}
 use Rattle.ua_core.specs.Session.{TimedOf}
 use Rattle.fd_core.specs.Steps.{verdict_after}
 use Rattle.fd_core.specs.declared.states.Verdict.{Verdict}
-use Rattle.fw_node.specs.Agents.{AgentOf, agent_becomes, agent_restarts, agent_tick_sends, agent_ticks, becomes_at, half_at, half_for, place_of as half_place}
+use Rattle.fw_node.specs.Agents.{AgentOf, agent_restarts, agent_tick_sends, becomes_at, half_at, half_for, place_of as half_place}
 use Rattle.fw_node.specs.Cores.{TimedDevice, device_core, session_core}
 use Rattle.fw_node.specs.Halves.{HalfOf, half_restarts, half_ticks, recast}
 use Rattle.fw_node.specs.Nodes.{device_judges, device_restarts}
 use Rattle.fw_node.specs.Packets.{all_packets}
-use Rattle.fw_world.specs.Links.{LinkOf, LinkStep, LinkStepped, link_after, link_ticks, posted}
+use Rattle.fw_world.specs.Links.{LinkOf, link_ticks, posted}
 use Rattle.fw_world.specs.Worlds.{SiteOf, WorldOf, calls, judges, node_becomes, place_of, sent_now, site_for, site_restarts, site_ticks, ticks}
 use Rattle.fw_world.proofs.Links.AgentTicks.{AreApart, IsHalfOf, agent_tick_sends_at, agent_ticks_at, half_after_tick, half_changed, half_put, sent_for, ticked_packets}
 use Rattle.fw_world.proofs.Links.Firsts.{put_at}
-use Rattle.fw_world.proofs.Links.Posting.{is_to, posts_at, site_changed, site_put, with_packets}
+use Rattle.fw_world.proofs.Links.Posting.{posts_at, site_changed, site_put, with_packets}
 use Rattle.fw_world.proofs.Links.Sorted.{posted_behind}
 
 -- the link of a device: the agent's half for it, and the device's half with their packets
@@ -57,9 +53,9 @@ pub tick_at : (w : WorldOf) (eid : ℕ) → AllByRecursion (IsHalfOf w.agent.dea
 tick_at w eid k apart =
     let sends = agent_tick_sends w.packages w.agent in
     let sites : site_for (ticks w).sites eid ≡ option_map (site_ticks (w.now + 1)) (option_map (with_packets (w.now + 1) (sent_for (ticked_packets w.packages) (half_for w.agent eid))) (site_for w.sites eid)) =
-        site_changed (site_ticks (w.now + 1)) (λ x. refl) _ eid
-        ∙ ap (option_map (site_ticks (w.now + 1))) (posts_at (w.now + 1) sends w.sites eid)
-        ∙ ap (λ ps. option_map (site_ticks (w.now + 1)) (option_map (with_packets (w.now + 1) ps) (site_for w.sites eid))) (agent_tick_sends_at w.packages w.agent eid k apart) in
+    site_changed (site_ticks (w.now + 1)) (λ x. refl) _ eid
+    ∙ ap (option_map (site_ticks (w.now + 1))) (posts_at (w.now + 1) sends w.sites eid)
+    ∙ ap (λ ps. option_map (site_ticks (w.now + 1)) (option_map (with_packets (w.now + 1) ps) (site_for w.sites eid))) (agent_tick_sends_at w.packages w.agent eid k apart) in
     ap (λ o. link_from o (site_for (ticks w).sites eid)) (agent_ticks_at w.packages (w.now + 1) w.agent eid k)
     ∙ ap (link_from (option_map (half_after_tick w.packages) (half_for w.agent eid))) sites
     ∙ tick_links w.packages w.now (half_for w.agent eid) (site_for w.sites eid)
@@ -78,7 +74,7 @@ agent_link_if : (here : Bool) (g : HalfOf TimedOf → HalfOf TimedOf) (o : Optio
 agent_link_if true g o s = agent_link g o s
 agent_link_if false g o s = refl
 
-becomes_put : (n : AgentOf) (now : ℕ) (g : HalfOf TimedOf → HalfOf TimedOf) (o : Option ℕ) (s : Option (HalfOf TimedOf)) → (becomes_at n now g o s).halves ≡ put_at g n.halves o s
+pub becomes_put : (n : AgentOf) (now : ℕ) (g : HalfOf TimedOf → HalfOf TimedOf) (o : Option ℕ) (s : Option (HalfOf TimedOf)) → (becomes_at n now g o s).halves ≡ put_at g n.halves o s
 becomes_put n now g None s = refl
 becomes_put n now g (Some p) None = refl
 becomes_put n now g (Some p) (Some h) = refl
@@ -116,7 +112,7 @@ device_link_if : (here : Bool) (f : SiteOf → SiteOf) (g : HalfOf TimedDevice �
 device_link_if true f g acts o s = device_link f g acts o s
 device_link_if false f g acts o s = refl
 
-restarts_put : (xs : List SiteOf) (o : Option ℕ) (s : Option SiteOf) → site_restarts xs o s ≡ put_at (λ x. record x { node = device_restarts x.node }) xs o s
+pub restarts_put : (xs : List SiteOf) (o : Option ℕ) (s : Option SiteOf) → site_restarts xs o s ≡ put_at (λ x. record x { node = device_restarts x.node }) xs o s
 restarts_put xs None s = refl
 restarts_put xs (Some p) None = refl
 restarts_put xs (Some p) (Some x) = refl
@@ -134,16 +130,16 @@ device_restart_at w node eid =
 abbrev pub judged_by : Verdict → Bool → HalfOf TimedDevice → HalfOf TimedDevice
 judged_by verdict works h = recast device_core h (record { device = verdict_after h.core.device verdict works; idle = 0 })
 
-abbrev judged_site : Bool → (faults : ℕ) → Verdict → SiteOf → SiteOf
+abbrev pub judged_site : Bool → (faults : ℕ) → Verdict → SiteOf → SiteOf
 judged_site works faults verdict x = record x { node = node_becomes x.node faults x.node.tid (device_judges works x.node verdict) }
 
-judges_put : (works : Bool) (faults : ℕ) (w : WorldOf) (verdict : Verdict) (o : Option ℕ) (s : Option SiteOf)
+pub judges_put : (works : Bool) (faults : ℕ) (w : WorldOf) (verdict : Verdict) (o : Option ℕ) (s : Option SiteOf)
     → (judges works faults w verdict o s).sites ≡ put_at (judged_site works faults verdict) w.sites o s
 judges_put works faults w verdict None s = refl
 judges_put works faults w verdict (Some p) None = refl
 judges_put works faults w verdict (Some p) (Some x) = refl
 
-judges_agent : (works : Bool) (faults : ℕ) (w : WorldOf) (verdict : Verdict) (o : Option ℕ) (s : Option SiteOf) → (judges works faults w verdict o s).agent ≡ w.agent
+pub judges_agent : (works : Bool) (faults : ℕ) (w : WorldOf) (verdict : Verdict) (o : Option ℕ) (s : Option SiteOf) → (judges works faults w verdict o s).agent ≡ w.agent
 judges_agent works faults w verdict None s = refl
 judges_agent works faults w verdict (Some p) None = refl
 judges_agent works faults w verdict (Some p) (Some x) = refl

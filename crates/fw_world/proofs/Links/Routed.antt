@@ -1,5 +1,5 @@
 -- What the nodes of a lane keep to send goes to the other node.
-use Rattle.std.proofs.Common.{◌≡◌, ◌∙◌, ◌+◌, ◌-◌, ◌==◌, ◌&&◌, not, ℕ, zero, suc, Bool, true, false, if◌then◌else◌, List, [], ◌∷◌, ◌++◌, get_or, nat_le, nat_lt, map, replicate, slice_set, Option, Some, None, IfSome, Ok, Err, Result, refl, sym, ap, subst}
+use Rattle.std.proofs.Common.{◌≡◌, ◌+◌, ◌==◌, ◌&&◌, ℕ, zero, suc, Bool, true, false, if◌then◌else◌, List, [], ◌∷◌, get_or, nat_le, nat_lt, map, replicate, slice_set, Option, Some, None, IfSome, Ok, Err, Result, refl}
 use Rattle.std.specs.List.{AllByRecursion}
 use Rattle.std.proofs.lemmas.Bool.{eqb-true}
 use Rattle.mctp_wire.specs.Packet as wire
@@ -14,9 +14,9 @@ use Rattle.mctp_reasm.specs.declared.outcomes.Fed.TheVariants as outcomes
 use Rattle.pldm_base.specs.Header.{pldm_of}
 use Rattle.pldm_base.specs.declared.header.PldmFault.{PldmFault}
 use Rattle.pldm_base.specs.declared.header.PldmHead.{PldmHead}
-use Rattle.pldm_exch.specs.Caller.{CallerState, Heard, Open, abandoned, answer_body, answer_heard, begun, caller_tick, closed_by, fresh, heard_as, older, sends_at, ticked}
+use Rattle.pldm_exch.specs.Caller.{CallerState, Heard, Open, answer_body, answer_heard, caller_tick, closed_by, heard_as, sends_at, ticked}
 use Rattle.pldm_exch.specs.Ends.{AskerOf, TakerOf}
-use Rattle.pldm_exch.specs.Kept.{Kept, answerer_tick, asked_as, identifier_of, kept_as, kept_tick, kept_with, none_kept, request_heard}
+use Rattle.pldm_exch.specs.Kept.{Kept, answerer_tick, asked_as, identifier_of, kept_as, kept_tick, request_heard}
 use Rattle.pldm_exch.specs.Requests.{reply_message}
 use Rattle.pldm_exch.specs.Sides.{AskerRow, AskerTick, TakerRow, asker_answered, asker_called, asker_counts, asker_fed, asker_packet, asker_row, asker_tick, taker_asked, taker_counts, taker_fed, taker_packet, taker_read, taker_row, taker_tick}
 use Rattle.pldm_exch.specs.declared.answerer.Asked.{Asked}

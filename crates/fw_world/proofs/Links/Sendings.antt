@@ -1,16 +1,16 @@
 -- What a half sends goes to its peer.
-use Rattle.std.proofs.Common.{◌≡◌, ◌∙◌, ◌+◌, ◌==◌, ℕ, zero, suc, Bool, true, false, if◌then◌else◌, List, [], ◌∷◌, ◌++◌, drop, length, map, nat_le, take, Option, Some, None, Ok, Err, Result, refl, sym, ap, subst}
+use Rattle.std.proofs.Common.{◌≡◌, ◌∙◌, ◌+◌, ◌==◌, ℕ, zero, suc, Bool, true, false, List, [], ◌∷◌, drop, length, map, nat_le, take, Option, Some, None, Ok, Err, Result, refl, sym, subst}
 use Rattle.std.specs.List.{AllByRecursion}
 use Rattle.mctp_reasm.specs.Held.{Held}
-use Rattle.mctp_reasm.specs.Pieces.{MessageOf, PacketOf, Route, message_route, piece, pieces_from, spelled}
+use Rattle.mctp_reasm.specs.Pieces.{MessageOf, Route, message_route, piece, pieces_from, spelled}
 use Rattle.pldm_base.specs.declared.header.PldmHead.{PldmHead}
 use Rattle.fwup_wire.specs.Values.{CommandOf}
 use Rattle.pldm_exch.specs.Caller.{CallerState, Open, is_quiet, may_begin}
 use Rattle.pldm_exch.specs.Sides.{AskerRow, AskerTick, TakerRow, asker_counts, asker_row, taker_counts, taker_row}
 use Rattle.exch_lane.specs.Lanes.{EntryOf, LaneOf, Sent}
 use Rattle.fw_package.specs.Package.{PackageText}
-use Rattle.fw_node.specs.Cores.{device_core, session_core}
-use Rattle.fw_node.specs.Halves.{CoreOf, HalfHeard, HalfOf, begins_if, begins_wish, called, half_hears, half_hears_by, half_takes, half_ticks, hears_if, kept_if, read_by, still_wished, takes_if, takes_read, unwished_abandoned, unwished_for, with_caller}
+use Rattle.fw_node.specs.Cores.{session_core}
+use Rattle.fw_node.specs.Halves.{CoreOf, HalfOf, begins_if, begins_wish, called, half_hears, half_hears_by, half_takes, half_ticks, hears_if, kept_if, read_by, still_wished, takes_if, takes_read, unwished_abandoned, unwished_for, with_caller}
 use Rattle.fw_node.specs.Packets.{all_packets, packets_of}
 use Rattle.fw_world.specs.Lanes.{Explained, LinkExplained}
 use Rattle.fw_world.specs.Links.{LinkOf}
@@ -18,7 +18,7 @@ use Rattle.fw_world.proofs.Links.Hears.{sent_in}
 use Rattle.fw_world.proofs.Links.InLanes.{ways_of}
 use Rattle.fw_world.proofs.Links.Routed.{AnswersPeer, AsksPeer, IsRouted, TakesFrom, TickGoes, if_either, lane_routed, taker_row_from, tick_goes}
 use Rattle.fw_world.proofs.Links.Sorted.{both_all}
-use Rattle.fw_world.proofs.Links.Ways.{BothWays, turned}
+use Rattle.fw_world.proofs.Links.Ways.{BothWays}
 
 -- what a half keeps to send goes to its peer
 pub record IsRoutedHalf {C : Type 0} (h : HalfOf C) : Type 0 where

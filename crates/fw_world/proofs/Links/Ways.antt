@@ -45,18 +45,19 @@ turned now a b ps h = record {
   packets = each_all (IsOfEither now a.own b.own) (IsOfEither now b.own a.own) ps h.packets (λ s k soon. either_turned now a.own b.own s (k soon));
 }
 
--- Both ways after steps of theirs: the halves and the packets are these, and both are explained again.
-pub record WaysGo {A B : Type 0} (now then : ℕ) (a x : HalfOf A) (b y : HalfOf B) (ps qs : List Sent) (asked answered : List StepOf) (before : BothWays now a b ps) : Type 0 where
-  pub explained : BothWays then x y qs
-  pub asks : GoesAlong (way_of now a b ps) (way_of then x y qs) asked before.asks.run explained.asks.run
-  pub answers : GoesAlong (way_of now b a ps) (way_of then y x qs) answered before.answers.run explained.answers.run
-
 -- the same two halves, still each other's peers
 pub record AreSame {A B : Type 0} (a x : HalfOf A) (b y : HalfOf B) : Type 0 where
   pub own : x.own ≡ a.own
   pub peer : x.peer ≡ a.peer
   pub other : y.own ≡ b.own
   pub back : y.peer ≡ b.peer
+
+-- Both ways after steps of theirs: the halves and the packets are these, and both are explained again.
+pub record WaysGo {A B : Type 0} (now then : ℕ) (a x : HalfOf A) (b y : HalfOf B) (ps qs : List Sent) (asked answered : List StepOf) (before : BothWays now a b ps) : Type 0 where
+  pub same : AreSame a x b y
+  pub explained : BothWays then x y qs
+  pub asks : GoesAlong (way_of now a b ps) (way_of then x y qs) asked before.asks.run explained.asks.run
+  pub answers : GoesAlong (way_of now b a ps) (way_of then y x qs) answered before.answers.run explained.answers.run
 
 -- What a way's steps come to, when what the half sends isn't sorted yet.
 pub record Comes {A B : Type 0} (now then : ℕ) (a x : HalfOf A) (b y : HalfOf B) (ps : List Sent) (ms : List MessageOf) (es : List EntryOf) (ss : List StepOf) : Type 0 where
@@ -152,6 +153,7 @@ ways_go law now then a x b y ps ms ns asked answered h later same c d =
     let back = way_goes law now then b y a x ps (posted then (posted then ps ms) ns) ns answered (turned now a b ps h) same.other same.own
     (second_sorted then b.own a.own ps ms ns (sent_theirs a.own b.own (map (sent_at then) (all_packets ms)) differ mine) theirs) d in
     record {
+      same = same;
       explained = record {
         ends = ends_as a.own b.own x.own y.own same.own same.other h.ends;
         peer = same.peer ∙ h.peer ∙ sym same.other;
