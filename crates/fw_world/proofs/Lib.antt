@@ -8,4 +8,5 @@ mod Noting
 mod Places
 mod Recording
 mod Rooms
+mod Running
 mod Ticking

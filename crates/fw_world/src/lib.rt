@@ -4,6 +4,7 @@
 
 mod joined;
 mod laws;
+mod replays;
 mod site;
 mod sites;
 mod step;
@@ -15,5 +16,6 @@ pub use fw_message::{
 };
 pub use joined::links_are_messages;
 pub use laws::links_are_lanes;
+pub use replays::replay;
 pub use step::{LogRequest, Refusal, Step, StepFault};
 pub use world::World;

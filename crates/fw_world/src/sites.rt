@@ -1,9 +1,10 @@
 //! The nodes of all devices in the world, in their order.
 
-ghost use Rattle.std.specs.Prelude.{[], ◌≡◌, ◌≤◌, ◌<◌, ◌+◌, ◌⊎◌, IfErr, IfSome, None, OnErr, OnOk, Some, ℕ, length, map, option_map, slice_get};
+ghost use Rattle.std.specs.Prelude.{[], ◌≡◌, ◌≤◌, ◌<◌, ◌+◌, ◌⊎◌, IfErr, IfOk, IfSome, None, OnErr, OnOk, Some, ℕ, length, map, option_map, slice_get};
 ghost use Rattle.std.specs.List.{AllByRecursion};
+ghost use Rattle.fd_core.specs.Components.{HasComponents};
 ghost use Rattle.fw_message.specs.Entries.{entry_of};
-ghost use Rattle.fw_world.specs.Replays.{SiteSpeaks, verdict_fault};
+ghost use Rattle.fw_world.specs.Replays.{SiteSpeaks, new_site, verdict_fault};
 ghost use Rattle.fw_world.specs.Sites.{HaveRoom, HeardAt, JudgedAt, sites_of};
 ghost use Rattle.fw_world.specs.Worlds.{place_for, place_of, post, posts, site_at, site_for, site_restarts, site_ticks};
 
@@ -11,9 +12,40 @@ use crate::site::Site;
 use crate::step::StepFault;
 use fd_core::{Bank, Verdict};
 use fw_message::Entry;
-use fw_node::Outbox;
+use fw_node::{DeviceNode, Outbox};
 use mctp_wire::RawPacket;
 use std::alloc::{AllocError, Global};
+
+/// The endpoint identifiers of these nodes, in their order.
+pub(crate) fn eids_of<B: Bank>(
+    alloc: Global,
+    nodes: &[DeviceNode<B>],
+) -> Result<Vec<u8>, AllocError>
+    ensures { IfOk result (λ eids. eids.items ≡ map (λ n. n.endpoint.eid) nodes.now) }
+{
+    let mut eids = Vec::new(alloc);
+    for node in nodes {
+        eids.push(node.eid())?;
+    }
+    Ok(eids)
+}
+
+/// The nodes of devices to which nothing was sent.
+pub(crate) fn new_sites<B: Bank + Drop>(
+    alloc: Global,
+    nodes: Vec<DeviceNode<B>>,
+) -> Result<Vec<Site<B>>, AllocError>
+    requires { AllByRecursion (λ n. HasComponents n.half.core.device) nodes.items }
+    ensures { IfOk result (λ sites. sites_of sites.items ≡ map new_site nodes.items) }
+{
+    let mut sites = Vec::new(alloc);
+    for node in nodes {
+        let Ok(()) = sites.push(Site::new(alloc, node)) else {
+            return Err(AllocError);
+        };
+    }
+    Ok(sites)
+}
 
 /// Where the device of this identifier stands.
 pub(crate) fn place_of<B: Bank>(sites: &[Site<B>], eid: u8) -> Option<usize>

@@ -1,0 +1,16 @@
+-- Runs of the world, one step after another.
+use Rattle.std.proofs.Common.{◌≡◌, ◌<◌, ◌+◌, ◌∙◌, ◌++◌, ℕ, List, [], ◌∷◌, length, take, get_or, refl, subst, sym}
+use Rattle.std.proofs.lemmas.List.{take_more}
+use Rattle.fw_world.specs.Replays.{Leads, Run}
+use Rattle.fw_world.specs.Worlds.{WorldOf}
+use Rattle.fw_world.specs.declared.step.Step.{Step}
+
+-- a run followed by a run is a run
+pub run_append : (w v u : WorldOf) (ss ts : List Step) → Run w ss v → Run v ts u → Run w (ss ++ ts) u
+run_append w v u [] ts e k = subst (λ x. Run x ts u) e k
+run_append w v u (s ∷ ss) ts h k = (h.0, h.1, run_append h.0 v u ss ts h.2 k)
+
+-- one step more
+pub run_next : (w v u : WorldOf) (ss : List Step) (i : ℕ) (s : Step) → i < length ss → Run w (take i ss) v → Leads v (get_or ss i s) u → Run w (take (i + 1) ss) u
+run_next w v u ss i s lt h k =
+    subst (λ xs. Run w xs u) (sym (take_more ss i s lt)) (run_append w v u (take i ss) (get_or ss i s ∷ []) h (u, k, refl))

@@ -1,0 +1,31 @@
+//! Replays of steps of the packet world.
+
+ghost use Rattle.std.specs.Prelude.{◌≡◌, ◌<◌, IfErr, IfSome, OnOk, length, slice_get, take};
+ghost use Rattle.fw_world.specs.Replays.{Refuses, Run};
+
+use crate::step::{Step, StepFault};
+use crate::world::World;
+use fd_core::Bank;
+
+/// Takes these steps one after another: deliveries of packets in any order, any number of times or never, ticks, the operator's
+/// calls, verdicts, restarts and requests of the event log.
+///
+/// # Errors
+/// The number of the step that isn't taken, counted from 0, and why: `NoSuchNode`, then `NoSuchPacket`, then `Dead`; for the
+/// operator's calls `NoSuchPackage` before `Busy`, and `NotReady`; `NotNow` for a verdict, `ClockEnd` for a tick; and `Memory` for
+/// a step that might be taken. The world is then the one after the steps before it.
+pub fn replay<B: Bank + Drop>(
+    world: &mut World<'_, B>,
+    steps: &[Step],
+) -> Result<(), (usize, StepFault)>
+    ensures ok { OnOk result (Run world.old steps.now world.new) }
+    ensures stopped { IfErr result (λ e. (e.0 < length steps.now) × Run world.old (take e.0 steps.now) world.new × IfSome (slice_get steps.now e.0) (λ s. Refuses world.new s e.1)) }
+{
+    for (i, step) in steps.iter().enumerate() {
+        match world.step(step) {
+            Ok(()) => {}
+            Err(fault) => return Err((i, fault)),
+        }
+    }
+    Ok(())
+}
