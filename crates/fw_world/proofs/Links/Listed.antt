@@ -1,12 +1,12 @@
 -- The links of a world in the order of its devices.
-use Rattle.std.proofs.Common.{◌≡◌, ◌≢◌, ◌∙◌, ◌+◌, ◌==◌, ◌<◌, ℕ, zero, suc, Bool, true, false, if◌then◌else◌, List, [], ◌∷◌, length, map, slice_get, slice_set, Option, Some, None, IsSomeAnd, refl, sym, ap, subst, arith}
+use Rattle.std.proofs.Common.{◌≡◌, ◌≢◌, ◌∙◌, ℕ, zero, suc, List, [], ◌∷◌, map, slice_get, slice_set, Option, Some, None, IsSomeAnd, refl, sym, ap, subst, arith}
 use Rattle.std.specs.List.{All, AllByRecursion}
 use Rattle.std.proofs.lemmas.Bool.{eq-eqb, ne_eqb}
 use Rattle.ua_core.specs.Session.{TimedOf}
 use Rattle.fw_node.specs.Halves.{HalfOf}
 use Rattle.fw_world.specs.Links.{LinkOf}
 use Rattle.fw_world.specs.Replays.{AreDifferent}
-use Rattle.fw_world.specs.Worlds.{SiteOf, WorldOf, place_of, post, post_at, posts, site_at, site_for}
+use Rattle.fw_world.specs.Worlds.{SiteOf, WorldOf}
 use Rattle.fw_world.proofs.Links.AgentTicks.{half_is_first, half_peer}
 use Rattle.fw_world.proofs.Links.Comings.{fact_at}
 use Rattle.fw_world.proofs.Links.Firsts.{at_place, first_of, put_at}
