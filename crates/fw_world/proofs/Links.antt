@@ -9,6 +9,7 @@ pub mod Goes
 pub mod Hears
 pub mod InLanes
 pub mod Keys
+pub mod Linked
 pub mod Listed
 pub mod Misses
 pub mod Moves

@@ -1,21 +1,21 @@
 -- The devices of a world, and the agent's halves for them, stay those that they were.
-use Rattle.std.proofs.Common.{◌≡◌, ◌∙◌, ◌+◌, ◌==◌, ℕ, Bool, true, false, if◌then◌else◌, List, [], ◌∷◌, ◌++◌, map, Option, Some, None, refl, sym, ap, subst}
+use Rattle.std.proofs.Common.{◌≡◌, ◌∙◌, ◌+◌, ◌==◌, ℕ, Bool, true, false, if◌then◌else◌, List, [], ◌∷◌, map, Option, Some, None, refl, sym, ap}
 use Rattle.std.specs.List.{AllByRecursion}
 use Rattle.exch_lane.specs.Lanes.{Sent, numbered}
 use Rattle.mctp_wire.specs.Packet as wire
 use Rattle.ua_core.specs.Session.{SessionOf, TimedOf}
-use Rattle.fw_node.specs.Agents.{agent_hears, agent_ticks, agent_unmoved, agent_tick_sends, activates, becomes_at, cancels, half_at, half_for, hears_at, place_heard, place_of as half_place, ready_for, starts}
+use Rattle.fw_node.specs.Agents.{agent_hears, agent_unmoved, agent_tick_sends, activates, cancels, half_at, half_for, hears_at, place_heard, place_of as half_place, ready_for, starts}
 use Rattle.fw_node.specs.Cores.{session_core}
 use Rattle.fw_node.specs.Halves.{HalfOf, half_restarts}
 use Rattle.fw_node.specs.Nodes.{device_restarts}
 use Rattle.fw_node.specs.Packets.{all_packets}
-use Rattle.fw_world.specs.Worlds.{SiteOf, WorldOf, activates_on, asks_log, at_agent, at_device, calls, comes, delivers, judges, packets_of, place_of, post, post_at, posts, restarts, site_at, site_for, site_restarts, site_ticks, ticks, world_after}
+use Rattle.fw_world.specs.Worlds.{SiteOf, WorldOf, activates_on, asks_log, at_agent, at_device, calls, delivers, packets_of, place_of, post, post_at, posts, restarts, site_for, site_ticks, world_after}
 use Rattle.fw_world.specs.declared.step.Step.{Step}
 use Rattle.fw_world.specs.declared.step.Step.TheVariants as steps
 use Rattle.fw_world.proofs.Links.AgentArrivals.{heard_half, heard_half_peer, hears_put}
 use Rattle.fw_world.proofs.Links.AgentTicks.{IsHalfOf, half_after_tick, half_peer, halves_after_tick, same_half}
 use Rattle.fw_world.proofs.Links.Arrivals.{device_agent, device_put, heard_site}
-use Rattle.fw_world.proofs.Links.Firsts.{at_place, put_at}
+use Rattle.fw_world.proofs.Links.Firsts.{put_at}
 use Rattle.fw_world.proofs.Links.Listed.{map_keys, put_keys}
 use Rattle.fw_world.proofs.Links.Posting.{same_site, site_eid, with_packet}
 use Rattle.fw_world.proofs.Links.Projection.{becomes_put, judged_site, judges_agent, judges_put, restarts_put}

@@ -1,12 +1,12 @@
 -- The links of a world in the order of its devices.
-use Rattle.std.proofs.Common.{◌≡◌, ◌≢◌, ◌∙◌, ◌+◌, ◌==◌, ◌<◌, ℕ, zero, suc, Bool, true, false, if◌then◌else◌, List, [], ◌∷◌, length, map, slice_get, slice_set, Option, Some, None, IsSomeAnd, refl, sym, ap, subst, arith}
+use Rattle.std.proofs.Common.{◌≡◌, ◌≢◌, ◌∙◌, ℕ, zero, suc, List, [], ◌∷◌, map, slice_get, slice_set, Option, Some, None, IsSomeAnd, refl, sym, ap, subst, arith}
 use Rattle.std.specs.List.{All, AllByRecursion}
 use Rattle.std.proofs.lemmas.Bool.{eq-eqb, ne_eqb}
 use Rattle.ua_core.specs.Session.{TimedOf}
 use Rattle.fw_node.specs.Halves.{HalfOf}
 use Rattle.fw_world.specs.Links.{LinkOf}
 use Rattle.fw_world.specs.Replays.{AreDifferent}
-use Rattle.fw_world.specs.Worlds.{SiteOf, WorldOf, place_of, post, post_at, posts, site_at, site_for}
+use Rattle.fw_world.specs.Worlds.{SiteOf, WorldOf}
 use Rattle.fw_world.proofs.Links.AgentTicks.{half_is_first, half_peer}
 use Rattle.fw_world.proofs.Links.Comings.{fact_at}
 use Rattle.fw_world.proofs.Links.Firsts.{at_place, first_of, put_at}
@@ -18,12 +18,12 @@ pub every : {A : Type 0} (P : A → Type 0) (xs : List A) → All P xs → AllBy
 every P [] h = tt
 every P (x ∷ xs) h = (h zero x (omega arith), every P xs (λ k d lt. h (suc k) d (omega (arith, lt))))
 
-map_get : {A B : Type 0} (f : A → B) (xs : List A) (i : ℕ) (x : A) → slice_get xs i ≡ Some x → slice_get (map f xs) i ≡ Some (f x)
+pub map_get : {A B : Type 0} (f : A → B) (xs : List A) (i : ℕ) (x : A) → slice_get xs i ≡ Some x → slice_get (map f xs) i ≡ Some (f x)
 map_get f [] i x e = absurd (cc)
 map_get f (y ∷ ys) zero x e = let is : y ≡ x = cc in ap (λ z. Some (f z)) is
 map_get f (y ∷ ys) (suc i) x e = map_get f ys i x e
 
-get_map : {A B : Type 0} (f : A → B) (xs : List A) (i : ℕ) (y : B) → slice_get (map f xs) i ≡ Some y → IsSomeAnd (slice_get xs i) (λ x. f x ≡ y)
+pub get_map : {A B : Type 0} (f : A → B) (xs : List A) (i : ℕ) (y : B) → slice_get (map f xs) i ≡ Some y → IsSomeAnd (slice_get xs i) (λ x. f x ≡ y)
 get_map f [] i y e = absurd (cc)
 get_map f (x ∷ xs) zero y e = let is : f x ≡ y = cc in is
 get_map f (x ∷ xs) (suc i) y e = get_map f xs i y e

@@ -1,13 +1,11 @@
 -- From the link of each device to the list of all links.
-use Rattle.std.proofs.Common.{◌≡◌, ◌≢◌, ◌∙◌, ◌+◌, ◌==◌, ℕ, zero, suc, Bool, true, false, List, [], ◌∷◌, map, slice_get, slice_set, Option, Some, None, inl, inr, refl, sym, ap, subst, arith}
+use Rattle.std.proofs.Common.{◌≡◌, ◌≢◌, ◌∙◌, ℕ, zero, suc, List, [], ◌∷◌, map, slice_get, slice_set, Option, Some, None, inl, inr, refl, sym, ap, subst}
 use Rattle.std.specs.Option.{option_map}
 use Rattle.std.proofs.lemmas.Bool.Decides.{eqb_tells}
 use Rattle.std.proofs.lemmas.Option.{slice_get-map}
 use Rattle.fw_world.specs.Links.{LinkOf}
 use Rattle.fw_world.specs.Replays.{AreDifferent}
-use Rattle.fw_world.specs.Worlds.{SiteOf, WorldOf}
-use Rattle.ua_core.specs.Session.{TimedOf}
-use Rattle.fw_node.specs.Halves.{HalfOf}
+use Rattle.fw_world.specs.Worlds.{WorldOf}
 use Rattle.fw_world.proofs.Links.Comings.{fact_at}
 use Rattle.fw_world.proofs.Links.Keys.{eids_of, peers_of}
 use Rattle.fw_world.proofs.Links.Listed.{every, link_by_place, link_in_place, links_of, no_link, same_places}
