@@ -5,6 +5,7 @@ mod Judging
 mod Leading
 mod Links
 mod Noting
+mod Opening
 mod Places
 mod Recording
 mod Rooms

@@ -5,5 +5,6 @@ pub mod Lanes
 pub mod LinkLaws
 pub mod Links
 pub mod Replays
+pub mod Safety
 pub mod Sites
 pub mod Worlds

@@ -161,7 +161,7 @@ pub record AreNewNodes (agent : ℕ) (nodes : List DeviceNodeOf) : Type 0 where
   pub some : 1 ≤ length nodes
   pub few : length nodes ≤ 16
   pub agent_eid : IsEid agent
-  pub new : All (IsNewNode agent) nodes
+  pub new : AllByRecursion (IsNewNode agent) nodes
   pub apart : AreDifferent (agent ∷ map (λ n. n.endpoint.eid) nodes)
 
 -- a device's node to which nothing was sent

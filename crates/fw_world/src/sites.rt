@@ -38,8 +38,10 @@ pub(crate) fn new_sites<B: Bank + Drop>(
     requires { AllByRecursion (λ n. HasComponents n.half.core.device) nodes.items }
     ensures { IfOk result (λ sites. sites_of sites.items ≡ map new_site nodes.items) }
 {
+    let mut nodes = nodes;
     let mut sites = Vec::new(alloc);
-    for node in nodes {
+    while !nodes.is_empty() {
+        let node = nodes.remove(0);
         let Ok(()) = sites.push(Site::new(alloc, node)) else {
             return Err(AllocError);
         };
