@@ -43,7 +43,7 @@ abbrev counts_if : Bool → AskerOf → AskerTick
 counts_if true a = asker_called (record a { deaf = 0; caller = (caller_tick a.caller).0; replies = map held_tick a.replies }) (caller_tick a.caller).1
 counts_if false a = AskerTick.Waits (record a { deaf = a.deaf - 1 })
 
-counts_are : (a : AskerOf) (hears : Bool) → nat_le a.deaf 1 ≡ hears → asker_counts a ≡ counts_if hears a
+pub counts_are : (a : AskerOf) (hears : Bool) → nat_le a.deaf 1 ≡ hears → asker_counts a ≡ counts_if hears a
 counts_are a true e = rw e refl
 counts_are a false e = rw e refl
 
@@ -82,11 +82,11 @@ called_deaf a calls.Nothing = refl
 called_deaf a (calls.Send m) = refl
 called_deaf a calls.GaveUp = refl
 
-abbrev deaf_after : Bool → ℕ → ℕ
+abbrev pub deaf_after : Bool → ℕ → ℕ
 deaf_after true deaf = 0
 deaf_after false deaf = deaf - 1
 
-asker_deaf : (a : AskerOf) (hears : Bool) → (asker_in (counts_if hears a)).deaf ≡ deaf_after hears a.deaf
+pub asker_deaf : (a : AskerOf) (hears : Bool) → (asker_in (counts_if hears a)).deaf ≡ deaf_after hears a.deaf
 asker_deaf a true = called_deaf (record a { deaf = 0; caller = (caller_tick a.caller).0; replies = map held_tick a.replies }) (caller_tick a.caller).1
 asker_deaf a false = refl
 

@@ -27,9 +27,9 @@ pub record KnownLinks (w : WorldOf) : Type 0 where
   pub links : (i eid : ℕ) (l : LinkOf) → slice_get (eids_of w) i ≡ Some eid → slice_get (links_of w) i ≡ Some l → IsLinkOf w eid l
 
 -- where something stands
-record Stood {A : Type 0} (xs : List A) (x : A) : Type 0 where
-  place : ℕ
-  at : slice_get xs place ≡ Some x
+pub record Stood {A : Type 0} (xs : List A) (x : A) : Type 0 where
+  pub place : ℕ
+  pub at : slice_get xs place ≡ Some x
 
 stood_first : {A : Type 0} (key : A → ℕ) (xs : List A) (eid : ℕ) (x : A) → first_of key xs eid ≡ Some x → Stood xs x
 stood_first key [] eid x e = absurd (cc)
@@ -38,7 +38,7 @@ stood_first key (y ∷ ys) eid x e = elim (eqb_tells (key y) eid) [
   | inr other ↦ let rest = stood_first key ys eid x (rw other.0 at e) in record { place = suc rest.place; at = rest.at }
 ]
 
-site_stood : (w : WorldOf) (eid : ℕ) (s : Option SiteOf) → site_for w.sites eid ≡ s → is_some s ≡ true → Stood (eids_of w) eid
+pub site_stood : (w : WorldOf) (eid : ℕ) (s : Option SiteOf) → site_for w.sites eid ≡ s → is_some s ≡ true → Stood (eids_of w) eid
 site_stood w eid None e some = absurd (cc)
 site_stood w eid (Some x) e some =
     let at = stood_first site_eid w.sites eid x (sym (site_is_first w.sites eid) ∙ e) in
@@ -62,13 +62,13 @@ both_there P Q None s p q = absurd p
 both_there P Q (Some h) None p q = absurd q
 both_there P Q (Some h) (Some x) p q = refl
 
-link_there : (w : WorldOf) (i eid : ℕ) → KnownLinks w → slice_get (eids_of w) i ≡ Some eid → is_some (slice_get (links_of w) i) ≡ true
+pub link_there : (w : WorldOf) (i eid : ℕ) → KnownLinks w → slice_get (eids_of w) i ≡ Some eid → is_some (slice_get (links_of w) i) ≡ true
 link_there w i eid k e =
     ap is_some (link_in_place w.agent.halves w.sites i)
     ∙ both_there (λ h. half_peer h ≡ eid) (λ x. site_eid x ≡ eid) (slice_get w.agent.halves i) (slice_get w.sites i)
     (get_map half_peer w.agent.halves i eid (ap (λ ks. slice_get ks i) k.halves ∙ e)) (get_map site_eid w.sites i eid e)
 
-linked_site : (o : Option (HalfOf TimedOf)) (s : Option SiteOf) (l : LinkOf) → link_from o s ≡ Some l → is_some s ≡ true
+pub linked_site : (o : Option (HalfOf TimedOf)) (s : Option SiteOf) (l : LinkOf) → link_from o s ≡ Some l → is_some s ≡ true
 linked_site None s l e = absurd (cc)
 linked_site (Some h) None l e = absurd (cc)
 linked_site (Some h) (Some x) l e = refl

@@ -1,0 +1,2 @@
+-- Why a run of the packet world is one over whole messages, and so keeps what these keep.
+pub mod KnownDeaf
