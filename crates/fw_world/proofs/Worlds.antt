@@ -1,2 +1,4 @@
 -- Why a run of the packet world is one over whole messages, and so keeps what these keep.
 pub mod KnownDeaf
+pub mod KnownSaid
+pub mod KnownSteps

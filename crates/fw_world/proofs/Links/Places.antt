@@ -41,7 +41,7 @@ none_mapped f (x ∷ xs) zero e = absurd (cc)
 none_mapped f (x ∷ xs) (suc i) e = none_mapped f xs i e
 
 -- where no device stands there is no link
-past_links : (w : WorldOf) (i : ℕ) → slice_get (eids_of w) i ≡ None → slice_get (links_of w) i ≡ None
+pub past_links : (w : WorldOf) (i : ℕ) → slice_get (eids_of w) i ≡ None → slice_get (links_of w) i ≡ None
 past_links w i e =
     link_in_place w.agent.halves w.sites i ∙ ap (link_from (slice_get w.agent.halves i)) (none_mapped site_eid w.sites i e) ∙ sym (no_link (slice_get w.agent.halves i))
 

@@ -30,7 +30,7 @@ pub record AreLinked (w : WorldOf) : Type 0 where
   pub links : (eid : ℕ) (l : LinkOf) → link_at w eid ≡ Some l → IsLinkOf w eid l
 
 -- the packet lives
-still_living : (now : ℕ) (p : Sent) → packet_fault now (Some p) ≡ None → now ≤ p.date + 8
+pub still_living : (now : ℕ) (p : Sent) → packet_fault now (Some p) ≡ None → now ≤ p.date + 8
 still_living now p e = elim (cases_lt (p.date + 8) now) [
   | inl dead ↦ let no : Some faults.Dead ≡ None = rw (lt-ltb (p.date + 8) now dead) at e in absurd (cc)
   | inr lives ↦ lives
