@@ -2,3 +2,5 @@
 pub mod KnownDeaf
 pub mod KnownSaid
 pub mod KnownSteps
+pub mod SafeStands
+pub mod SafeTicks

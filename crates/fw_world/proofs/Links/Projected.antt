@@ -86,7 +86,7 @@ sel_at w [] eid = refl
 sel_at w (command ∷ bytes) eid = refl
 
 -- a tick
-before_end : (soon : Bool) (fault : StepFault) → (if soon then None else Some fault) ≡ None → soon ≡ true
+pub before_end : (soon : Bool) (fault : StepFault) → (if soon then None else Some fault) ≡ None → soon ≡ true
 before_end true fault e = refl
 before_end false fault e = absurd (cc)
 

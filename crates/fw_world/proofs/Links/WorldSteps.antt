@@ -81,7 +81,7 @@ linked_by law works faults w device number node eid l (Some d) k there some is m
     packet_projects law works faults w device number node eid d l (numbered (packets_of w device) number) k there is
     (ap (λ ps. numbered ps number) (sym (packets_on w device d there))) may (said d there)
 
-known_both : (known : Bool) (fault : Option StepFault) → where_known known fault ≡ None → known ≡ true
+pub known_both : (known : Bool) (fault : Option StepFault) → where_known known fault ≡ None → known ≡ true
 known_both true fault e = refl
 known_both false fault e = absurd (cc)
 

@@ -1,5 +1,5 @@
 -- A world that stands for one over whole messages, and stays one whatever step it takes.
-use Rattle.std.proofs.Common.{◌≡◌, ◌≢◌, ◌∙◌, ◌≤◌, ◌++◌, ◌∷◌, [], ℕ, zero, suc, Bool, true, is_some, List, map, append-nil, slice_get, slice_set, Option, Some, None, IfSome, IsSomeAnd, inl, inr, refl, sym, ap, subst}
+use Rattle.std.proofs.Common.{◌≡◌, ◌≢◌, ◌∙◌, ◌≤◌, ◌++◌, ◌∷◌, [], ℕ, zero, suc, Bool, true, false, is_some, List, map, append-nil, slice_get, slice_set, Option, Some, None, IfSome, IsSomeAnd, inl, inr, refl, sym, ap, subst}
 use Rattle.std.specs.Option.{option_map}
 use Rattle.fw_package.specs.Package.{PackageText}
 use Rattle.fw_message.specs.Worlds.{NodeOf, NotedOf, noted_of}
@@ -17,7 +17,7 @@ use Rattle.fw_world.proofs.Joins.Stands.{Stands}
 use Rattle.fw_world.proofs.Joins.Worlds.{AreUnnoted, Reaches, none_noted, opening_node, reaches_on}
 use Rattle.fw_world.proofs.Links.Delivered.{IsLinkOf}
 use Rattle.fw_world.proofs.Links.Keys.{eids_of, peers_of}
-use Rattle.fw_world.proofs.Links.Linked.{KnownLinks, Stood, known_link, link_there, linked_site, linked_world, site_stood}
+use Rattle.fw_world.proofs.Links.Linked.{KnownLinks, Stood, link_there, linked_site, linked_world, site_stood}
 use Rattle.fw_world.proofs.Links.Listed.{link_by_place, links_of}
 use Rattle.fw_world.proofs.Links.Places.{SameDevices, all_links_become, one_link_becomes, past_links}
 use Rattle.fw_world.proofs.Links.Projected.{StepsTo, link_step}
@@ -149,10 +149,10 @@ absent_by w v eid (Some l) k same none e =
     let at = site_stood v eid (site_for v.sites eid) refl (linked_site _ (site_for v.sites eid) l e) in
     let there : slice_get (eids_of w) at.place ≡ Some eid = ap (λ ks. slice_get ks at.place) (sym same) ∙ at.at in
     let some = link_there w at.place eid k there in
-    let no : is_some None ≡ true = sym (ap is_some (link_by_place w at.place eid k.halves k.apart.1 there ∙ none)) ∙ some in
+    let no : false ≡ true = sym (ap is_some (link_by_place w at.place eid k.halves k.apart.1 there ∙ none)) ∙ some in
     absurd (cc)
 
-stays_absent : (w v : WorldOf) (eid : ℕ) → KnownLinks w → eids_of v ≡ eids_of w → link_at w eid ≡ None → link_at v eid ≡ None
+pub stays_absent : (w v : WorldOf) (eid : ℕ) → KnownLinks w → eids_of v ≡ eids_of w → link_at w eid ≡ None → link_at v eid ≡ None
 stays_absent w v eid k same none = absent_by w v eid (link_at v eid) k same none refl
 
 stays_by : (works : Bool) (s : Step) (w v : WorldOf) (eid : ℕ) (o : Option LinkOf) → KnownLinks w → Follows works s w v → link_at w eid ≡ o → link_step works w.agent.endpoint.eid s eid ≡ None → link_at v eid ≡ o
@@ -163,7 +163,7 @@ stays_by works s w v eid (Some l) k f e none = subst (λ x. StepsTo w.now w.pack
 link_stays : (works : Bool) (s : Step) (w v : WorldOf) (eid : ℕ) → KnownLinks w → Follows works s w v → link_step works w.agent.endpoint.eid s eid ≡ None → link_at v eid ≡ link_at w eid
 link_stays works s w v eid k f none = stays_by works s w v eid (link_at w eid) k f refl none
 
-same_devices : (works : Bool) (s : Step) (w v : WorldOf) → KnownLinks w → Follows works s w v → SameDevices w v
+pub same_devices : (works : Bool) (s : Step) (w v : WorldOf) → KnownLinks w → Follows works s w v → SameDevices w v
 same_devices works s w v k f = record { halves = k.halves; apart = k.apart.1; peers = f.peers; eids = f.eids }
 
 unmoved_by : (works : Bool) (s : Step) (w v : WorldOf) (eid : ℕ) (o : Option LinkOf) → KnownLinks w → Follows works s w v → ((l : LinkOf) → link_at w eid ≡ Some l → link_step works w.agent.endpoint.eid s eid ≡ None)
@@ -185,7 +185,7 @@ apart_after : (a b : ℕ) (xs ys : List ℕ) → b ≡ a → ys ≡ xs → AreDi
 apart_after a b xs ys e f k = rw (e, f) k
 
 -- the world of messages went along
-stand_moved : LinksAreLanes → (opening w v : WorldOf) (works : Bool) (s : Step) (now : ℕ) (ls : List LinkOf) (notes : List NotedOf) (k : Stand opening w) → Follows works s w v
+pub stand_moved : LinksAreLanes → (opening w v : WorldOf) (works : Bool) (s : Step) (now : ℕ) (ls : List LinkOf) (notes : List NotedOf) (k : Stand opening w) → Follows works s w v
     → MovesOn now ls notes k.messages → links_of v ≡ ls → v.now ≡ now → v.history ≡ w.history ++ notes → Stand opening v
 stand_moved lanes opening w v works s now ls notes k f m links time noted = record {
   halves = f.peers ∙ k.halves ∙ sym f.eids;
