@@ -1,9 +1,8 @@
 -- What the agent records of a packet that comes to it, and what the link notes of it.
-use Rattle.std.proofs.Common.{◌≡◌, ◌≢◌, ◌⊎◌, ◌∙◌, ◌==◌, ◌++◌, ◌∷◌, ℕ, Bool, true, false, if◌then◌else◌, List, [], length, map, slice_get, Option, Some, None, Ok, Err, Result, inl, inr, refl, sym, ap, subst, arith}
+use Rattle.std.proofs.Common.{◌≡◌, ◌≢◌, ◌∙◌, ◌==◌, ◌++◌, ◌∷◌, ℕ, Bool, true, false, if◌then◌else◌, List, [], length, map, slice_get, Option, Some, None, Ok, Err, Result, refl, ap, arith}
 use Rattle.std.specs.Prelude.{option_to_list}
 use Rattle.std.specs.Option.{option_map}
 use Rattle.std.proofs.lemmas.Bool.{eq-eqb, ne_eqb}
-use Rattle.std.proofs.lemmas.Bool.Decides.{eqb_tells}
 use Rattle.std.proofs.lemmas.Option.{slice_get_past}
 use Rattle.mctp_reasm.specs.Held.{Held}
 use Rattle.mctp_reasm.specs.Pieces.{MessageOf}
@@ -11,7 +10,6 @@ use Rattle.mctp_ctl.specs.declared.answers.Endpoint.{Endpoint}
 use Rattle.mctp_wire.specs.Packet as wire
 use Rattle.mctp_wire.specs.declared.layout.Head.{Head}
 use Rattle.pldm_base.specs.declared.header.PldmHead.{PldmHead}
-use Rattle.pldm_base.specs.declared.terminus.Role.{Role}
 use Rattle.pldm_base.specs.declared.terminus.Role.TheVariants as roles
 use Rattle.pldm_exch.specs.Caller.{is_quiet}
 use Rattle.pldm_exch.specs.Sides.{AskerRow, TakerRow, asker_row, taker_row}
@@ -24,12 +22,12 @@ use Rattle.ua_core.specs.declared.planned.Recorded.{Recorded}
 use Rattle.ua_core.proofs.Lawful.{learns_no_record}
 use Rattle.fw_message.specs.History.{EntryOf}
 use Rattle.fw_message.specs.Worlds.{noted_of}
-use Rattle.fw_node.specs.Agents.{AgentOf, agent_hears, agent_unmoved, half_at, half_for, hears_at, place_of as half_place}
+use Rattle.fw_node.specs.Agents.{AgentOf, agent_hears, half_at, half_for, hears_at, place_of as half_place}
 use Rattle.fw_node.specs.Cores.{package_of, session_core}
 use Rattle.fw_node.specs.Halves.{HalfHeard, HalfOf, half_hears, half_hears_by, half_takes, read_by, takes_if, takes_read}
 use Rattle.fw_node.specs.Nodes.{finished}
 use Rattle.fw_world.specs.Links.{LinkOf, agent_heard}
-use Rattle.fw_world.specs.Worlds.{WorldOf, at_agent, made_by, record_behind, recorded_from, sender_of}
+use Rattle.fw_world.specs.Worlds.{WorldOf, made_by, record_behind, recorded_from, sender_of}
 use Rattle.fw_world.proofs.Links.AgentArrivals.{heard_half, heard_half_peer, hears_put}
 use Rattle.fw_world.proofs.Links.AgentTicks.{half_put}
 use Rattle.fw_world.proofs.Worlds.HistoryNoted.{noted_each, noted_in}

@@ -1,5 +1,5 @@
 -- What a packet that comes to a node of the world adds to the history.
-use Rattle.std.proofs.Common.{◌≡◌, ◌≢◌, ◌⊎◌, ◌∙◌, ◌+◌, ◌==◌, ◌++◌, ◌≤◌, ℕ, Bool, true, false, if◌then◌else◌, List, [], is_some, map, Option, Some, None, IsSomeAnd, Ok, append-nil, inl, inr, refl, sym, ap, subst}
+use Rattle.std.proofs.Common.{◌≡◌, ◌≢◌, ◌⊎◌, ◌∙◌, ◌+◌, ◌==◌, ◌++◌, ◌≤◌, ℕ, Bool, true, false, List, [], is_some, map, Option, Some, None, IsSomeAnd, Ok, append-nil, inl, inr, refl, sym, ap, subst}
 use Rattle.std.proofs.lemmas.Bool.{cases_lt, le-ltb, lt-ltb}
 use Rattle.std.proofs.lemmas.Bool.Decides.{eqb_tells}
 use Rattle.mctp_wire.specs.Packet as wire
@@ -12,10 +12,10 @@ use Rattle.fw_message.specs.declared.side.Side.TheVariants as sides
 use Rattle.fw_node.specs.Agents.{agent_hears, half_for}
 use Rattle.fw_node.specs.Cores.{device_core, session_core}
 use Rattle.fw_node.specs.Halves.{HalfHeard, half_hears}
-use Rattle.fw_world.specs.Links.{LinkOf, LinkStep, LinkStepped, agent_heard, delivers_on, device_heard, hears_on, link_after}
+use Rattle.fw_world.specs.Links.{LinkOf, LinkStep, agent_heard, delivers_on, hears_on, link_after}
 use Rattle.fw_world.specs.Replays.{packet_fault}
 use Rattle.fw_world.specs.declared.step.StepFault.TheVariants as faults
-use Rattle.fw_world.specs.Worlds.{SiteOf, WorldOf, at_agent, at_device, comes, delivers, place_of, recorded_from, sender_of, site_for}
+use Rattle.fw_world.specs.Worlds.{SiteOf, WorldOf, at_device, comes, delivers, place_of, recorded_from, sender_of, site_for}
 use Rattle.fw_world.proofs.Links.Delivered.{IsLinkOf}
 use Rattle.fw_world.proofs.Links.Misses.{GoesBetween, deaf_hears_nothing, link_packet_between, others_packet}
 use Rattle.fw_world.proofs.Links.Projected.{comes_as, link_half, link_site}
@@ -23,7 +23,7 @@ use Rattle.fw_world.proofs.Links.Projection.{link_at}
 use Rattle.fw_world.proofs.Links.WorldSteps.{AreLinked}
 use Rattle.fw_world.proofs.Worlds.HistoryAgent.{deaf_agent_records, device_records, stranger_records}
 use Rattle.fw_world.proofs.Worlds.HistoryDevice.{activates_of, device_activates, link_activates, nowhere, silent_activates}
-use Rattle.fw_world.proofs.Worlds.HistoryNoted.{noted_in, taken_notes}
+use Rattle.fw_world.proofs.Worlds.HistoryNoted.{noted_in}
 
 -- a packet that lives comes on its link
 soon_enough : (now : ℕ) (p : Sent) → packet_fault now (Some p) ≡ None → now ≤ p.date + 8

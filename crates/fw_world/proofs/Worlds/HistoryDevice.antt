@@ -1,14 +1,12 @@
 -- What a device activates of a packet that comes to it, what it applies by a verdict, and what its link notes of that.
-use Rattle.std.proofs.Common.{◌≡◌, ◌≢◌, ◌∙◌, ◌==◌, ◌++◌, ℕ, Bool, true, List, [], ◌∷◌, map, Option, Some, None, Ok, inl, inr, append-nil, refl, sym, ap, subst}
+use Rattle.std.proofs.Common.{◌≡◌, ◌∙◌, ◌++◌, ℕ, Bool, List, [], map, Option, Some, None, refl, ap}
 use Rattle.pldm_exch.specs.Caller.{is_quiet}
-use Rattle.fd_core.specs.States.{DeviceState}
 use Rattle.fd_core.specs.Steps.{Judged, applied_by, device_verdict, puts_of}
 use Rattle.fd_core.specs.declared.states.Verdict.{Verdict}
 use Rattle.fw_message.specs.History.{EntryOf}
 use Rattle.fw_message.specs.Worlds.{noted_of}
 use Rattle.fw_node.specs.Cores.{TimedDevice, device_core}
 use Rattle.fw_node.specs.Halves.{HalfHeard, HalfOf, half_hears}
-use Rattle.fw_node.specs.Nodes.{DeviceNodeOf}
 use Rattle.fw_world.specs.Links.{LinkOf, device_heard, judges_on}
 use Rattle.fw_world.specs.Worlds.{SiteOf, WorldOf, activated_at, activated_when, at_device, judges, place_of, site_at, site_for}
 use Rattle.fw_world.proofs.Links.Posting.{site_found}

@@ -1,12 +1,12 @@
 -- The history of a world grows by what the link that takes the step notes.
-use Rattle.std.proofs.Common.{◌≡◌, ◌∙◌, ◌==◌, ◌&&◌, ◌++◌, ℕ, Bool, true, false, if◌then◌else◌, is_some, List, [], ◌∷◌, map, Option, Some, None, IfSome, IsSomeAnd, inl, inr, refl, sym, ap, subst}
+use Rattle.std.proofs.Common.{◌≡◌, ◌∙◌, ◌==◌, ◌&&◌, ◌++◌, ℕ, Bool, true, false, if◌then◌else◌, is_some, List, [], ◌∷◌, append-nil, map, Option, Some, None, IfSome, IsSomeAnd, inl, inr, refl, sym, ap, subst}
 use Rattle.std.proofs.lemmas.Bool.{eq-eqb}
 use Rattle.std.proofs.lemmas.Bool.Decides.{eqb_tells}
 use Rattle.exch_lane.specs.Lanes.{numbered}
 use Rattle.fd_core.specs.Steps.{device_verdict}
 use Rattle.fd_core.specs.declared.states.Verdict.{Verdict}
 use Rattle.ua_core.specs.Session.{SessionOf}
-use Rattle.fw_message.specs.Worlds.{NotedOf, noted_of}
+use Rattle.fw_message.specs.Worlds.{noted_of}
 use Rattle.fw_node.specs.Agents.{half_for, ready_for}
 use Rattle.fw_world.specs.Links.{LinkOf, LinkStep, LinkStepped, judges_on, link_after}
 use Rattle.fw_world.specs.Replays.{is_device, is_node, may_step, packet_fault, verdict_fault, where_known}
@@ -14,6 +14,7 @@ use Rattle.fw_world.specs.Worlds.{SiteOf, WorldOf, activates_on, asks_log, deliv
 use Rattle.fw_world.specs.declared.step.Step.{Step}
 use Rattle.fw_world.specs.declared.step.Step.TheVariants as steps
 use Rattle.fw_world.specs.declared.step.StepFault.{StepFault}
+use Rattle.fw_world.proofs.Joins.Each.{AllAfter, notes_of}
 use Rattle.fw_world.proofs.Links.Delivered.{packets_on}
 use Rattle.fw_world.proofs.Links.Linked.{KnownLinks, linked_world}
 use Rattle.fw_world.proofs.Links.Projected.{comes_as, known_if, link_site, link_step, restart_as, where_mine}
@@ -22,7 +23,7 @@ use Rattle.fw_world.proofs.Links.Routes.{both_hold}
 use Rattle.fw_world.proofs.Links.WorldSteps.{AreLinked}
 use Rattle.fw_world.proofs.Worlds.HistoryDelivered.{delivers_noting, delivers_nothing}
 use Rattle.fw_world.proofs.Worlds.HistoryDevice.{device_applies}
-use Rattle.fw_world.proofs.Worlds.HistoryNoted.{IsUnnoted, noted_in, nothing_more, taken_notes, unnoted_step}
+use Rattle.fw_world.proofs.Worlds.HistoryNoted.{IsUnnoted, all_unnoted, noted_in, nothing_more, taken_notes, unnoted_step}
 
 -- What a step of the world adds to its history: where the link of a device takes a step, what that notes of the device, and
 -- where none does, nothing.
@@ -31,16 +32,11 @@ pub record Notes (works : Bool) (faults : ℕ) (w : WorldOf) (s : Step) : Type 0
       → link_after w.now w.packages l step ≡ Some t → (world_after works faults w s).history ≡ w.history ++ map (noted_of eid) t.noted
   pub untaken : ((eid : ℕ) (l : LinkOf) → link_at w eid ≡ Some l → link_step works w.agent.endpoint.eid s eid ≡ None) → (world_after works faults w s).history ≡ w.history
 
--- A step that leaves the history, and of which no link notes anything.
-quiet_step : (works : Bool) (faults : ℕ) (w : WorldOf) (s : Step) → ((eid : ℕ) → IfSome (link_step works w.agent.endpoint.eid s eid) IsUnnoted)
-    → (world_after works faults w s).history ≡ w.history → Notes works faults w s
-quiet_step works faults w s unnoted same = record {
-  taken = λ eid l step t is steps after.
-    let quiet : IsUnnoted step = subst (λ o. IfSome o IsUnnoted) steps (unnoted eid) in
-    same ∙ nothing_more w.history eid t.noted
-    (sym (taken_notes (link_after w.now w.packages l step) t after) ∙ unnoted_step w.now w.packages l step quiet);
-  untaken = λ none. same;
-}
+-- Every step but the coming of a packet and a verdict leaves the history, and no link notes anything of it.
+abbrev pub IsQuiet : Step → Type 0
+IsQuiet (steps.Deliver device number node) = ⊥
+IsQuiet (steps.Verdict device verdict) = ⊥
+IsQuiet s = Unit {0}
 
 mine_unnoted : (mine : Bool) (s : LinkStep) → IsUnnoted s → IfSome (where_mine mine (Some s)) IsUnnoted
 mine_unnoted true s k = k
@@ -65,6 +61,42 @@ restart_by false w u v h k = k
 
 restart_keeps : (w : WorldOf) (node : ℕ) → (restarts w node).history ≡ w.history
 restart_keeps w node = restart_by (node == w.agent.endpoint.eid) w _ _ refl refl
+
+pub quiet_history : (works : Bool) (faults : ℕ) (w : WorldOf) (s : Step) → IsQuiet s → (world_after works faults w s).history ≡ w.history
+quiet_history works faults w (steps.Deliver device number node) k = absurd k
+quiet_history works faults w steps.Tick k = refl
+quiet_history works faults w (steps.Start device number) k = refl
+quiet_history works faults w (steps.Cancel device) k = refl
+quiet_history works faults w (steps.Activate device) k = activation_keeps w device (ready_for w.agent device)
+quiet_history works faults w (steps.Verdict device verdict) k = absurd k
+quiet_history works faults w (steps.Restart node) k = restart_keeps w node
+quiet_history works faults w (steps.Sel bytes) k = log_keeps w bytes.items
+
+quiet_links : (works : Bool) (agent : ℕ) (s : Step) (eid : ℕ) → IsQuiet s → IfSome (link_step works agent s eid) IsUnnoted
+quiet_links works agent (steps.Deliver device number node) eid k = absurd k
+quiet_links works agent steps.Tick eid k = tt
+quiet_links works agent (steps.Start device number) eid k = mine_unnoted (device == eid) (LinkStep.Start number) tt
+quiet_links works agent (steps.Cancel device) eid k = mine_unnoted (device == eid) LinkStep.Cancel tt
+quiet_links works agent (steps.Activate device) eid k = mine_unnoted (device == eid) LinkStep.Activate tt
+quiet_links works agent (steps.Verdict device verdict) eid k = absurd k
+quiet_links works agent (steps.Restart node) eid k = restart_unnoted (node == agent) (node == eid)
+quiet_links works agent (steps.Sel bytes) eid k = tt
+
+quiet_notes : (works : Bool) (faults : ℕ) (w : WorldOf) (s : Step) → IsQuiet s → Notes works faults w s
+quiet_notes works faults w s k = record {
+  taken = λ eid l step t is steps after.
+      let quiet : IsUnnoted step = subst (λ o. IfSome o IsUnnoted) steps (quiet_links works w.agent.endpoint.eid s eid k) in
+      quiet_history works faults w s k ∙ nothing_more w.history eid t.noted
+      (sym (taken_notes (link_after w.now w.packages l step) t after) ∙ unnoted_step w.now w.packages l step quiet);
+  untaken = λ none. quiet_history works faults w s k;
+}
+
+-- Where all links take such a step, the history grows by what all of them note, which is nothing.
+pub all_note : (works : Bool) (faults : ℕ) (w : WorldOf) (s : Step) (step : LinkStep) (eids : List ℕ) (ls : List LinkOf) (ts : List LinkStepped) → IsQuiet s → IsUnnoted step
+    → AllAfter w.packages w.now step ls ts → (world_after works faults w s).history ≡ w.history ++ notes_of eids ts
+all_note works faults w s step eids ls ts k quiet after =
+    quiet_history works faults w s k ∙ sym (append-nil w.history)
+    ∙ ap (λ ns. w.history ++ ns) (sym (all_unnoted w.now w.packages step eids ls ts quiet after))
 
 -- a step that is one of a device's link
 none_mine : (device : ℕ) (o : Option LinkStep) → where_mine (device == device) o ≡ None → o ≡ None
@@ -145,28 +177,19 @@ history_grows works faults w (steps.Deliver device number node) k may =
     let soon = known_if (is_device w device && is_node w node) fault may in
     record {
       taken = λ eid l step t is takes after.
-        packet_taken works faults w device number node eid l step k soon is takes
-        ∙ ap (λ es. w.history ++ map (noted_of eid) es) (taken_notes (link_after w.now w.packages l step) t after);
+          packet_taken works faults w device number node eid l step k soon is takes
+          ∙ ap (λ es. w.history ++ map (noted_of eid) es) (taken_notes (link_after w.now w.packages l step) t after);
       untaken = λ none. packet_untaken works faults w device number node (link_at w device) k soon refl (k.known device known.0) none;
     }
-history_grows works faults w steps.Tick k may = quiet_step works faults w steps.Tick (λ eid. tt) refl
-history_grows works faults w (steps.Start device number) k may =
-    quiet_step works faults w (steps.Start device number) (λ eid. mine_unnoted (device == eid) (LinkStep.Start number) tt) refl
-history_grows works faults w (steps.Cancel device) k may =
-    quiet_step works faults w (steps.Cancel device) (λ eid. mine_unnoted (device == eid) LinkStep.Cancel tt) refl
-history_grows works faults w (steps.Activate device) k may =
-    quiet_step works faults w (steps.Activate device) (λ eid. mine_unnoted (device == eid) LinkStep.Activate tt) (activation_keeps w device (ready_for w.agent device))
 history_grows works faults w (steps.Verdict device verdict) k may = record {
   taken = λ eid l step t is takes after.
-    verdict_taken works faults w verdict device eid l step is takes
-    ∙ ap (λ es. w.history ++ map (noted_of eid) es) (taken_notes (link_after w.now w.packages l step) t after);
+      verdict_taken works faults w verdict device eid l step is takes
+      ∙ ap (λ es. w.history ++ map (noted_of eid) es) (taken_notes (link_after w.now w.packages l step) t after);
   untaken = λ none.
-    verdict_untaken w (world_after works faults w (steps.Verdict device verdict)) device (LinkStep.Judge verdict works) (link_at w device) refl
-    (k.known device (judged_site verdict (site_for w.sites device) may)) none;
+      verdict_untaken w (world_after works faults w (steps.Verdict device verdict)) device (LinkStep.Judge verdict works) (link_at w device) refl
+      (k.known device (judged_site verdict (site_for w.sites device) may)) none;
 }
-history_grows works faults w (steps.Restart node) k may =
-    quiet_step works faults w (steps.Restart node) (λ eid. restart_unnoted (node == w.agent.endpoint.eid) (node == eid)) (restart_keeps w node)
-history_grows works faults w (steps.Sel bytes) k may = quiet_step works faults w (steps.Sel bytes) (λ eid. tt) (log_keeps w bytes.items)
+history_grows works faults w s k may = quiet_notes works faults w s tt
 
 -- the same where the links are known one by one
 pub known_history_grows : (works : Bool) (faults : ℕ) (w : WorldOf) (s : Step) → KnownLinks w → may_step w s ≡ None → Notes works faults w s
