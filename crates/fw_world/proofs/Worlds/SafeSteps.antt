@@ -1,0 +1,202 @@
+-- A world that stands for one over whole messages stays one whatever step it takes.
+use Rattle.std.proofs.Common.{◌≡◌, ◌≢◌, ◌∙◌, ◌+◌, ◌-◌, ◌^◌, ◌==◌, ℕ, Bool, true, false, if◌then◌else◌, nat_lt, List, [], ◌∷◌, Option, Some, None, inl, inr, refl, sym, ap, subst}
+use Rattle.std.proofs.lemmas.Bool.{eq-eqb, ne_eqb}
+use Rattle.std.proofs.lemmas.Bool.Decides.{eqb_tells}
+use Rattle.exch_lane.specs.Lanes.{Sent, numbered}
+use Rattle.exch_lane.specs.Laws.{LaneIsACell}
+use Rattle.fw_package.specs.Package.{PackageText}
+use Rattle.fd_core.specs.declared.states.Verdict.{Verdict}
+use Rattle.ua_core.specs.Session.{SessionOf}
+use Rattle.fw_message.specs.declared.side.Side.TheVariants as sides
+use Rattle.fw_node.specs.Agents.{ready_for}
+use Rattle.fw_node.specs.Cores.{session_core}
+use Rattle.fw_node.specs.Halves.{half_restarts}
+use Rattle.fw_world.specs.JoinLaws.{LinksAreMessages}
+use Rattle.fw_world.specs.LinkLaws.{LinksAreLanes}
+use Rattle.fw_world.specs.Links.{LinkOf, LinkStep, link_after, link_ticks, time_after, unnoted}
+use Rattle.fw_world.specs.Replays.{Leads, may_step}
+use Rattle.fw_world.specs.Worlds.{SiteOf, WorldOf, activates_on, asks_log, at_agent, at_device, delivers, judges, packets_of, place_of, site_for, world_after}
+use Rattle.fw_world.specs.declared.step.Step.{Step}
+use Rattle.fw_world.specs.declared.step.Step.TheVariants as steps
+use Rattle.fw_world.specs.declared.step.StepFault.{StepFault}
+use Rattle.fw_world.proofs.Links.Keys.{eids_stay, peers_stay}
+use Rattle.fw_world.proofs.Links.Linked.{linked_world}
+use Rattle.fw_world.proofs.Links.Projected.{before_end, comes_as, link_step, restart_as, where_mine}
+use Rattle.fw_world.proofs.Links.Projection.{link_at, on_agent}
+use Rattle.fw_world.proofs.Links.WorldSteps.{AreLinked, projection}
+use Rattle.fw_world.proofs.Worlds.HistoryGrows.{history_grows}
+use Rattle.fw_world.proofs.Worlds.KnownDeaf.{agent_stays, deaf_goes}
+use Rattle.fw_world.proofs.Worlds.KnownSaid.{links_can_say}
+use Rattle.fw_world.proofs.Worlds.SafeStands.{Follows, Stand, known_links, stand_none, stand_one}
+use Rattle.fw_world.proofs.Worlds.SafeTicks.{stand_all}
+
+-- THE PACKAGES AND THE TIME
+
+-- the same packages at the same time
+pub record SameMoment (w v : WorldOf) : Type 0 where
+  pub packages : v.packages ≡ w.packages
+  pub now : v.now ≡ w.now
+
+same_moment : (w v : WorldOf) → v ≡ w → SameMoment w v
+same_moment w v e = record { packages = ap (λ x. x.packages) e; now = ap (λ x. x.now) e }
+
+moment_if : (agent : Bool) (w u v : WorldOf) → SameMoment w u → SameMoment w v → SameMoment w (if agent then u else v)
+moment_if true w u v h k = h
+moment_if false w u v h k = k
+
+device_moment : (works : Bool) (faults : ℕ) (w : WorldOf) (bytes : List ℕ) (o : Option ℕ) (s : Option SiteOf) → SameMoment w (at_device works faults w bytes o s)
+device_moment works faults w bytes None s = same_moment w w refl
+device_moment works faults w bytes (Some p) None = same_moment w w refl
+device_moment works faults w bytes (Some p) (Some x) = record { packages = refl; now = refl }
+
+delivered_moment : (works : Bool) (faults : ℕ) (w : WorldOf) (node : ℕ) (o : Option Sent) → SameMoment w (delivers works faults w node o)
+delivered_moment works faults w node None = same_moment w w refl
+delivered_moment works faults w node (Some p) =
+    moment_if (node == w.agent.endpoint.eid) w (at_agent w p.bytes) (at_device works faults w p.bytes (place_of w.sites node) (site_for w.sites node))
+    (record { packages = refl; now = refl }) (device_moment works faults w p.bytes (place_of w.sites node) (site_for w.sites node))
+
+activated_moment : (w : WorldOf) (device : ℕ) (o : Option SessionOf) → SameMoment w (activates_on w device o)
+activated_moment w device None = same_moment w w refl
+activated_moment w device (Some s) = record { packages = refl; now = refl }
+
+judged_moment : (works : Bool) (faults : ℕ) (w : WorldOf) (verdict : Verdict) (o : Option ℕ) (s : Option SiteOf) → SameMoment w (judges works faults w verdict o s)
+judged_moment works faults w verdict None s = same_moment w w refl
+judged_moment works faults w verdict (Some p) None = same_moment w w refl
+judged_moment works faults w verdict (Some p) (Some x) = record { packages = refl; now = refl }
+
+log_moment : (w : WorldOf) (bytes : List ℕ) → SameMoment w (asks_log w bytes)
+log_moment w [] = record { packages = refl; now = refl }
+log_moment w (command ∷ bytes) = record { packages = refl; now = refl }
+
+restart_moment : (works : Bool) (faults : ℕ) (w : WorldOf) (node : ℕ) → SameMoment w (world_after works faults w (steps.Restart node))
+restart_moment works faults w node = moment_if (node == w.agent.endpoint.eid) w _ _ (record { packages = refl; now = refl }) (record { packages = refl; now = refl })
+
+packages_stay : (works : Bool) (faults : ℕ) (w : WorldOf) (s : Step) → (world_after works faults w s).packages ≡ w.packages
+packages_stay works faults w (steps.Deliver device number node) = (delivered_moment works faults w node (numbered (packets_of w device) number)).packages
+packages_stay works faults w steps.Tick = refl
+packages_stay works faults w (steps.Start device number) = refl
+packages_stay works faults w (steps.Cancel device) = refl
+packages_stay works faults w (steps.Activate device) = (activated_moment w device (ready_for w.agent device)).packages
+packages_stay works faults w (steps.Verdict device verdict) = (judged_moment works faults w verdict (place_of w.sites device) (site_for w.sites device)).packages
+packages_stay works faults w (steps.Restart node) = (restart_moment works faults w node).packages
+packages_stay works faults w (steps.Sel bytes) = (log_moment w bytes.items).packages
+
+-- WHAT FOLLOWS A STEP
+
+world_follows : LaneIsACell → (opening w v : WorldOf) (s : Step) → Stand opening w → (h : Leads w s v) → Follows h.works s w (world_after h.works h.faults w s)
+world_follows law opening w v s k h =
+    let linked : AreLinked w = linked_world w (known_links opening w k) in
+    let notes = history_grows h.works h.faults w s linked h.may in
+    record {
+      packages = packages_stay h.works h.faults w s;
+      peers = peers_stay h.works h.faults w s linked.halves;
+      eids = eids_stay h.works h.faults w s;
+      agent = agent_stays h.works h.faults w s;
+      deaf = λ eid. deaf_goes h.works h.faults w s eid;
+      goes = λ eid l is. projection law h.works h.faults w s eid l linked h.may (λ device d there. links_can_say h.works w s device d linked h.may h.said there) is;
+      said = λ eid l is. links_can_say h.works w s eid l linked h.may h.said is;
+      notes = record { one = λ eid l step t is mine after. notes.taken eid l step t is mine after; none = λ none. notes.untaken none };
+    }
+
+-- WHICH LINKS GO A STEP
+
+-- one device's
+mine_only : (own : ℕ) (o : Option LinkStep) (eid : ℕ) → eid ≢ own → where_mine (own == eid) o ≡ None
+mine_only own o eid far = ap (λ b. where_mine b o) (ne_eqb own eid (λ z. far (sym z)))
+
+mine_itself : (own : ℕ) (o : Option LinkStep) → where_mine (own == own) o ≡ o
+mine_itself own o = ap (λ b. where_mine b o) (eq-eqb own own refl)
+
+stand_own : LinksAreLanes → LinksAreMessages → (opening w v : WorldOf) (works : Bool) (s : Step) (own : ℕ) (step : LinkStep) (o : Option LinkOf) → Stand opening w → Follows works s w v → v.now ≡ w.now
+    → link_at w own ≡ o → link_step works w.agent.endpoint.eid s own ≡ Some step → time_after w.now step ≡ w.now
+    → ((eid : ℕ) → eid ≢ own → link_step works w.agent.endpoint.eid s eid ≡ None) → Stand opening v
+stand_own lanes messages opening w v works s own step None k f time is mine soon others =
+    stand_none lanes opening w v works s k f time
+    (λ eid l there. others eid (λ z. absurd (let no : Some l ≡ None = sym there ∙ ap (link_at w) z ∙ is in cc)))
+stand_own lanes messages opening w v works s own step (Some l) k f time is mine soon others = stand_one lanes messages opening w v works s own l step k f time is mine soon others
+
+stand_mine : LinksAreLanes → LinksAreMessages → (opening w v : WorldOf) (works : Bool) (s : Step) (own : ℕ) (step : LinkStep) → Stand opening w → Follows works s w v → v.now ≡ w.now
+    → ((eid : ℕ) → link_step works w.agent.endpoint.eid s eid ≡ where_mine (own == eid) (Some step)) → time_after w.now step ≡ w.now → Stand opening v
+stand_mine lanes messages opening w v works s own step k f time is soon =
+    stand_own lanes messages opening w v works s own step (link_at w own) k f time refl (is own ∙ mine_itself own (Some step)) soon (λ eid far. is eid ∙ mine_only own (Some step) eid far)
+
+-- A packet comes.
+comes_none : (works : Bool) (number : ℕ) (mine : Bool) → where_mine mine (comes_as works number false false) ≡ None
+comes_none works number true = refl
+comes_none works number false = refl
+
+stand_comes : LinksAreLanes → LinksAreMessages → (opening w v : WorldOf) (works : Bool) (device number node : ℕ) → Stand opening w → Follows works (steps.Deliver device number node) w v → v.now ≡ w.now → Stand opening v
+stand_comes lanes messages opening w v works device number node k f time = elim (eqb_tells node w.agent.endpoint.eid) [
+  | inl agent ↦
+      stand_mine lanes messages opening w v works (steps.Deliver device number node) device (LinkStep.Deliver number sides.Agent works) k f time
+      (λ eid. ap (λ b. where_mine (device == eid) (comes_as works number b (node == eid))) agent.0) refl
+  | inr other ↦ elim (eqb_tells node device) [
+    | inl here ↦
+        stand_own lanes messages opening w v works (steps.Deliver device number node) device (LinkStep.Deliver number sides.Device works) (link_at w device) k f time refl
+        (mine_itself device (comes_as works number (node == w.agent.endpoint.eid) (node == device)) ∙ ap (λ b. comes_as works number b (node == device)) other.0 ∙ ap (λ b. comes_as works number false b) here.0)
+        refl (λ eid far. mine_only device (comes_as works number (node == w.agent.endpoint.eid) (node == eid)) eid far)
+    | inr elsewhere ↦
+        stand_none lanes opening w v works (steps.Deliver device number node) k f time
+        (λ eid l there. elim (eqb_tells device eid) [
+          | inl mine ↦
+              let nobody : (node == eid) ≡ false = ap (λ d. node == d) (sym mine.1) ∙ elsewhere.0 in
+              ap (λ b. where_mine (device == eid) (comes_as works number b (node == eid))) other.0
+              ∙ ap (λ b. where_mine (device == eid) (comes_as works number false b)) nobody
+              ∙ comes_none works number (device == eid)
+          | inr strange ↦ ap (λ b. where_mine b (comes_as works number (node == w.agent.endpoint.eid) (node == eid))) strange.0
+        ])
+  ]
+]
+
+-- A node starts anew.
+restarted_only : (node eid : ℕ) → eid ≢ node → restart_as false (node == eid) ≡ None
+restarted_only node eid far = ap (λ b. restart_as false b) (ne_eqb node eid (λ z. far (sym z)))
+
+restart_leaves : (works : Bool) (faults : ℕ) (w : WorldOf) (node : ℕ) (agent : Bool) (u v : WorldOf) → u.history ≡ w.history → v.history ≡ w.history → (if agent then u else v).history ≡ w.history
+restart_leaves works faults w node true u v h k = h
+restart_leaves works faults w node false u v h k = k
+
+stand_restarts : LinksAreLanes → LinksAreMessages → (opening w v : WorldOf) (works : Bool) (node : ℕ) → Stand opening w → Follows works (steps.Restart node) w v → v.now ≡ w.now → v.history ≡ w.history → Stand opening v
+stand_restarts lanes messages opening w v works node k f time noted = elim (eqb_tells node w.agent.endpoint.eid) [
+  | inl agent ↦
+      stand_all lanes messages opening w v works (steps.Restart node) (LinkStep.Restart sides.Agent) (on_agent (half_restarts (session_core w.packages))) k f time
+      (λ eid. ap (λ b. restart_as b (node == eid)) agent.0) (λ l. refl) noted
+  | inr other ↦
+      stand_own lanes messages opening w v works (steps.Restart node) node (LinkStep.Restart sides.Device) (link_at w node) k f time refl
+      (ap (λ b. restart_as b (node == node)) other.0 ∙ ap (λ b. restart_as false b) (eq-eqb node node refl)) refl
+      (λ eid far. ap (λ b. restart_as b (node == eid)) other.0 ∙ restarted_only node eid far)
+]
+
+-- Time goes on.
+tick_goes : (now : ℕ) (packages : List PackageText) (soon : Bool) (l : LinkOf) → soon ≡ true → (if soon then Some (unnoted (link_ticks now packages l true true)) else None) ≡ Some (unnoted (link_ticks now packages l true true))
+tick_goes now packages soon l e = rw e refl
+
+ticks_may : (w : WorldOf) (fault : StepFault) → (if nat_lt w.now (2 ^ 32 - 1) then None else Some fault) ≡ None → nat_lt w.now (2 ^ 32 - 1) ≡ true
+ticks_may w fault may = before_end (nat_lt w.now (2 ^ 32 - 1)) fault may
+
+stand_by : LinksAreLanes → LinksAreMessages → (opening w : WorldOf) (works : Bool) (faults : ℕ) (s : Step) → Stand opening w → may_step w s ≡ None → Follows works s w (world_after works faults w s) → Stand opening (world_after works faults w s)
+stand_by lanes messages opening w works faults (steps.Deliver device number node) k may f =
+    stand_comes lanes messages opening w (world_after works faults w (steps.Deliver device number node)) works device number node k f (delivered_moment works faults w node (numbered (packets_of w device) number)).now
+stand_by lanes messages opening w works faults steps.Tick k may f =
+    stand_all lanes messages opening w (world_after works faults w steps.Tick) works steps.Tick (LinkStep.Tick true true) (λ l. link_ticks w.now w.packages l true true) k f refl (λ eid. refl)
+    (λ l. tick_goes w.now w.packages (nat_lt w.now (2 ^ 32 - 1)) l (ticks_may w _ may)) refl
+stand_by lanes messages opening w works faults (steps.Start device number) k may f =
+    stand_mine lanes messages opening w (world_after works faults w (steps.Start device number)) works (steps.Start device number) device (LinkStep.Start number) k f refl (λ eid. refl) refl
+stand_by lanes messages opening w works faults (steps.Cancel device) k may f =
+    stand_mine lanes messages opening w (world_after works faults w (steps.Cancel device)) works (steps.Cancel device) device LinkStep.Cancel k f refl (λ eid. refl) refl
+stand_by lanes messages opening w works faults (steps.Activate device) k may f =
+    stand_mine lanes messages opening w (world_after works faults w (steps.Activate device)) works (steps.Activate device) device LinkStep.Activate k f
+    (activated_moment w device (ready_for w.agent device)).now (λ eid. refl) refl
+stand_by lanes messages opening w works faults (steps.Verdict device verdict) k may f =
+    stand_mine lanes messages opening w (world_after works faults w (steps.Verdict device verdict)) works (steps.Verdict device verdict) device (LinkStep.Judge verdict works) k f
+    (judged_moment works faults w verdict (place_of w.sites device) (site_for w.sites device)).now (λ eid. refl) refl
+stand_by lanes messages opening w works faults (steps.Restart node) k may f =
+    stand_restarts lanes messages opening w (world_after works faults w (steps.Restart node)) works node k f (restart_moment works faults w node).now
+    (restart_leaves works faults w node (node == w.agent.endpoint.eid) _ _ refl refl)
+stand_by lanes messages opening w works faults (steps.Sel bytes) k may f =
+    stand_none lanes opening w (world_after works faults w (steps.Sel bytes)) works (steps.Sel bytes) k f (log_moment w bytes.items).now (λ eid l there. refl)
+
+-- Wherever a step leads, a world that stands stays one that stands.
+pub stand_on : LaneIsACell → LinksAreLanes → LinksAreMessages → (opening w v : WorldOf) (s : Step) → Stand opening w → Leads w s v → Stand opening v
+stand_on law lanes messages opening w v s k h =
+    subst (Stand opening) (sym h.after) (stand_by lanes messages opening w h.works h.faults s k h.may (world_follows law opening w v s k h))
