@@ -10,3 +10,5 @@ pub mod KnownSteps
 pub mod SafeStands
 pub mod SafeSteps
 pub mod SafeTicks
+pub mod SafeOpening
+pub mod Safe

@@ -2,6 +2,7 @@
 //! image that a device activates and of every component that the agent records as applied.
 #![tactic(auto)]
 
+mod headline;
 mod joined;
 mod laws;
 mod replays;
@@ -14,6 +15,7 @@ pub use fw_message::{
     Entry, Event, Held, Image, MessageStep, MessageStepFault, MessageWorld, Side, Way,
     message_replay, messages_are_safe, runs_stay_tied, worlds_are_safe,
 };
+pub use headline::packets_are_safe;
 pub use joined::links_are_messages;
 pub use laws::links_are_lanes;
 pub use replays::replay;
