@@ -1,11 +1,10 @@
 -- How long the agent is deaf after a step, and each of its halves with it.
-use Rattle.std.proofs.Common.{◌≡◌, ◌∙◌, ◌==◌, ℕ, Bool, true, false, if◌then◌else◌, nat_le, List, [], ◌∷◌, Option, Some, None, IfSome, refl, sym, ap}
+use Rattle.std.proofs.Common.{◌≡◌, ◌∙◌, ◌==◌, ℕ, Bool, true, false, if◌then◌else◌, nat_le, List, [], ◌∷◌, Option, Some, None, refl, sym, ap}
 use Rattle.mctp_reasm.specs.Pieces.{MessageOf}
 use Rattle.fwup_wire.specs.Values.{CommandOf}
 use Rattle.fd_core.specs.Steps.{Judged, device_verdict}
 use Rattle.fw_package.specs.Package.{PackageText}
 use Rattle.pldm_exch.specs.Caller.{is_quiet, may_begin}
-use Rattle.pldm_exch.specs.Ends.{AskerOf}
 use Rattle.pldm_exch.specs.Sides.{AskerRow, AskerTick, TakerRow, asker_counts, asker_row, taker_counts, taker_row}
 use Rattle.pldm_base.specs.declared.header.PldmHead.{PldmHead}
 use Rattle.mctp_reasm.specs.Held.{Held}
@@ -16,12 +15,12 @@ use Rattle.exch_lane.specs.Lanes.{Sent, numbered}
 use Rattle.fw_message.specs.Pairs.{may_start}
 use Rattle.fw_message.specs.declared.side.Side.{Side}
 use Rattle.fw_message.specs.declared.side.Side.TheVariants as sides
-use Rattle.fw_node.specs.Agents.{AgentOf, agent_hears, agent_ticks, agent_unmoved, becomes_at, half_at, half_for, hears_at, place_heard, place_of as half_place, activates, cancels, ready_for, starts}
+use Rattle.fw_node.specs.Agents.{AgentOf, agent_ticks, agent_unmoved, becomes_at, half_at, half_for, hears_at, place_heard, place_of as half_place, activates, cancels, ready_for, starts}
 use Rattle.fw_node.specs.Cores.{TimedDevice, device_core, session_core}
 use Rattle.fw_node.specs.Halves.{CoreOf, HalfHeard, HalfOf, begins_if, begins_wish, called, half_hears, half_hears_by, half_takes, half_ticks, hears_if, read_by, takes_if, takes_read, unwished_abandoned, with_caller}
 use Rattle.mctp_wire.specs.Packet as wire
 use Rattle.fw_world.specs.Links.{LinkOf, LinkStep, LinkStepped, activates_on as link_activates, agent_heard, delivers_on, device_heard, hears_on, judges_on, link_after, link_ticks, unnoted}
-use Rattle.fw_world.specs.Worlds.{SiteOf, WorldOf, activates_on, asks_log, at_agent, at_device, calls, comes, delivers, judges, packets_of, place_of, site_for, world_after}
+use Rattle.fw_world.specs.Worlds.{WorldOf, activates_on, asks_log, at_agent, at_device, calls, delivers, packets_of, place_of, site_for, world_after}
 use Rattle.fw_world.specs.declared.step.Step.{Step}
 use Rattle.fw_world.specs.declared.step.Step.TheVariants as steps
 use Rattle.fw_world.proofs.Joins.Rows.{asker_deaf, asker_in, counts_are, deaf_after}

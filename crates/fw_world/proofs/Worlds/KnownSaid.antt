@@ -1,18 +1,15 @@
 -- What nodes and cores can say, on the links of a world.
-use Rattle.std.proofs.Common.{◌≡◌, ◌≢◌, ◌⊎◌, ◌∙◌, ◌+◌, ◌==◌, ◌&&◌, ◌≤◌, ℕ, Bool, true, false, is_some, nat_le, List, Option, Some, None, IfSome, IsSomeAnd, Ok, inl, inr, refl, sym, ap, subst}
+use Rattle.std.proofs.Common.{◌≡◌, ◌≢◌, ◌⊎◌, ◌∙◌, ◌+◌, ◌==◌, ◌&&◌, ◌≤◌, ℕ, Bool, true, false, nat_le, List, Option, Some, None, IfSome, IsSomeAnd, Ok, inl, inr, refl, sym, ap, subst}
 use Rattle.std.specs.List.{AllByRecursion}
 use Rattle.std.specs.Option.{option_map}
 use Rattle.std.proofs.lemmas.Bool.{leb-true}
 use Rattle.std.proofs.lemmas.Bool.Decides.{eqb_tells}
-use Rattle.mctp_wire.specs.Packet as wire
 use Rattle.mctp_wire.specs.declared.layout.Head.{Head}
 use Rattle.exch_lane.specs.Lanes.{Sent, numbered}
-use Rattle.ua_core.specs.Session.{TimedOf}
-use Rattle.fwup_wire.specs.Commands.{IsSpoken}
 use Rattle.fw_message.specs.declared.side.Side.TheVariants as sides
 use Rattle.fw_node.specs.Agents.{HalfMaySpeak, agent_ticks, half_at, half_for, hearer, place_heard}
 use Rattle.fw_node.specs.Cores.{device_core, session_core}
-use Rattle.fw_node.specs.Halves.{HalfHeard, HalfOf, half_hears}
+use Rattle.fw_node.specs.Halves.{half_hears}
 use Rattle.fw_node.specs.Nodes.{IsTold}
 use Rattle.fw_world.specs.LinkLaws.{CanBeSaid, IsToldOn, Speaks}
 use Rattle.fw_world.specs.Links.{LinkOf, LinkStep}
@@ -20,7 +17,7 @@ use Rattle.fw_world.specs.Replays.{CanBeSaidBy, IsToldBy, IsToldTo, SiteSpeaks, 
 use Rattle.fw_world.specs.Worlds.{SiteOf, WorldOf, packets_of, site_for}
 use Rattle.fw_world.specs.declared.step.Step.{Step}
 use Rattle.fw_world.specs.declared.step.Step.TheVariants as steps
-use Rattle.fw_world.proofs.Links.AgentTicks.{IsHalfOf, agent_ticks_at, half_after_tick, half_is_first, half_peer}
+use Rattle.fw_world.proofs.Links.AgentTicks.{agent_ticks_at, half_after_tick, half_is_first, half_peer}
 use Rattle.fw_world.proofs.Links.Delivered.{IsLinkOf, packets_on}
 use Rattle.fw_world.proofs.Links.Firsts.{first_fact}
 use Rattle.fw_world.proofs.Links.Misses.{GoesBetween, link_packet_between, others_packet}

@@ -1,5 +1,5 @@
 -- Wherever steps lead a world that began as it is made, it is safe.
-use Rattle.std.proofs.Common.{◌≡◌, ◌∙◌, ◌==◌, ◌++◌, ℕ, Bool, true, false, if◌then◌else◌, is_some, List, [], ◌∷◌, map, slice_get, Option, Some, None, IfSome, IsSomeAnd, refl, sym, ap, subst}
+use Rattle.std.proofs.Common.{◌≡◌, ◌∙◌, ◌==◌, ℕ, true, if◌then◌else◌, is_some, List, [], ◌∷◌, map, slice_get, Option, Some, None, IfSome, IsSomeAnd, refl, sym, ap, subst}
 use Rattle.std.specs.Option.{option_map}
 use Rattle.exch_lane.specs.Laws.{LaneIsACell}
 use Rattle.fw_package.specs.Package.{PackageText}
@@ -9,8 +9,7 @@ use Rattle.fw_message.specs.Laws.{IsSafeAndTied}
 use Rattle.fw_message.specs.Pairs.{PairOf}
 use Rattle.fw_message.specs.WorldLaws.{history_of, run_of}
 use Rattle.fw_message.specs.WorldLaws.{IsSafeWorld as AreSafeMessages, WorldsAreSafe as MessagesAreSafe}
-use Rattle.fw_message.specs.Worlds.{NodeOf, NotedOf, node_at}
-use Rattle.fw_message.specs.Worlds.{WorldOf as MessageWorld}
+use Rattle.fw_message.specs.Worlds.{NodeOf, node_at}
 use Rattle.fw_node.specs.Agents.{half_for}
 use Rattle.fw_node.specs.Halves.{HalfOf}
 use Rattle.fw_world.specs.JoinLaws.{LinksAreMessages}
@@ -26,11 +25,11 @@ use Rattle.fw_world.proofs.Joins.Stands.{Stands}
 use Rattle.fw_world.proofs.Joins.Worlds.{opening_node, reached_safe}
 use Rattle.fw_world.proofs.Links.Firsts.{first_of}
 use Rattle.fw_world.proofs.Links.Keys.{eids_of}
-use Rattle.fw_world.proofs.Links.Linked.{KnownLinks, link_there, linked_site, site_stood}
+use Rattle.fw_world.proofs.Links.Linked.{link_there, linked_site, site_stood}
 use Rattle.fw_world.proofs.Links.Listed.{first_by_place, link_by_place, links_of, map_get}
 use Rattle.fw_world.proofs.Links.Projection.{link_at, link_from}
 use Rattle.fw_world.proofs.Worlds.SafeOpening.{opening_eids, opening_messages, opening_stands}
-use Rattle.fw_world.proofs.Worlds.SafeStands.{PairThere, Stand, known_links, messages_of, pair_there}
+use Rattle.fw_world.proofs.Worlds.SafeStands.{Stand, known_links, messages_of, pair_there}
 use Rattle.fw_world.proofs.Worlds.SafeSteps.{stand_on}
 
 -- ALONG A RUN

@@ -1,9 +1,9 @@
 -- A world as it is made stands for one over whole messages as that one begins.
-use Rattle.std.proofs.Common.{◌≡◌, ◌≢◌, ◌∙◌, ℕ, zero, suc, List, [], ◌∷◌, map, slice_get, Some, None, refl, sym, ap, subst}
+use Rattle.std.proofs.Common.{◌≡◌, ◌≢◌, ◌∙◌, ℕ, zero, suc, List, [], ◌∷◌, map, slice_get, Some, refl, sym, ap, subst}
 use Rattle.std.specs.List.{All, AllByRecursion}
 use Rattle.std.proofs.lemmas.List.Elements.{All-cons, All-nil}
 use Rattle.mctp_ctl.specs.declared.answers.Endpoint.{Endpoint}
-use Rattle.exch_lane.specs.Lanes.{AreEnds, IsEid}
+use Rattle.exch_lane.specs.Lanes.{IsEid}
 use Rattle.exch_lane.specs.Laws.{LaneIsACell}
 use Rattle.fd_core.specs.States.{Phase}
 use Rattle.fw_message.specs.Laws.{IsUnapplied}
@@ -20,11 +20,11 @@ use Rattle.fw_world.specs.Worlds.{SiteOf, WorldOf}
 use Rattle.fw_world.proofs.Joins.Each.{eid_of}
 use Rattle.fw_world.proofs.Joins.Worlds.{AreNewLinks, IsNewLink, new_world_stands, opening_node, reaches_first}
 use Rattle.fw_world.proofs.Links.AgentTicks.{half_peer}
-use Rattle.fw_world.proofs.Links.Keys.{eids_of, peers_of}
+use Rattle.fw_world.proofs.Links.Keys.{eids_of}
 use Rattle.fw_world.proofs.Links.Listed.{every, links_in, links_of}
 use Rattle.fw_world.proofs.Links.Openings.{IsNewHalf}
 use Rattle.fw_world.proofs.Links.Posting.{site_eid}
-use Rattle.fw_world.proofs.Worlds.SafeStands.{AreOwn, IsOwnLink, Stand, messages_of}
+use Rattle.fw_world.proofs.Worlds.SafeStands.{AreOwn, Stand, messages_of}
 
 -- the agent's halves, the devices, and their links
 abbrev node_eid : DeviceNodeOf → ℕ

@@ -1,5 +1,5 @@
 -- A world that stands for one over whole messages, and stays one whatever step it takes.
-use Rattle.std.proofs.Common.{◌≡◌, ◌≢◌, ◌∙◌, ◌≤◌, ◌++◌, ◌∷◌, [], ℕ, zero, suc, Bool, true, false, is_some, List, map, append-nil, slice_get, slice_set, Option, Some, None, IfSome, IsSomeAnd, inl, inr, refl, sym, ap, subst}
+use Rattle.std.proofs.Common.{◌≡◌, ◌≢◌, ◌∙◌, ◌++◌, ◌∷◌, [], ℕ, zero, suc, Bool, true, false, is_some, List, map, append-nil, slice_get, slice_set, Option, Some, None, IfSome, refl, sym, ap, subst}
 use Rattle.std.specs.Option.{option_map}
 use Rattle.fw_package.specs.Package.{PackageText}
 use Rattle.fw_message.specs.Worlds.{NodeOf, NotedOf, noted_of}
@@ -7,23 +7,23 @@ use Rattle.fw_message.specs.Worlds.{WorldOf as MessageWorld}
 use Rattle.fw_world.specs.JoinLaws.{LinksAreMessages}
 use Rattle.fw_world.specs.LinkLaws.{CanBeSaid, LinksAreLanes, MayHappen}
 use Rattle.fw_world.specs.Lanes.{LinkExplained}
-use Rattle.fw_world.specs.Links.{LinkOf, LinkStep, LinkStepped, link_after, time_after, unnoted}
+use Rattle.fw_world.specs.Links.{LinkOf, LinkStep, LinkStepped, link_after, time_after}
 use Rattle.fw_world.specs.Replays.{AreDifferent}
 use Rattle.fw_world.specs.Worlds.{WorldOf, site_for}
 use Rattle.fw_world.specs.declared.step.Step.{Step}
-use Rattle.fw_world.proofs.Joins.Each.{AllAfter, AllStand, eid_of, link_of, notes_of}
-use Rattle.fw_world.proofs.Joins.Moves.{AllMayHappen, MovesOn, WorldStands, all_move, one_moves}
+use Rattle.fw_world.proofs.Joins.Each.{AllStand, eid_of}
+use Rattle.fw_world.proofs.Joins.Moves.{MovesOn, WorldStands, one_moves}
 use Rattle.fw_world.proofs.Joins.Stands.{Stands}
-use Rattle.fw_world.proofs.Joins.Worlds.{AreUnnoted, Reaches, none_noted, opening_node, reaches_on}
+use Rattle.fw_world.proofs.Joins.Worlds.{Reaches, opening_node, reaches_on}
 use Rattle.fw_world.proofs.Links.Delivered.{IsLinkOf}
 use Rattle.fw_world.proofs.Links.Keys.{eids_of, peers_of}
-use Rattle.fw_world.proofs.Links.Linked.{KnownLinks, Stood, link_there, linked_site, linked_world, site_stood}
+use Rattle.fw_world.proofs.Links.Linked.{KnownLinks, link_there, linked_site, site_stood}
 use Rattle.fw_world.proofs.Links.Listed.{link_by_place, links_of}
-use Rattle.fw_world.proofs.Links.Places.{SameDevices, all_links_become, one_link_becomes, past_links}
+use Rattle.fw_world.proofs.Links.Places.{SameDevices, all_links_become, one_link_becomes}
 use Rattle.fw_world.proofs.Links.Projected.{StepsTo, link_step}
 use Rattle.fw_world.proofs.Links.Projection.{link_at}
 use Rattle.fw_world.proofs.Worlds.KnownDeaf.{DeafAs, IsWhole, deaf_on_link, deaf_then}
-use Rattle.fw_world.proofs.Worlds.KnownSteps.{GoneTo, gone_to, may_happen, whole_step}
+use Rattle.fw_world.proofs.Worlds.KnownSteps.{gone_to, may_happen, whole_step}
 
 -- the world of messages with which a world of packets begins
 abbrev pub messages_of : WorldOf → MessageWorld

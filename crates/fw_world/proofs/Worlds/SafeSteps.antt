@@ -1,5 +1,5 @@
 -- A world that stands for one over whole messages stays one whatever step it takes.
-use Rattle.std.proofs.Common.{◌≡◌, ◌≢◌, ◌∙◌, ◌+◌, ◌-◌, ◌^◌, ◌==◌, ℕ, Bool, true, false, if◌then◌else◌, nat_lt, List, [], ◌∷◌, Option, Some, None, inl, inr, refl, sym, ap, subst}
+use Rattle.std.proofs.Common.{◌≡◌, ◌≢◌, ◌∙◌, ◌-◌, ◌^◌, ◌==◌, ℕ, Bool, true, false, if◌then◌else◌, nat_lt, List, [], ◌∷◌, Option, Some, None, inl, inr, refl, sym, ap, subst}
 use Rattle.std.proofs.lemmas.Bool.{eq-eqb, ne_eqb}
 use Rattle.std.proofs.lemmas.Bool.Decides.{eqb_tells}
 use Rattle.exch_lane.specs.Lanes.{Sent, numbered}
@@ -13,7 +13,7 @@ use Rattle.fw_node.specs.Cores.{session_core}
 use Rattle.fw_node.specs.Halves.{half_restarts}
 use Rattle.fw_world.specs.JoinLaws.{LinksAreMessages}
 use Rattle.fw_world.specs.LinkLaws.{LinksAreLanes}
-use Rattle.fw_world.specs.Links.{LinkOf, LinkStep, link_after, link_ticks, time_after, unnoted}
+use Rattle.fw_world.specs.Links.{LinkOf, LinkStep, link_ticks, time_after, unnoted}
 use Rattle.fw_world.specs.Replays.{Leads, may_step}
 use Rattle.fw_world.specs.Worlds.{SiteOf, WorldOf, activates_on, asks_log, at_agent, at_device, delivers, judges, packets_of, place_of, site_for, world_after}
 use Rattle.fw_world.specs.declared.step.Step.{Step}
@@ -152,9 +152,9 @@ stand_comes lanes messages opening w v works device number node k f time = elim 
 restarted_only : (node eid : ℕ) → eid ≢ node → restart_as false (node == eid) ≡ None
 restarted_only node eid far = ap (λ b. restart_as false b) (ne_eqb node eid (λ z. far (sym z)))
 
-restart_leaves : (works : Bool) (faults : ℕ) (w : WorldOf) (node : ℕ) (agent : Bool) (u v : WorldOf) → u.history ≡ w.history → v.history ≡ w.history → (if agent then u else v).history ≡ w.history
-restart_leaves works faults w node true u v h k = h
-restart_leaves works faults w node false u v h k = k
+restart_leaves : (agent : Bool) (w u v : WorldOf) → u.history ≡ w.history → v.history ≡ w.history → (if agent then u else v).history ≡ w.history
+restart_leaves true w u v h k = h
+restart_leaves false w u v h k = k
 
 stand_restarts : LinksAreLanes → LinksAreMessages → (opening w v : WorldOf) (works : Bool) (node : ℕ) → Stand opening w → Follows works (steps.Restart node) w v → v.now ≡ w.now → v.history ≡ w.history → Stand opening v
 stand_restarts lanes messages opening w v works node k f time noted = elim (eqb_tells node w.agent.endpoint.eid) [
@@ -192,7 +192,7 @@ stand_by lanes messages opening w works faults (steps.Verdict device verdict) k 
     (judged_moment works faults w verdict (place_of w.sites device) (site_for w.sites device)).now (λ eid. refl) refl
 stand_by lanes messages opening w works faults (steps.Restart node) k may f =
     stand_restarts lanes messages opening w (world_after works faults w (steps.Restart node)) works node k f (restart_moment works faults w node).now
-    (restart_leaves works faults w node (node == w.agent.endpoint.eid) _ _ refl refl)
+    (restart_leaves (node == w.agent.endpoint.eid) w _ _ refl refl)
 stand_by lanes messages opening w works faults (steps.Sel bytes) k may f =
     stand_none lanes opening w (world_after works faults w (steps.Sel bytes)) works (steps.Sel bytes) k f (log_moment w bytes.items).now (λ eid l there. refl)
 

@@ -1,8 +1,7 @@
 -- A world that stands for one over whole messages stays one where all its links take a step.
-use Rattle.std.proofs.Common.{◌≡◌, ◌∙◌, ◌++◌, ◌∷◌, [], ℕ, zero, suc, Bool, List, map, append-nil, slice_get, Option, Some, None, IfSome, refl, sym, ap, subst}
+use Rattle.std.proofs.Common.{◌≡◌, ◌∙◌, ◌++◌, ◌∷◌, [], ℕ, suc, Bool, List, map, append-nil, slice_get, Option, Some, None, IfSome, refl, sym, ap, subst}
 use Rattle.std.specs.Option.{option_map}
 use Rattle.fw_package.specs.Package.{PackageText}
-use Rattle.fw_message.specs.Worlds.{NotedOf}
 use Rattle.fw_world.specs.JoinLaws.{LinksAreMessages}
 use Rattle.fw_world.specs.LinkLaws.{CanBeSaid, LinksAreLanes, MayHappen}
 use Rattle.fw_world.specs.Links.{LinkOf, LinkStep, LinkStepped, link_after, time_after, unnoted}
