@@ -7,8 +7,8 @@ pub mod HistoryNoted
 pub mod KnownDeaf
 pub mod KnownSaid
 pub mod KnownSteps
+pub mod Safe
+pub mod SafeOpening
 pub mod SafeStands
 pub mod SafeSteps
 pub mod SafeTicks
-pub mod SafeOpening
-pub mod Safe

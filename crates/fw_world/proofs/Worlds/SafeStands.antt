@@ -52,13 +52,7 @@ pub record Stand (opening w : WorldOf) : Type 0 where
   pub eids : map eid_of messages.nodes ≡ eids_of w
   pub reaches : Reaches (messages_of opening) messages
 
--- What is added to the history is what the link that goes a step notes.
-pub record NotesFollow (works : Bool) (s : Step) (w v : WorldOf) : Type 0 where
-  pub one : (eid : ℕ) (l : LinkOf) (step : LinkStep) (t : LinkStepped) → link_at w eid ≡ Some l → link_step works w.agent.endpoint.eid s eid ≡ Some step → link_after w.now w.packages l step ≡ Some t
-      → v.history ≡ w.history ++ map (noted_of eid) t.noted
-  pub none : ((eid : ℕ) (l : LinkOf) → link_at w eid ≡ Some l → link_step works w.agent.endpoint.eid s eid ≡ None) → v.history ≡ w.history
-
--- What is known of a world after a step.
+-- What is known of a world after a step. What is added to the history is what the link that goes a step notes.
 pub record Follows (works : Bool) (s : Step) (w v : WorldOf) : Type 0 where
   pub packages : v.packages ≡ w.packages
   pub peers : peers_of v ≡ peers_of w
@@ -67,7 +61,9 @@ pub record Follows (works : Bool) (s : Step) (w v : WorldOf) : Type 0 where
   pub deaf : (eid : ℕ) → DeafAs (link_step works w.agent.endpoint.eid s eid) w.agent.deaf v.agent.deaf
   pub goes : (eid : ℕ) (l : LinkOf) → link_at w eid ≡ Some l → StepsTo w.now w.packages l (link_step works w.agent.endpoint.eid s eid) (link_at v eid)
   pub said : (eid : ℕ) (l : LinkOf) → link_at w eid ≡ Some l → IfSome (link_step works w.agent.endpoint.eid s eid) (CanBeSaid w.packages l)
-  pub notes : NotesFollow works s w v
+  pub taken : (eid : ℕ) (l : LinkOf) (step : LinkStep) (t : LinkStepped) → link_at w eid ≡ Some l → link_step works w.agent.endpoint.eid s eid ≡ Some step → link_after w.now w.packages l step ≡ Some t
+      → v.history ≡ w.history ++ map (noted_of eid) t.noted
+  pub untaken : ((eid : ℕ) (l : LinkOf) → link_at w eid ≡ Some l → link_step works w.agent.endpoint.eid s eid ≡ None) → v.history ≡ w.history
 
 -- WHAT STANDS IN A PLACE
 
@@ -208,7 +204,7 @@ pub stand_none : LinksAreLanes → (opening w v : WorldOf) (works : Bool) (s : S
     → ((eid : ℕ) (l : LinkOf) → link_at w eid ≡ Some l → link_step works w.agent.endpoint.eid s eid ≡ None) → Stand opening v
 stand_none lanes opening w v works s k f time none =
     stand_moved lanes opening w v works s w.now (links_of w) [] k f (stays_put w.now (links_of w) k.messages k.stands)
-    (same_links works s w v (known_links opening w k) f none) time (f.notes.none none ∙ sym (append-nil w.history))
+    (same_links works s w v (known_links opening w k) f none) time (f.untaken none ∙ sym (append-nil w.history))
 
 -- one link goes a step
 pub stand_one : LinksAreLanes → LinksAreMessages → (opening w v : WorldOf) (works : Bool) (s : Step) (own : ℕ) (l : LinkOf) (step : LinkStep) → Stand opening w → Follows works s w v → v.now ≡ w.now
@@ -227,4 +223,4 @@ stand_one lanes messages opening w v works s own l step k f time is mine soon ot
     (subst (λ ps. MayHappen w.now ps l step) (sym k.packages) may) (subst (λ ps. CanBeSaid ps l step) (sym k.packages) said)
     (subst (λ ps. link_after w.now ps l step ≡ Some g.stepped) (sym k.packages) g.goes) in
     stand_moved lanes opening w v works s w.now (slice_set (links_of w) at.place g.stepped.after) (map (noted_of own) g.stepped.noted) k f m links time
-    (f.notes.one own l step g.stepped is mine g.goes)
+    (f.taken own l step g.stepped is mine g.goes)

@@ -95,7 +95,8 @@ world_follows law opening w v s k h =
       deaf = λ eid. deaf_goes h.works h.faults w s eid;
       goes = λ eid l is. projection law h.works h.faults w s eid l linked h.may (λ device d there. links_can_say h.works w s device d linked h.may h.said there) is;
       said = λ eid l is. links_can_say h.works w s eid l linked h.may h.said is;
-      notes = record { one = λ eid l step t is mine after. notes.taken eid l step t is mine after; none = λ none. notes.untaken none };
+      taken = λ eid l step t is mine after. notes.taken eid l step t is mine after;
+      untaken = λ none. notes.untaken none;
     }
 
 -- WHICH LINKS GO A STEP
