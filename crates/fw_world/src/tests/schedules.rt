@@ -9,10 +9,10 @@ use std::alloc::{AllocError, Global};
 use std::test::Fail;
 use ua_core::SessionState;
 
-/// Whether a packet of the device, counted from 1, has these bytes.
-fn sent(world: &Small<'_>, number: usize, bytes: &[u8]) -> bool {
+/// Whether a packet of the device, counted from 0, has these bytes.
+fn sent(world: &Small<'_>, place: usize, bytes: &[u8]) -> bool {
     match world.packets(DEVICE) {
-        Some(packets) => match packets.get(number - 1) {
+        Some(packets) => match packets.get(place) {
             Some(packet) => packet.bytes.as_slice() == bytes,
             None => false,
         },
@@ -60,8 +60,8 @@ fn steps_are_taken_one_by_one(rt: HostRuntime) -> Result<(), Fail> {
         Step::Deliver(9, 3, 8),
     ];
     assert!(rt; fault(&mut world, &steps) == Some((4, StepFault::NoSuchPacket)));
-    assert!(rt; sent(&world, 1, &[0x01, 0x09, 0x08, 0xC8, 0x01, 0x80, 0x05, 0x01]));
-    assert!(rt; sent(&world, 2, &[0x01, 0x08, 0x09, 0xC0, 0x01, 0, 0x05, 0x01, 0, 0x06, 0, 0, 0, 0x01, 0, 0, 0x02, 0, 0x34, 0x12]));
+    assert!(rt; sent(&world, 0, &[0x01, 0x09, 0x08, 0xC8, 0x01, 0x80, 0x05, 0x01]));
+    assert!(rt; sent(&world, 1, &[0x01, 0x08, 0x09, 0xC0, 0x01, 0, 0x05, 0x01, 0, 0x06, 0, 0, 0, 0x01, 0, 0, 0x02, 0, 0x34, 0x12]));
     assert_eq!(rt; count(&world), 2);
     assert_eq!(rt; world.now(), 1);
     assert_eq!(rt; world.agent().log().len(), 1);
@@ -158,15 +158,15 @@ fn an_update_over_perfect_links_ends_after_12_ticks(rt: HostRuntime) -> Result<(
 }
 
 /// The fault of a schedule in which the first packet is sent at 1, and comes so many ticks later.
-fn late(
+fn late<'p>(
     alloc: Global,
-    packages: &[Package<'_>],
-    ticks: usize,
+    packages: &'p [Package<'p>],
+    ticks: u8,
 ) -> Result<Option<(usize, StepFault)>, AllocError> {
     let mut world = world(alloc, packages)?;
     let mut steps = Vec::new(alloc);
     steps.push(Step::Start(9, 1))?;
-    for _ in 0..ticks + 1 {
+    for _ in 0..=usize::from(ticks) {
         steps.push(Step::Tick)?;
     }
     steps.push(Step::Deliver(9, 1, 9))?;
@@ -201,16 +201,15 @@ const REFUSED: [(Step, StepFault); 12] = [
     (Step::Restart(10), StepFault::NoSuchNode),
 ];
 
-/// How many of these steps are refused so, from the first on.
-fn refused(world: &mut Small<'_>) -> usize {
-    let mut count = 0;
+/// Whether each of these steps is refused so.
+fn refused(world: &mut Small<'_>) -> bool {
     for (step, why) in &REFUSED {
         match world.step(step) {
-            Err(fault) if fault == *why => count += 1,
-            _ => return count,
+            Err(fault) if fault == *why => {}
+            _ => return false,
         }
     }
-    count
+    true
 }
 
 #[test]
@@ -219,7 +218,7 @@ fn each_refusal_is_named(rt: HostRuntime) -> Result<(), Fail> {
     let packages = [package(&bytes)?];
     let mut world = world(rt.alloc(), &packages)?;
     assert!(rt; fault(&mut world, &[Step::Start(9, 1), Step::Tick]).is_none());
-    assert_eq!(rt; refused(&mut world), 12);
+    assert!(rt; refused(&mut world));
     assert_eq!(rt; count(&world), 1);
     Ok(())
 }
