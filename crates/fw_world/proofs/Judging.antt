@@ -1,8 +1,8 @@
 -- What is noted after a verdict.
 use Rattle.std.proofs.Common.{◌≡◌, ◌≤◌, ◌∙◌, ◌++◌, ℕ, Bool, true, false, IfSome, is_some, List, [], ◌∷◌, length, map, Option, Some, None, ap, refl, sym, subst}
 use Rattle.std.specs.Option.{option_map}
-use Rattle.fd_core.specs.Components.{HasComponents, IsOneOf}
-use Rattle.fd_core.specs.Images.{ImageOf, Put, RowOf, applied_of, key_of, row_of}
+use Rattle.fd_core.specs.Components.{HasComponents}
+use Rattle.fd_core.specs.Images.{ImageOf, Put, RowOf, applied_of, row_of}
 use Rattle.fd_core.specs.States.{DeviceState, IsWhole, Phase, staged_of}
 use Rattle.fd_core.specs.Steps.{applied_by, device_verdict, verdict_after, verdict_at}
 use Rattle.fd_core.specs.Wishes.{has_failed}
@@ -12,12 +12,12 @@ use Rattle.fd_core.specs.declared.states.Verdict.TheVariants as verdicts
 use Rattle.fwup_wire.specs.declared.values.Key.{Key}
 use Rattle.fw_message.specs.History.{EntryOf}
 use Rattle.fw_message.specs.Worlds.{NotedOf, noted_of}
-use Rattle.fw_message.proofs.Sealing.{Applies, applies}
+use Rattle.fw_message.proofs.Sealing.{applies}
 use Rattle.fw_message.proofs.Working.{applies_nothing, is_apply_ok}
 use Rattle.exch_lane.specs.Lanes.{Sent}
-use Rattle.fw_node.specs.Nodes.{DeviceNodeOf, JudgesIt, device_judges}
+use Rattle.fw_node.specs.Nodes.{DeviceNodeOf, JudgesIt}
 use Rattle.fw_world.specs.Sites.{IsCopyOf, Judges, JudgesNoting}
-use Rattle.fw_world.specs.Worlds.{SiteOf, node_becomes}
+use Rattle.fw_world.specs.Worlds.{SiteOf}
 use Rattle.fw_world.proofs.Noting.{append_nil}
 
 -- these images are noted
@@ -38,7 +38,7 @@ other_noted old new verdict entries k other = none_noted old new verdict entries
 -- a device that waits for ApplyOk is in APPLY: it fails exactly where its bank does
 fails_at : (v : DeviceState) (p : Phase) (works : Bool) → v.phase ≡ p → is_some (verdict_at v p verdicts.ApplyOk works) ≡ true
     → (works ≡ false → applied_by v verdicts.ApplyOk works ≡ []) × (works ≡ false → has_failed (verdict_after v verdicts.ApplyOk works).phase ≡ true)
-      × (works ≡ true → has_failed (verdict_after v verdicts.ApplyOk works).phase ≡ false) × (is_some (staged_of v.phase) ≡ true)
+    × (works ≡ true → has_failed (verdict_after v verdicts.ApplyOk works).phase ≡ false) × (is_some (staged_of v.phase) ≡ true)
 fails_at v (Phase.Apply u w progress.InProgress) true is counts = (λ e. absurd (cc), λ e. absurd (cc), λ e. rw is refl, rw is refl)
 fails_at v (Phase.Apply u w progress.InProgress) false is counts = (λ e. rw is refl, λ e. rw is refl, λ e. absurd (cc), rw is refl)
 fails_at v (Phase.Verify u w progress.InProgress) works is counts = absurd (cc)
@@ -87,10 +87,10 @@ applied_noted old new before after staged capacity images k h whole is fits work
     let counts : is_some (device_verdict old.node.half.core.device verdicts.ApplyOk true) ≡ true = subst (λ b. is_some (device_verdict old.node.half.core.device verdicts.ApplyOk b) ≡ true) works k.counts in
     let there : is_some staged ≡ true = ap is_some is ∙ (fails_at old.node.half.core.device old.node.half.core.device.phase true refl counts).3 in
     let rows : new.node.half.core.device.rows ≡ (verdict_after old.node.half.core.device verdicts.ApplyOk true).rows =
-      ap (λ d. d.rows) (judged_phase old new verdicts.ApplyOk k) ∙ ap (λ b. (verdict_after old.node.half.core.device verdicts.ApplyOk b).rows) works in
+    ap (λ d. d.rows) (judged_phase old new verdicts.ApplyOk k) ∙ ap (λ b. (verdict_after old.node.half.core.device verdicts.ApplyOk b).rows) works in
     images_noted old new verdicts.ApplyOk before after images k
     (applied_at old.node.half.core.device new.node.half.core.device.rows staged capacity images h whole (sym is) there counts rows fits copy
-      ∙ ap (applied_by old.node.half.core.device verdicts.ApplyOk) (sym works))
+    ∙ ap (applied_by old.node.half.core.device verdicts.ApplyOk) (sym works))
     noted
 
 pub failure_noted : (old new : SiteOf) (verdict : Verdict) (entries : List NotedOf) → verdict ≡ verdicts.ApplyOk → Judges old verdict new → has_failed new.node.half.core.device.phase ≡ true

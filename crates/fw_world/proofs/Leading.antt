@@ -1,5 +1,5 @@
 -- Each step of the world's code leads on as its definition says.
-use Rattle.std.proofs.Common.{◌≡◌, ◌∙◌, ◌++◌, ◌==◌, ◌<◌, ◌≤◌, ◌+◌, IfSome, ℕ, zero, suc, [], ◌∷◌, Bool, true, false, is_some, length, List, map, slice_get, slice_set, Option, Some, None, ap, arith, inl, inr, refl, subst, sym}
+use Rattle.std.proofs.Common.{◌≡◌, ◌∙◌, ◌++◌, ◌==◌, ◌<◌, ◌≤◌, IfSome, ℕ, zero, suc, [], ◌∷◌, Bool, true, false, is_some, length, List, map, slice_get, slice_set, Option, Some, None, ap, arith, inl, inr, refl, subst, sym}
 use Rattle.std.proofs.lemmas.Bool.Decides.{eqb_tells}
 use Rattle.std.specs.List.{AllByRecursion}
 use Rattle.std.specs.Option.{option_map}
@@ -10,16 +10,15 @@ use Rattle.fd_core.specs.Steps.{applied_by}
 use Rattle.fd_core.specs.declared.states.Verdict.{Verdict}
 use Rattle.fw_message.specs.History.{EntryOf}
 use Rattle.fw_message.specs.Worlds.{NotedOf, noted_of}
-use Rattle.fw_node.specs.Agents.{HalfMaySpeak, agent_restarts, agent_ticks, cancels, hearer, ready_for, starts}
+use Rattle.fw_node.specs.Agents.{HalfMaySpeak, agent_restarts, cancels, hearer, ready_for, starts}
 use Rattle.fw_node.specs.Cores.{session_core}
 use Rattle.fw_node.specs.Halves.{half_hears}
 use Rattle.fw_node.specs.Nodes.{IsTold, device_hears, device_judges}
 use Rattle.fw_node.specs.Packets.{all_packets}
 use Rattle.fw_world.specs.Deliveries.{ComesTo, IsJudged}
 use Rattle.fw_world.specs.Replays.{CanBeSaidBy, IsToldBy, IsToldTo, Leads, SiteSpeaks, faults_before, faults_of, may_step}
-use Rattle.fw_world.specs.Worlds.{SiteOf, WorldOf, activated_at, activates_on, asks_log, at_agent, at_device, calls, comes, delivers, judges, node_becomes, packets_of, place_of, restarts, sent_now, site_at, site_for, site_restarts, ticks, world_after}
+use Rattle.fw_world.specs.Worlds.{SiteOf, WorldOf, activated_at, activates_on, asks_log, at_agent, at_device, calls, comes, delivers, judges, node_becomes, packets_of, place_of, sent_now, site_at, site_for, site_restarts, ticks, world_after}
 use Rattle.fw_world.specs.declared.step.Step.{Step}
-
 use Rattle.fw_world.specs.declared.step.Step.TheVariants as steps
 
 -- whether two numbers are equal
@@ -104,10 +103,10 @@ comes_there w v node bytes k =
     (w.history ++ map (λ p. noted_of k.heard.site.node.endpoint.eid (EntryOf.Activated p)) (activated_at h.works k.heard.site.node bytes))
     k.rest
     (k.heard.put ∙ ap (λ n. slice_set w.sites k.place (record { node = n; packets = k.heard.became.packets })) h.node
-      ∙ ap (λ ps. slice_set w.sites k.place (record { node = node_becomes k.heard.site.node k.heard.became.node.faults (device_hears h.works k.heard.site.node bytes).tid (device_hears h.works k.heard.site.node bytes).half; packets = ps })) h.packets)
+    ∙ ap (λ ps. slice_set w.sites k.place (record { node = node_becomes k.heard.site.node k.heard.became.node.faults (device_hears h.works k.heard.site.node bytes).tid (device_hears h.works k.heard.site.node bytes).half; packets = ps })) h.packets)
     k.heard.heard.history
     ∙ sym (ap (at_device h.works k.heard.became.node.faults w bytes (place_of w.sites node)) (site_there w node k.place k.heard.site k.at k.heard.there)
-      ∙ ap (λ p. at_device h.works k.heard.became.node.faults w bytes p (Some k.heard.site)) k.at)
+    ∙ ap (λ p. at_device h.works k.heard.became.node.faults w bytes p (Some k.heard.site)) k.at)
 
 pub device_leads : (w v : WorldOf) (device number node : ℕ) (bytes : List ℕ) → may_step w (steps.Deliver device number node) ≡ None
     → option_map (λ s. s.bytes) (numbered (packets_of w device) number) ≡ Some bytes → (node == w.agent.endpoint.eid) ≡ false → ComesTo w node bytes v
@@ -119,11 +118,11 @@ device_leads w v device number node bytes may there is k =
       works = k.heard.heard.heard.works;
       faults = k.heard.became.node.faults;
       after = comes_there w v node bytes k
-        ∙ sym (it_comes k.heard.heard.heard.works k.heard.became.node.faults w node (numbered (packets_of w device) number) bytes there ∙ rw is refl);
+          ∙ sym (it_comes k.heard.heard.heard.works k.heard.became.node.faults w node (numbered (packets_of w device) number) bytes there ∙ rw is refl);
       worked = λ e. k.heard.heard.heard.worked e ∙ sym (ap faults_of site);
       failed = λ e. subst (λ n. Rose n k.heard.became.node.faults) (sym (ap faults_of site)) (k.heard.heard.heard.failed e);
       said = it_is_told k.heard.heard.heard.works w node (numbered (packets_of w device) number) bytes there
-        (rw (is, site) k.heard.heard.heard.told);
+          (rw (is, site) k.heard.heard.heard.told);
     }
 
 -- a verdict
@@ -136,10 +135,10 @@ judged_there w v device verdict k =
     (w.history ++ map (λ p. noted_of k.judged.site.node.endpoint.eid (EntryOf.Applied p)) (applied_by k.judged.site.node.half.core.device verdict j.works))
     k.rest
     (k.judged.put ∙ ap (λ n. slice_set w.sites k.place (record { node = n; packets = k.judged.became.packets })) j.node
-      ∙ ap (λ ps. slice_set w.sites k.place (record { node = node_becomes k.judged.site.node k.judged.became.node.faults k.judged.site.node.tid (device_judges j.works k.judged.site.node verdict); packets = ps })) j.packets)
+    ∙ ap (λ ps. slice_set w.sites k.place (record { node = node_becomes k.judged.site.node k.judged.became.node.faults k.judged.site.node.tid (device_judges j.works k.judged.site.node verdict); packets = ps })) j.packets)
     k.judged.judged.history
     ∙ sym (ap (judges j.works k.judged.became.node.faults w verdict (place_of w.sites device)) (site_there w device k.place k.judged.site k.at k.judged.there)
-      ∙ ap (λ p. judges j.works k.judged.became.node.faults w verdict p (Some k.judged.site)) k.at)
+    ∙ ap (λ p. judges j.works k.judged.became.node.faults w verdict p (Some k.judged.site)) k.at)
 
 pub verdict_leads : (w v : WorldOf) (device : ℕ) (verdict : Verdict) → may_step w (steps.Verdict device verdict) ≡ None → IsJudged w device verdict v → Leads w (steps.Verdict device verdict) v
 verdict_leads w v device verdict may k =

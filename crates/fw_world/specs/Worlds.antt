@@ -103,7 +103,7 @@ at_agent w bytes =
       agent = (agent_hears w.packages w.agent bytes w.now).agent;
       sites = posts w.now w.sites (all_packets (agent_hears w.packages w.agent bytes w.now).sent);
       history = w.history
-        ++ recorded_from w.agent (agent_hears w.packages w.agent bytes w.now).agent (sender_of (wire.packet_of bytes));
+          ++ recorded_from w.agent (agent_hears w.packages w.agent bytes w.now).agent (sender_of (wire.packet_of bytes));
     }
 
 -- what a device activates when its half hears: the images of a command that it takes

@@ -74,10 +74,7 @@ pub(crate) fn site_for<B: Bank>(sites: &[Site<B>], eid: u8) -> Option<&Site<B>>
 }
 
 /// Makes room for so many packets at each device.
-pub(crate) fn make_room<B: Bank>(
-    sites: &mut Vec<Site<B>>,
-    count: usize,
-) -> Result<(), AllocError>
+pub(crate) fn make_room<B: Bank>(sites: &mut Vec<Site<B>>, count: usize) -> Result<(), AllocError>
     ensures room { OnOk result (HaveRoom count sites.new.items) }
     ensures same { sites_of sites.new.items ≡ sites_of sites.old.items }
 {
@@ -191,7 +188,15 @@ pub(crate) fn hear_at<B: Bank>(
     ensures unnoted { OnErr result (map entry_of history.new.items ≡ map entry_of history.old.items) }
     ensures outbox { outbox.new ≡ [] }
 {
-    hear_in(sites.as_mut_slice(), place, alloc, now, bytes, outbox, history)
+    hear_in(
+        sites.as_mut_slice(),
+        place,
+        alloc,
+        now,
+        bytes,
+        outbox,
+        history,
+    )
 }
 
 /// The same over a slice.

@@ -13,7 +13,6 @@ pub const ONE: &[u8] = &[
     0x62, 0x75,
 ];
 
-
 /// The bytes of the worked image: byte i is i mod 256.
 pub fn image(alloc: Global) -> Result<Vec<u8>, AllocError> {
     let mut out = Vec::new(alloc);

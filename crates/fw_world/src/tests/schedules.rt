@@ -61,7 +61,16 @@ fn steps_are_taken_one_by_one(rt: HostRuntime) -> Result<(), Fail> {
     ];
     assert!(rt; fault(&mut world, &steps) == Some((4, StepFault::NoSuchPacket)));
     assert!(rt; sent(&world, 0, &[0x01, 0x09, 0x08, 0xC8, 0x01, 0x80, 0x05, 0x01]));
-    assert!(rt; sent(&world, 1, &[0x01, 0x08, 0x09, 0xC0, 0x01, 0, 0x05, 0x01, 0, 0x06, 0, 0, 0, 0x01, 0, 0, 0x02, 0, 0x34, 0x12]));
+    assert!(rt;
+        sent(
+            &world,
+            1,
+            &[
+                0x01, 0x08, 0x09, 0xC0, 0x01, 0, 0x05, 0x01, 0, 0x06, 0, 0, 0, 0x01, 0, 0, 0x02, 0,
+                0x34, 0x12
+            ]
+        )
+    );
     assert_eq!(rt; count(&world), 2);
     assert_eq!(rt; world.now(), 1);
     assert_eq!(rt; world.agent().log().len(), 1);
@@ -125,9 +134,11 @@ fn told(world: &Small<'_>, image: &[u8]) -> bool {
     let [applied, recorded, activated] = world.history() else {
         return false;
     };
-    let (Event::Applied(a), Event::Recorded(r), Event::Activated(b)) =
-        (&applied.event, &recorded.event, &activated.event)
-    else {
+    let (Event::Applied(a), Event::Recorded(r), Event::Activated(b)) = (
+        &applied.event,
+        &recorded.event,
+        &activated.event,
+    ) else {
         return false;
     };
     applied.device == DEVICE
@@ -189,8 +200,14 @@ const REFUSED: [(Step, StepFault); 12] = [
     (Step::Deliver(9, 2, 9), StepFault::NoSuchPacket),
     (Step::Deliver(9, 0, 9), StepFault::NoSuchPacket),
     (Step::Start(8, 9), StepFault::NoSuchNode),
-    (Step::Start(9, 2), StepFault::Refused(Refusal::NoSuchPackage)),
-    (Step::Start(9, 0), StepFault::Refused(Refusal::NoSuchPackage)),
+    (
+        Step::Start(9, 2),
+        StepFault::Refused(Refusal::NoSuchPackage),
+    ),
+    (
+        Step::Start(9, 0),
+        StepFault::Refused(Refusal::NoSuchPackage),
+    ),
     (Step::Start(9, 1), StepFault::Refused(Refusal::Busy)),
     (Step::Cancel(8), StepFault::NoSuchNode),
     (Step::Activate(9), StepFault::Refused(Refusal::NotReady)),
@@ -242,7 +259,15 @@ fn the_event_log_answers(rt: HostRuntime) -> Result<(), Fail> {
     let mut world = world(rt.alloc(), &packages)?;
     assert!(rt; world.answer().is_none());
     assert!(rt; answers(&mut world, &[], &[0xC7]));
-    assert!(rt; answers(&mut world, &[0x40], &[0, 0x51, 0, 0, 0, 8, 0xFF, 0xFF, 0xFF, 0xFF, 0xFF, 0xFF, 0xFF, 0xFF, 0x0A]));
+    assert!(rt;
+        answers(
+            &mut world,
+            &[0x40],
+            &[
+                0, 0x51, 0, 0, 0, 8, 0xFF, 0xFF, 0xFF, 0xFF, 0xFF, 0xFF, 0xFF, 0xFF, 0x0A
+            ]
+        )
+    );
     assert!(rt; answers(&mut world, &[0x42], &[0, 1, 0]));
     assert!(rt; answers(&mut world, &[0x47, 1, 0, 0x43, 0x4C, 0x52, 0xAA], &[0, 1]));
     Ok(())

@@ -1,4 +1,4 @@
-use Rattle.std.proofs.Common.{◌≡◌, ◌∙◌, ap, arith, get_or}
+use Rattle.std.proofs.Common.{◌∙◌, ap, arith, get_or}
 use Rattle.std.proofs.lemmas.List.{length-map, length-set}
 use Rattle.fw_node.proofs.Loops.{done_more, half_was}
 use Rattle.fw_world.specs.Sites.{sites_of}
@@ -20,8 +20,8 @@ loop-site-preserved g c =
       sites = done_more (λ s. s.site) (site_ticks c.args.now) c.args.sites.now ss i (get_or ss i c.site-item.result) c.tick.new.self (omega arith) (ap (get_or ss i) c.site-item.is) c.loop-site.invariant.sites c.tick.ensures.site;
       room = room_later 64 ss i c.tick.new.self c.loop-site.invariant.room;
       spoken = spoken_more (sites_of c.args.sites.now) i (get_or ss i c.site-item.result).site (omega (arith, length-map c.args.sites.now (λ s. s.site)))
-        (half_was (λ s. s.site) (site_ticks c.args.now) c.args.sites.now ss i (get_or ss i c.site-item.result) (omega arith) (ap (get_or ss i) c.site-item.is) c.loop-site.invariant.sites)
-        c.loop-site.invariant.spoken c.tick.ensures.spoken;
+          (half_was (λ s. s.site) (site_ticks c.args.now) c.args.sites.now ss i (get_or ss i c.site-item.result) (omega arith) (ap (get_or ss i) c.site-item.is) c.loop-site.invariant.sites)
+          c.loop-site.invariant.spoken c.tick.ensures.spoken;
       outbox = c.tick.ensures.outbox;
       count = length-set ss i c.tick.new.self ∙ c.loop-site.invariant.count;
     }

@@ -1,4 +1,4 @@
-use Rattle.std.proofs.Common.{◌≡◌, ◌∙◌, ◌++◌, map, ap, subst, sym}
+use Rattle.std.proofs.Common.{◌∙◌, ◌++◌, map, ap, subst, sym}
 use Rattle.fd_core.specs.Images.{puts}
 use Rattle.fw_message.specs.Entries.{entry_of, put_of}
 use Rattle.fw_message.specs.History.{EntryOf}
@@ -15,8 +15,8 @@ returns-then-is_activated-clause-heard g c =
     (sym c.is_activated.ensures ∙ c.if-is_activated.true)
     c.requires.images
     (c.note_activated.ensures
-      ∙ ap (λ d. map entry_of c.args.history.now.items ++ map (λ p. noted_of d (EntryOf.Activated p)) (map put_of c.args.images.items))
-        (c.eid.ensures ∙ ap (λ e. e.eid) c.go_on.ensures.endpoint))
+    ∙ ap (λ d. map entry_of c.args.history.now.items ++ map (λ p. noted_of d (EntryOf.Activated p)) (map put_of c.args.images.items))
+    (c.eid.ensures ∙ ap (λ e. e.eid) c.go_on.ensures.endpoint))
 
 pub keep-requires-clause-images : goal.keep-requires-clause-images
 keep-requires-clause-images g c =

@@ -16,9 +16,9 @@ returns-then-has_failed g c =
 pub returns : goal.returns
 returns g c =
     let device : c.device.result.now.device ≡ c.args.self.now.site.node.half.core.device =
-      ap (λ t. t.device) c.device.ensures.device ∙ ap (λ s. s.site.node.half.core.device) c.self.view_is in
+    ap (λ t. t.device) c.device.ensures.device ∙ ap (λ s. s.site.node.half.core.device) c.self.view_is in
     let staged : c.staged-staged.result ≡ staged_of c.args.self.now.site.node.half.core.device.phase =
-      c.staged-staged.ensures.staged ∙ ap (λ v. staged_of v.phase) device in
+    c.staged-staged.ensures.staged ∙ ap (λ v. staged_of v.phase) device in
     application_noted c.args.self.now.site c.judge_now.new.self.site c.args.verdict (map entry_of c.args.history.now.items) _ c.staged-staged.result (vec_capacity c.args.room)
     (map put_of (option_to_list c.applied-image.result))
     c.in-ApplyOk.is
@@ -30,5 +30,5 @@ returns g c =
     (sym c.has_failed.ensures ∙ c.if-has_failed.false)
     c.applied-image.ensures
     (c.note_applied.ensures
-      ∙ ap (λ d. map entry_of c.args.history.now.items ++ map (λ p. noted_of d (EntryOf.Applied p)) (map put_of (option_to_list c.applied-image.result)))
-        (c.eid.ensures ∙ ap (λ e. e.eid) c.judge_now.ensures.endpoint))
+    ∙ ap (λ d. map entry_of c.args.history.now.items ++ map (λ p. noted_of d (EntryOf.Applied p)) (map put_of (option_to_list c.applied-image.result)))
+    (c.eid.ensures ∙ ap (λ e. e.eid) c.judge_now.ensures.endpoint))
