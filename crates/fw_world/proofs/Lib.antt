@@ -11,3 +11,4 @@ mod Recording
 mod Rooms
 mod Running
 mod Ticking
+mod Worlds
