@@ -7,6 +7,7 @@ mod OnePackage
 mod Parts
 mod ReadWhole
 mod Rows
+mod Twins
 mod Using
 mod Walked
 mod Walks

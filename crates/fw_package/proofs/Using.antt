@@ -1,5 +1,5 @@
 -- The components that a record uses are rising, and there.
-use Rattle.std.proofs.Common.{◌≡◌, ℕ, zero, suc, ◌+◌, ◌<◌, ◌∙◌, ◌==◌, Bool, true, false, if◌then◌else◌, All, List, Result, Ok, Err, IfOk, length, take, drop, sym, ap, subst, arith, slice_index}
+use Rattle.std.proofs.Common.{◌≡◌, ℕ, zero, suc, ◌+◌, ◌<◌, ◌∙◌, ◌==◌, Bool, true, false, if◌then◌else◌, All, List, Result, Ok, Err, IfOk, IsSome, ◌≤◌, length, take, drop, sym, ap, subst, arith, slice_index}
 use Rattle.std.specs.List.{range_with_len}
 use Rattle.std.specs.List.Sorted.{IsStrictlyIncreasing}
 use Rattle.std.proofs.lemmas.List.Elements.{All-cons, All-filter}
@@ -13,7 +13,9 @@ use Rattle.fw_package.specs.Package.{ComponentOf, RecordOf}
 use Rattle.fw_package.specs.Reading.{IsUsing}
 use Rattle.fw_package.specs.Records.{◌>>=◌, descriptors_split, is_named, named, record_of, records_of, split_after}
 use Rattle.fw_package.specs.Views.{listed}
+use Rattle.fw_package.specs.Layout.{after_components}
 use Rattle.fw_package.proofs.Rows.{components_counted}
+use Rattle.fw_package.proofs.Walks.{components_fit}
 use Rattle.fw_package.specs.declared.fault.PackageFault.{PackageFault}
 
 range_rises : (n : ℕ) → IsStrictlyIncreasing (range_with_len 0 n)
@@ -67,3 +69,11 @@ pub all_using : (size count n : ℕ) (file bytes below : List ℕ) (rs : List Re
 all_using size count n file bytes below rs cs re ce =
     let all : length cs ≡ count = ap length (ap listed ce) ∙ components_counted file count below (ap is_ok (sym ce)) in
     subst (λ n. All (IsUsing n) rs) (sym all) (IfOk-at_ok (All (IsUsing count)) (sym re) (records_using size count n bytes))
+
+-- a header has room for so many components
+pub few_components : (file : List ℕ) (count : ℕ) (below : List ℕ) (cs : List ComponentOf) (size : ℕ) → Ok cs ≡ components_of file count below → IsSome (after_components count below) → length below ≤ size → size < 65536
+    → length cs ≤ 2978
+few_components file count below cs size ce walked inside small =
+    let all : length cs ≡ count = ap length (ap listed ce) ∙ components_counted file count below (ap is_ok (sym ce)) in
+    let fit = components_fit count below walked in
+    omega (arith, all, fit, inside, small)

@@ -1,9 +1,9 @@
 -- The components of a record's numbers, found in one walk, and what a plan asks of them.
-use Rattle.std.proofs.Common.{◌≡◌, ℕ, suc, ◌+◌, ◌-◌, ◌<◌, ◌≤◌, ◌∙◌, ◌||◌, Bool, true, false, if◌then◌else◌, nat_lt, All, List, [], ◌∷◌, ◌++◌, Ok, Err, Some, None, length, map, drop, get_or, refl, sym, ap, subst, arith, length-drop, length-append, append-nil, lt-ltb, le-ltb, cond}
+use Rattle.std.proofs.Common.{◌≡◌, ℕ, zero, suc, ◌+◌, ◌-◌, ◌<◌, ◌≤◌, ◌∙◌, ◌||◌, Bool, true, false, if◌then◌else◌, nat_lt, All, List, [], ◌∷◌, ◌++◌, Ok, Err, Some, None, length, map, drop, get_or, refl, sym, ap, subst, arith, length-drop, length-append, append-nil, lt-ltb, le-ltb, cond}
 use borrow.Author.Tests.{ltb-false, ltb-true}
 use Rattle.std.specs.List.{AllPairs, list_any, position, position_or_len}
 use Rattle.std.specs.List.Sorted.{IsStrictlyIncreasing}
-use Rattle.std.proofs.lemmas.List.{drop-drop, get_or-drop}
+use Rattle.std.proofs.lemmas.List.{drop-drop, get_or-drop, length-map}
 use Rattle.std.proofs.lemmas.List.Elements.{All-head, All-tail}
 use Rattle.std.proofs.lemmas.List.Kept.{AllPairs-from_increasing}
 use Rattle.fw_package.specs.Choice.{component_at, has_key, has_large_image, has_long_text, has_twin, no_component, plan_of, record_at}
@@ -56,6 +56,28 @@ walked_from row at (n ∷ ns) rising after there =
 pub walked : (row : List ComponentOf) (ns : List ℕ) → IsStrictlyIncreasing ns → All (λ n. n < length row) ns
     → AreUsed 0 row ns × (used_from 0 row ns ≡ map (λ n. get_or row n no_component) ns)
 walked row ns rising there = walked_from row 0 ns (AllPairs-from_increasing ns rising) (λ k d lt. omega arith) there
+
+-- rising numbers below a number are not more than it
+at_least : (ns : List ℕ) → IsStrictlyIncreasing ns → (k : ℕ) → k < length ns → k ≤ get_or ns k 0
+at_least ns rising zero lt = omega arith
+at_least ns rising (suc k) lt =
+    let one : k + 1 ≡ suc k = omega arith in
+    let before = at_least ns rising k (omega (arith, lt)) in
+    let less : get_or ns k 0 < get_or ns (suc k) 0 = rw one at (rising k (omega (arith, lt))) in
+    omega (arith, before, less)
+
+few_rising : (n : ℕ) (ns : List ℕ) → IsStrictlyIncreasing ns → All (λ k. k < n) ns → length ns ≤ n
+few_rising n [] rising there = omega arith
+few_rising n (m ∷ ms) rising there =
+    let last = at_least (m ∷ ms) rising (length ms) (omega arith) in
+    let below : get_or (m ∷ ms) (length ms) 0 < n = there (length ms) 0 (omega arith) in
+    omega (arith, last, below)
+
+pub few_used : (row : List ComponentOf) (ns : List ℕ) (cs : List ComponentOf) → IsStrictlyIncreasing ns → All (λ n. n < length row) ns → length row ≤ 2978 → cs ≡ used_from 0 row ns → length cs ≤ 2978
+few_used row ns cs rising there few e =
+    let all : length cs ≡ length ns = ap length (e ∙ (walked row ns rising there).1) ∙ length-map ns (λ n. get_or row n no_component) in
+    let fit = few_rising (length row) ns rising there in
+    omega (arith, all, fit, few)
 
 -- a test of all
 any_map : {A B : Type 0} (f : A → B) (t : B → Bool) (xs : List A) → list_any t (map f xs) ≡ list_any (λ x. t (f x)) xs

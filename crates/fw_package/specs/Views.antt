@@ -1,5 +1,5 @@
 -- What is lent from a header, as a value.
-use Rattle.std.specs.Prelude.{ℕ, ◌+◌, ◌-◌, ◌<◌, ◌≤◌, ◌||◌, Bool, false, List, [], ◌∷◌, IsOk, IsSome, Result, Ok, Err, drop, filter, length, slice_index_or}
+use Rattle.std.specs.Prelude.{ℕ, ◌+◌, ◌-◌, ◌<◌, ◌≤◌, ◌*◌, ◌==◌, ◌||◌, Bool, false, List, [], ◌∷◌, IsOk, IsSome, Result, Ok, Err, drop, filter, length, slice_index_or}
 use Rattle.std.specs.List.{list_any, range_with_len}
 use Rattle.fw_package.specs.Choice.{has_key, no_component}
 use Rattle.fw_package.specs.Components.{components_of}
@@ -45,3 +45,12 @@ AreUsed at row (n ∷ ns) = (at ≤ n) × (n - at < length row) × AreUsed (n + 
 abbrev pub twins : List ComponentOf → Bool
 twins [] = false
 twins (c ∷ cs) = list_any (has_key c.classification c.identifier) cs || twins cs
+
+-- a key as one number
+abbrev pub number_of : ComponentOf → ℕ
+number_of c = c.classification * 65536 + c.identifier
+
+-- two of these numbers are equal
+abbrev pub doubles : List ℕ → Bool
+doubles [] = false
+doubles (k ∷ ks) = list_any (λ j. k == j) ks || doubles ks

@@ -59,6 +59,7 @@ pub fn walk(header: &[u8]) -> Option<Layout<'_>>
     ensures records { IfSome result (λ l. IsSome (after_records l.record_count l.records.now)) }
     ensures components { IfSome result (λ l. IsSome (after_components l.component_count l.components.now)) }
     ensures long { IfSome result (λ l. FIXED_SIZE ≤ length header.now) }
+    ensures inside { IfSome result (λ l. length l.components.now ≤ length header.now) }
 {
     let rest = skip(header, FIXED_SIZE + text_size(header, VERSION_LENGTH))?;
     let [record_count, records @ ..] = rest else {

@@ -1,6 +1,6 @@
 //! A package, and reading one.
 
-ghost use Rattle.std.specs.Prelude.{◌≡◌, ◌<◌, length, map, IfOk, IfErr, IfSome, All, nat_lt, ◌||◌};
+ghost use Rattle.std.specs.Prelude.{◌≡◌, ◌<◌, ◌≤◌, length, map, IfOk, IfErr, IfSome, All, nat_lt, ◌||◌};
 ghost use Rattle.std.specs.List.Sorted.{IsStrictlyIncreasing};
 ghost use Rattle.fw_package.specs.Choice.{component_at, has_large_image, has_long_text, has_twin, plan_of, record_at, record_number};
 ghost use Rattle.fw_package.specs.Faults.{IsFirstFault};
@@ -15,7 +15,7 @@ use crate::plans::Plan;
 use crate::reading::{bitmap_size, check, header};
 use crate::records::{Record, Records};
 use crate::texts::Descriptor;
-use crate::used::Used;
+use crate::used::{KEY_LIMIT, Used};
 use crate::uses::Uses;
 use byteorder::{ByteOrder, LittleEndian};
 use std::marker::Model;
@@ -36,7 +36,7 @@ pub struct Package<'a> {
 }
 
 impl<'a> Model for Package<'a> {
-    ghost use Rattle.std.specs.Prelude.{All, length};
+    ghost use Rattle.std.specs.Prelude.{All, length, ◌≤◌};
     ghost use Rattle.fw_package.specs.Package.{PackageText};
     ghost use Rattle.fw_package.specs.Reading.{IsUsing};
 
@@ -44,7 +44,7 @@ impl<'a> Model for Package<'a> {
 
     ghost view = { λ p. record { header_size = p.header_size; records = p.records; components = p.components } };
 
-    ghost invariant = { λ p. All (IsUsing (length p.components)) p.records };
+    ghost invariant = { λ p. All (IsUsing (length p.components)) p.records × (length p.components ≤ 2978) };
 }
 
 impl<'a> Package<'a> {
@@ -233,7 +233,8 @@ impl<'a> Package<'a> {
     fn used(&self, uses: &Uses<'a>) -> Used<'a>
         requires rising { IsStrictlyIncreasing uses.now }
         requires there { All (λ n. n < length self.now.components) uses.now }
-        ensures { result ≡ map (component_at self.now) uses.now }
+        ensures value { result ≡ map (component_at self.now) uses.now }
+        ensures few { length result ≤ KEY_LIMIT }
     {
         Used::new(&self.components, uses)
     }

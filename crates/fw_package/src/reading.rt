@@ -1,6 +1,6 @@
 //! The tests that a header has to pass as a whole.
 
-ghost use Rattle.std.specs.Prelude.{◌≡◌, ◌≤◌, length};
+ghost use Rattle.std.specs.Prelude.{◌≡◌, ◌≤◌, ◌<◌, length, IfOk};
 ghost use Rattle.std.specs.Result.{result_map_both};
 ghost use Rattle.fw_package.specs.Reading.{bitmap_size_of, checked, header_of};
 
@@ -23,7 +23,8 @@ const BYTE_BITS: usize = 8;
 /// The header of a package.
 #[tactic(auto, unfolding(crate::specs::Reading::header_of))]
 pub fn header(bytes: &[u8]) -> Result<&[u8], PackageFault>
-    ensures { result_map_both (λ h. h.now) (λ e. e) result ≡ header_of bytes.now }
+    ensures value { result_map_both (λ h. h.now) (λ e. e) result ≡ header_of bytes.now }
+    ensures small { IfOk result (λ h. length h.now < 65536) }
 {
     if bytes.len() < FIXED_SIZE {
         return Err(PackageFault::Short);

@@ -1,15 +1,22 @@
 //! The components that a record uses, found in one walk.
 
 ghost use Rattle.std.specs.Iterator.{YieldsFirstBy, item_count};
-ghost use Rattle.std.specs.Prelude.{◌≡◌, length, nat_lt};
+ghost use Rattle.std.specs.Prelude.{◌≡◌, ◌+◌, ◌*◌, ◌<◌, ◌≤◌, ◌↔◌, length, nat_lt, IsTrue};
 ghost use Rattle.std.specs.List.{list_any};
-ghost use Rattle.fw_package.specs.Choice.{has_key};
+ghost use Rattle.std.specs.List.Sorted.{IsStrictlyIncreasing};
 ghost use Rattle.fw_package.specs.Lent.{component_seen};
-ghost use Rattle.fw_package.specs.Views.{AreUsed, twins, used_from};
+ghost use Rattle.fw_package.specs.Views.{AreUsed, doubles, twins, used_from};
 
 use crate::components::{Component, Components};
 use crate::uses::Uses;
+use arrayvec::ArrayVec;
 use std::marker::Model;
+
+/// The most components that a header has room for: it has at most 65,535 bytes, and each takes 22 of them.
+pub const KEY_LIMIT: usize = 2_978;
+
+/// How many identifiers there are.
+const IDENTIFIERS: u32 = 65_536;
 
 /// Some of the components that stand in a row, by their rising numbers. It is also an iterator over them.
 #[derive(Debug, Drop)]
@@ -46,40 +53,27 @@ impl<'a> Used<'a> {
         }
     }
 
-    /// The same again.
-    fn iter(&self) -> Used<'a>
-        ensures { result ≡ self.now }
-    {
-        Used {
-            uses: self.uses.iter(),
-            at: self.at,
-            left: self.left.iter(),
-        }
-    }
-
-    /// Whether two of these have the same key.
-    pub fn has_twin(mut self) -> bool
+    /// Whether two of these have the same key. The keys are sorted, as two that are equal are neighbours then.
+    pub fn has_twin(self) -> bool
+        requires { length self ≤ KEY_LIMIT }
         ensures { result ≡ twins self.entry }
     {
-        while let Some(component) = self.next() {
-            let others = self.iter();
-            if others.has_key(component.classification, component.identifier) {
-                return true;
-            }
-        }
-        false
+        let mut keys = self.keys();
+        let sorted = keys.as_mut_slice();
+        sorted.sort_unstable();
+        !is_rising(sorted)
     }
 
-    /// Whether one of these has this key.
-    fn has_key(self, classification: u16, identifier: u16) -> bool
-        ensures { result ≡ list_any (has_key classification identifier) self.entry }
+    /// The keys of these, each as one number.
+    fn keys(self) -> ArrayVec<u32, KEY_LIMIT>
+        requires { length self ≤ KEY_LIMIT }
+        ensures { doubles result.items ≡ twins self.entry }
     {
+        let mut keys = ArrayVec::new();
         for component in self {
-            if component.classification == classification && component.identifier == identifier {
-                return true;
-            }
+            keys.push(key(component.classification, component.identifier));
         }
-        false
+        keys
     }
 
     /// Whether one of these has an image of more bytes than this.
@@ -128,4 +122,25 @@ impl<'a> Iterator for Used<'a> {
         };
         Some(component)
     }
+}
+
+/// A key as one number.
+fn key(classification: u16, identifier: u16) -> u32
+    ensures value { result ≡ classification * IDENTIFIERS + identifier }
+    ensures high { classification < IDENTIFIERS }
+    ensures low { identifier < IDENTIFIERS }
+{
+    u32::from(classification) * IDENTIFIERS + u32::from(identifier)
+}
+
+/// Whether each of these is below the next.
+fn is_rising(keys: &[u32]) -> bool
+    ensures { IsTrue result ↔ IsStrictlyIncreasing keys.now }
+{
+    for later in 1..keys.len() {
+        if keys[later - 1] >= keys[later] {
+            return false;
+        }
+    }
+    true
 }

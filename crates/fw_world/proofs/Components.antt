@@ -1,5 +1,5 @@
 -- No call of a device's node changes which components the device and its bank have.
-use Rattle.std.proofs.Common.{◌≡◌, ◌+◌, ◌==◌, ℕ, Bool, true, false, nat_le, nat_lt, if◌then◌else◌, List, [], ◌∷◌, ◌++◌, Option, Some, None, Result, Ok, Err, refl}
+use Rattle.std.proofs.Common.{◌+◌, ◌==◌, ℕ, Bool, true, false, nat_lt, if◌then◌else◌, List, [], ◌∷◌, Option, Some, None, Result, Ok, Err}
 use Rattle.mctp_reasm.specs.Held.{Held}
 use Rattle.mctp_reasm.specs.Pieces.{MessageOf}
 use Rattle.mctp_ctl.specs.declared.answers.Endpoint.{Endpoint}
@@ -15,8 +15,8 @@ use Rattle.fd_core.specs.Steps.{device_timeout, tick_at}
 use Rattle.fd_core.specs.declared.states.Verdict.{Verdict}
 use Rattle.fd_core.proofs.Components.{judge_components, learn_components, restart_components, take_components, timeout_components}
 use Rattle.fw_node.specs.Cores.{TimedDevice, answer_or, device_core}
-use Rattle.fw_node.specs.Halves.{HalfHeard, HalfOf, begins_if, begins_wish, called, goes_on, half_hears, half_hears_by, half_takes, half_ticks, hears_if, last_part, read_by, settled, takes_if, takes_read, unwished_abandoned, with_caller}
-use Rattle.fw_node.specs.Nodes.{DeviceNodeOf, device_hears, device_judges, device_restarts, finished}
+use Rattle.fw_node.specs.Halves.{HalfHeard, HalfOf, begins_if, begins_wish, called, half_hears, half_hears_by, half_takes, half_ticks, hears_if, read_by, takes_if, takes_read, unwished_abandoned, with_caller}
+use Rattle.fw_node.specs.Nodes.{DeviceNodeOf, device_hears, device_judges, finished}
 use Rattle.pldm_base.specs.declared.terminus.Role.TheVariants as roles
 
 -- a half whose device has its components

@@ -1,8 +1,8 @@
 -- What is noted after a verdict.
 use Rattle.std.proofs.Common.{◌≡◌, ◌≤◌, ◌∙◌, ◌++◌, ℕ, Bool, true, false, IfSome, is_some, List, [], ◌∷◌, length, map, Option, Some, None, ap, refl, sym, subst}
 use Rattle.std.specs.Option.{option_map}
-use Rattle.fd_core.specs.Components.{HasComponents, IsOneOf}
-use Rattle.fd_core.specs.Images.{ImageOf, Put, RowOf, applied_of, key_of, row_of}
+use Rattle.fd_core.specs.Components.{HasComponents}
+use Rattle.fd_core.specs.Images.{ImageOf, Put, RowOf, applied_of, row_of}
 use Rattle.fd_core.specs.States.{DeviceState, IsWhole, Phase, staged_of}
 use Rattle.fd_core.specs.Steps.{applied_by, device_verdict, verdict_after, verdict_at}
 use Rattle.fd_core.specs.Wishes.{has_failed}
@@ -12,12 +12,12 @@ use Rattle.fd_core.specs.declared.states.Verdict.TheVariants as verdicts
 use Rattle.fwup_wire.specs.declared.values.Key.{Key}
 use Rattle.fw_message.specs.History.{EntryOf}
 use Rattle.fw_message.specs.Worlds.{NotedOf, noted_of}
-use Rattle.fw_message.proofs.Sealing.{Applies, applies}
+use Rattle.fw_message.proofs.Sealing.{applies}
 use Rattle.fw_message.proofs.Working.{applies_nothing, is_apply_ok}
 use Rattle.exch_lane.specs.Lanes.{Sent}
-use Rattle.fw_node.specs.Nodes.{DeviceNodeOf, JudgesIt, device_judges}
+use Rattle.fw_node.specs.Nodes.{DeviceNodeOf, JudgesIt}
 use Rattle.fw_world.specs.Sites.{IsCopyOf, Judges, JudgesNoting}
-use Rattle.fw_world.specs.Worlds.{SiteOf, node_becomes}
+use Rattle.fw_world.specs.Worlds.{SiteOf}
 use Rattle.fw_world.proofs.Noting.{append_nil}
 
 -- these images are noted

@@ -1,5 +1,5 @@
 -- Each step of the world's code leads on as its definition says.
-use Rattle.std.proofs.Common.{◌≡◌, ◌∙◌, ◌++◌, ◌==◌, ◌<◌, ◌≤◌, ◌+◌, IfSome, ℕ, zero, suc, [], ◌∷◌, Bool, true, false, is_some, length, List, map, slice_get, slice_set, Option, Some, None, ap, arith, inl, inr, refl, subst, sym}
+use Rattle.std.proofs.Common.{◌≡◌, ◌∙◌, ◌++◌, ◌==◌, ◌<◌, ◌≤◌, IfSome, ℕ, zero, suc, [], ◌∷◌, Bool, true, false, is_some, length, List, map, slice_get, slice_set, Option, Some, None, ap, arith, inl, inr, refl, subst, sym}
 use Rattle.std.proofs.lemmas.Bool.Decides.{eqb_tells}
 use Rattle.std.specs.List.{AllByRecursion}
 use Rattle.std.specs.Option.{option_map}
@@ -10,14 +10,14 @@ use Rattle.fd_core.specs.Steps.{applied_by}
 use Rattle.fd_core.specs.declared.states.Verdict.{Verdict}
 use Rattle.fw_message.specs.History.{EntryOf}
 use Rattle.fw_message.specs.Worlds.{NotedOf, noted_of}
-use Rattle.fw_node.specs.Agents.{HalfMaySpeak, agent_restarts, agent_ticks, cancels, hearer, ready_for, starts}
+use Rattle.fw_node.specs.Agents.{HalfMaySpeak, agent_restarts, cancels, hearer, ready_for, starts}
 use Rattle.fw_node.specs.Cores.{session_core}
 use Rattle.fw_node.specs.Halves.{half_hears}
 use Rattle.fw_node.specs.Nodes.{IsTold, device_hears, device_judges}
 use Rattle.fw_node.specs.Packets.{all_packets}
 use Rattle.fw_world.specs.Deliveries.{ComesTo, IsJudged}
 use Rattle.fw_world.specs.Replays.{CanBeSaidBy, IsToldBy, IsToldTo, Leads, SiteSpeaks, faults_before, faults_of, may_step}
-use Rattle.fw_world.specs.Worlds.{SiteOf, WorldOf, activated_at, activates_on, asks_log, at_agent, at_device, calls, comes, delivers, judges, node_becomes, packets_of, place_of, restarts, sent_now, site_at, site_for, site_restarts, ticks, world_after}
+use Rattle.fw_world.specs.Worlds.{SiteOf, WorldOf, activated_at, activates_on, asks_log, at_agent, at_device, calls, comes, delivers, judges, node_becomes, packets_of, place_of, sent_now, site_at, site_for, site_restarts, ticks, world_after}
 use Rattle.fw_world.specs.declared.step.Step.{Step}
 use Rattle.fw_world.specs.declared.step.Step.TheVariants as steps
 

@@ -1,5 +1,5 @@
 -- What is noted of the agent's records after a packet.
-use Rattle.std.proofs.Common.{◌≡◌, ◌∙◌, ◌++◌, ℕ, IfSome, List, [], ◌∷◌, map, Option, Some, None, ap, refl, sym}
+use Rattle.std.proofs.Common.{◌≡◌, ◌∙◌, ◌++◌, ℕ, IfSome, List, map, Option, Some, None, ap, refl, sym}
 use Rattle.std.specs.Prelude.{option_to_list}
 use Rattle.ua_core.specs.declared.planned.Recorded.{Recorded}
 use Rattle.fw_message.specs.History.{EntryOf}

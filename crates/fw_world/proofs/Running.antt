@@ -1,5 +1,5 @@
 -- Runs of the world, one step after another.
-use Rattle.std.proofs.Common.{◌≡◌, ◌<◌, ◌+◌, ◌∙◌, ◌++◌, ℕ, List, [], ◌∷◌, length, take, get_or, refl, subst, sym}
+use Rattle.std.proofs.Common.{◌<◌, ◌+◌, ◌++◌, ℕ, List, [], ◌∷◌, length, take, get_or, refl, subst, sym}
 use Rattle.std.proofs.lemmas.List.{take_more}
 use Rattle.fw_world.specs.Replays.{Leads, Run}
 use Rattle.fw_world.specs.Worlds.{WorldOf}

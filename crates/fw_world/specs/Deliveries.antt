@@ -1,5 +1,5 @@
 -- What the calls of the world's code make of it.
-use Rattle.std.specs.Prelude.{ℕ, ◌≡◌, List, Option, Some}
+use Rattle.std.specs.Prelude.{ℕ, ◌≡◌, List, Some}
 use Rattle.fd_core.specs.declared.states.Verdict.{Verdict}
 use Rattle.fw_world.specs.Sites.{HeardAt, JudgedAt}
 use Rattle.fw_world.specs.Worlds.{WorldOf, place_of}

@@ -1,5 +1,5 @@
 -- Replays: which steps may be taken, and runs of the packet world.
-use Rattle.std.specs.Prelude.{ℕ, ◌≡◌, ◌≢◌, ◌≤◌, ◌⊎◌, ◌+◌, ◌-◌, ◌^◌, ◌==◌, ◌&&◌, ◌||◌, ◌∷◌, [], Bool, true, false, not, if◌then◌else◌, nat_lt, nat_le, IfSome, is_some, List, length, map, Option, Some, None}
+use Rattle.std.specs.Prelude.{ℕ, ◌≡◌, ◌≢◌, ◌≤◌, ◌⊎◌, ◌+◌, ◌-◌, ◌^◌, ◌==◌, ◌&&◌, ◌||◌, ◌∷◌, [], Bool, true, false, if◌then◌else◌, nat_lt, nat_le, IfSome, is_some, List, length, map, Option, Some, None}
 use Rattle.std.specs.List.{All, AllByRecursion}
 use Rattle.mctp_ctl.specs.declared.answers.Endpoint.{Endpoint}
 use Rattle.exch_lane.specs.Lanes.{IsEid, Sent, numbered}

@@ -1,13 +1,12 @@
 -- What is promised of the packet world: over every schedule of deliveries, losses, repeats, reorderings, ticks, commands, verdicts
 -- and restarts, the history of each device is safe, and tied with what runs on it and with what the agent recorded.
-use Rattle.std.specs.Prelude.{ℕ, ◌≡◌, [], IfSome, IsSomeAnd, List, Option, None, Some}
+use Rattle.std.specs.Prelude.{ℕ, [], IfSome, IsSomeAnd, List, Option, None, Some}
 use Rattle.ua_core.specs.Session.{TimedOf}
 use Rattle.fw_message.specs.History.{EntryOf}
 use Rattle.fw_message.specs.Laws.{IsSafeAndTied}
 use Rattle.fw_message.specs.Pairs.{PairOf, PairRun}
 use Rattle.fw_message.specs.WorldLaws.{history_of}
 use Rattle.fw_node.specs.Agents.{half_for}
-use Rattle.fw_node.specs.Cores.{TimedDevice}
 use Rattle.fw_node.specs.Halves.{HalfOf}
 use Rattle.fw_world.specs.Replays.{IsOpeningWorld, Run}
 use Rattle.fw_world.specs.Worlds.{SiteOf, WorldOf, site_for}

@@ -1,6 +1,5 @@
 -- A device's node in the world, as the code has it.
 use Rattle.std.specs.Prelude.{ℕ, ◌≡◌, ◌≤◌, ◌++◌, [], ◌∷◌, Bool, false, true, IfSome, is_some, List, length, map, slice_get, slice_set, Option, Some, None}
-use Rattle.exch_lane.specs.Lanes.{Sent}
 use Rattle.fd_core.specs.Banks.{Rose}
 use Rattle.fd_core.specs.States.{DeviceState, Phase}
 use Rattle.fd_core.specs.Images.{Put, RowOf, applied_of, puts, row_of}

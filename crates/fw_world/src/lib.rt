@@ -9,6 +9,8 @@ mod replays;
 mod site;
 mod sites;
 mod step;
+#[cfg(test)]
+mod tests;
 mod world;
 
 pub use fw_message::{

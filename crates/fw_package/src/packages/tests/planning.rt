@@ -178,6 +178,42 @@ fn names_the_first_fault_of_a_plan(rt: HostRuntime) -> Result<(), Fail> {
 }
 
 #[test]
+fn finds_one_key_twice_wherever_it_stands(rt: HostRuntime) -> Result<(), Fail> {
+    let twice = Some(PlanFault::DuplicateComponent);
+    let table: [([u8; 4], Option<PlanFault>); 5] = [
+        ([4, 1, 3, 2], None),
+        ([4, 1, 3, 4], twice),
+        ([1, 4, 2, 1], twice),
+        ([1, 3, 2, 3], twice),
+        ([2, 2, 3, 1], twice),
+    ];
+    for (identifiers, fault) in table {
+        let parts = [
+            component(identifiers[0], 0, 0),
+            component(identifiers[1], 0, 0),
+            component(identifiers[2], 0, 0),
+            component(identifiers[3], 0, 0),
+        ];
+        let lent = [
+            parts[0].as_slice(),
+            parts[1].as_slice(),
+            parts[2].as_slice(),
+            parts[3].as_slice(),
+        ];
+        let draft = Draft {
+            bitmap_bits: 8,
+            records: &[&[12, 0, 0, 0, 0, 0, 0, 0, 0, 0, 0, 0x0F]],
+            components: &lent,
+            rest: &[],
+        };
+        let file = file(draft);
+        let package = Package::read(file.as_slice())?;
+        assert_eq!(rt; plan_answer(&package), fault, "{identifiers:?}");
+    }
+    Ok(())
+}
+
+#[test]
 fn plans_eight_components_at_most(rt: HostRuntime) -> Result<(), Fail> {
     let parts = [
         component(1, 0, 0),

@@ -1,4 +1,4 @@
-use Rattle.std.proofs.Common.{◌≡◌, ◌∙◌, ap, get_or}
+use Rattle.std.proofs.Common.{ap, get_or}
 use Rattle.std.proofs.lemmas.List.{map-set}
 use Rattle.fw_world.proofs.Places.{found_at, same_put}
 use Rattle.fw_world.proofs.sites.hear_in.Goals as goal

@@ -1,4 +1,4 @@
-use Rattle.std.proofs.Common.{◌≡◌, ◌∙◌, Some, ap, arith, get_or, sym}
+use Rattle.std.proofs.Common.{◌∙◌, ap, arith, get_or, sym}
 use Rattle.fw_world.specs.Sites.{sites_of}
 use Rattle.fw_world.specs.Worlds.{place_for}
 use Rattle.fw_world.proofs.Places.{less_room, post_there, room_at, room_less}

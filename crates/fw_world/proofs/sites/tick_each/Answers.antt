@@ -1,4 +1,4 @@
-use Rattle.std.proofs.Common.{◌≡◌, ◌∙◌, ap, arith, get_or}
+use Rattle.std.proofs.Common.{◌∙◌, ap, arith, get_or}
 use Rattle.std.proofs.lemmas.List.{length-map, length-set}
 use Rattle.fw_node.proofs.Loops.{done_more, half_was}
 use Rattle.fw_world.specs.Sites.{sites_of}

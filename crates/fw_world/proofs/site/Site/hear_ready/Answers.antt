@@ -1,4 +1,4 @@
-use Rattle.std.proofs.Common.{◌≡◌, ◌∙◌, ◌++◌, map, ap, subst, sym}
+use Rattle.std.proofs.Common.{◌∙◌, ◌++◌, map, ap, subst, sym}
 use Rattle.fd_core.specs.Images.{puts}
 use Rattle.fw_message.specs.Entries.{entry_of, put_of}
 use Rattle.fw_message.specs.History.{EntryOf}

@@ -1,7 +1,7 @@
-use Rattle.std.proofs.Common.{◌≡◌, ap, map, subst}
+use Rattle.std.proofs.Common.{map, subst}
 use Rattle.exch_lane.specs.Journals.{sent_of}
 use Rattle.fw_world.specs.Sites.{Judges}
-use Rattle.fw_world.proofs.Judging.{judged_here, never_refused}
+use Rattle.fw_world.proofs.Judging.{judged_here}
 use Rattle.fw_world.proofs.site.Site.judge_now.Goals as goal
 
 pub returns-clause-judged : goal.returns-clause-judged

@@ -1,4 +1,4 @@
-use Rattle.std.proofs.Common.{◌≡◌, ◌∙◌, IfSome, ap, subst, sym, true}
+use Rattle.std.proofs.Common.{◌∙◌, IfSome, ap, subst, sym, true}
 use Rattle.fw_node.specs.Agents.{hearer}
 use Rattle.fw_node.specs.Cores.{session_core}
 use Rattle.fw_node.specs.Halves.{half_hears}

@@ -1,4 +1,4 @@
-use Rattle.std.proofs.Common.{◌≡◌, ◌<◌, ap, arith, refl}
+use Rattle.std.proofs.Common.{◌<◌, ap, arith, refl}
 use Rattle.std.proofs.lemmas.Bool.{lt-ltb}
 use Rattle.fw_world.proofs.Leading.{tick_leads}
 use Rattle.fw_world.proofs.world.World.tick.Goals as goal

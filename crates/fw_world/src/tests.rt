@@ -1,0 +1,5 @@
+//! Schedules of worked steps.
+
+mod packages;
+mod schedules;
+mod setup;
