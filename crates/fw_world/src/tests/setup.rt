@@ -50,25 +50,57 @@ fn descriptors() -> DescriptorList {
     descriptors
 }
 
+/// Stamp 1, `1.0`.
+fn label() -> Label {
+    Label::new(&Version {
+        stamp: 1,
+        text: Text {
+            text_type: 1,
+            bytes: b"1.0",
+        },
+    })
+}
+
 /// The worked device: component (10, 1), stamp 1, `1.0`, image AA.
 fn device(alloc: Global) -> Result<Device<MemBank>, AllocError>
     ensures components { IfOk result (λ d. HasComponents d.device) }
     ensures idle { IfOk result (λ d. d.device.phase ≡ Phase.Idle) }
     ensures unapplied { IfOk result (λ d. AllByRecursion IsUnapplied d.device.rows) }
 {
-    let label = Label::new(&Version {
-        stamp: 1,
-        text: Text {
-            text_type: 1,
-            bytes: b"1.0",
-        },
-    });
     let mut bank = MemBank::new(alloc);
-    let Ok(()) = bank.add(KEY, &label, &[0xAA]) else {
+    let Ok(()) = bank.add(KEY, &label(), &[0xAA]) else {
         return Err(AllocError);
     };
     let mut components = ArrayVec::new();
     components.push(Component { key: KEY, index: 0 });
+    Ok(Device::new(descriptors(), components, bank))
+}
+
+/// The second component of a device with two.
+const SECOND: Key = Key {
+    classification: 10,
+    identifier: 2,
+};
+
+/// The worked device with component (10, 2) beside, which is alike.
+fn device_of_two(alloc: Global) -> Result<Device<MemBank>, AllocError>
+    ensures components { IfOk result (λ d. HasComponents d.device) }
+    ensures idle { IfOk result (λ d. d.device.phase ≡ Phase.Idle) }
+    ensures unapplied { IfOk result (λ d. AllByRecursion IsUnapplied d.device.rows) }
+{
+    let mut bank = MemBank::new(alloc);
+    let Ok(()) = bank.add(KEY, &label(), &[0xAA]) else {
+        return Err(AllocError);
+    };
+    let Ok(()) = bank.add(SECOND, &label(), &[0xAA]) else {
+        return Err(AllocError);
+    };
+    let mut components = ArrayVec::new();
+    components.push(Component { key: KEY, index: 0 });
+    components.push(Component {
+        key: SECOND,
+        index: 1,
+    });
     Ok(Device::new(descriptors(), components, bank))
 }
 
@@ -91,6 +123,53 @@ fn one(alloc: Global) -> Result<Vec<DeviceNode<MemBank>>, AllocError>
     let mut nodes = Vec::new(alloc);
     nodes.push(node)?;
     Ok(nodes)
+}
+
+/// The node of the device with two components.
+#[tactic(auto, using(crate::proofs::Opening::new_node))]
+fn node_of_two(alloc: Global) -> Result<DeviceNode<MemBank>, AllocError>
+    ensures new { IfOk result (IsNewNode 8) }
+    ensures eid { IfOk result (λ n. n.endpoint.eid ≡ DEVICE) }
+{
+    let device = device_of_two(alloc)?;
+    Ok(DeviceNode::new(endpoint(DEVICE), 8, device))
+}
+
+/// The nodes of one device with two components.
+fn one_of_two(alloc: Global) -> Result<Vec<DeviceNode<MemBank>>, AllocError>
+    ensures { IfOk result (λ ns. AreNewNodes 8 ns.items) }
+{
+    let node = node_of_two(alloc)?;
+    let mut nodes = Vec::new(alloc);
+    nodes.push(node)?;
+    Ok(nodes)
+}
+
+/// The world of the agent 8 and a device with two components.
+pub fn world_of_two<'a>(
+    alloc: Global,
+    packages: &'a [Package<'a>],
+) -> Result<Small<'a>, AllocError> {
+    World::new(alloc, endpoint(8), one_of_two(alloc)?, packages)
+}
+
+/// The nodes of three devices.
+fn nodes_of_three(alloc: Global) -> Result<Vec<DeviceNode<MemBank>>, AllocError>
+    ensures { IfOk result (λ ns. AreNewNodes 8 ns.items) }
+{
+    let first = node(alloc, DEVICE)?;
+    let second = node(alloc, 10)?;
+    let third = node(alloc, 11)?;
+    let mut nodes = Vec::new(alloc);
+    nodes.push(first)?;
+    nodes.push(second)?;
+    nodes.push(third)?;
+    Ok(nodes)
+}
+
+/// The world of the agent 8 and the devices 9, 10 and 11 alike.
+pub fn three<'a>(alloc: Global, packages: &'a [Package<'a>]) -> Result<Small<'a>, AllocError> {
+    World::new(alloc, endpoint(8), nodes_of_three(alloc)?, packages)
 }
 
 /// The world of the agent 8 and the worked device.
