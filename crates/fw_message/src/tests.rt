@@ -4,7 +4,6 @@ mod endings;
 mod losses;
 mod packages;
 mod refusals;
-mod restarts;
 mod seeing;
 mod setup;
 mod steps;

@@ -1,3 +1,3 @@
-mod Chains
+mod Uses
 mod Digits
 mod Streams

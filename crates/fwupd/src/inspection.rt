@@ -6,9 +6,9 @@ ghost use Rattle.std.specs.Result.{result_map_both};
 ghost use Rattle.fw_package.specs.Lent.{component_seen, record_seen};
 ghost use Rattle.fw_package.specs.Package.{descriptor_of};
 ghost use Rattle.fw_package.specs.Reading.{package_of};
-ghost use Rattle.fwupd.specs.Inspection.{Adds, component_line, components_text, descriptor_line, inspect_of, package_line, record_line, records_text, record_text, use_text, uses_text};
+ghost use Rattle.fwupd.specs.Inspection.{component_line, components_text, descriptor_line, inspect_of, package_line, record_line, records_text, record_text, use_text, uses_text};
 
-use crate::printing::{push_data, push_eight, push_four, push_number, push_quoted, push_words};
+use fw_script::printing::{push_data, push_eight, push_four, push_number, push_quoted, push_words};
 use fw_package::{
     Component, Components, Descriptor, Descriptors, Package, PackageFault, Record, Records, Uses,
 };
@@ -41,7 +41,7 @@ fn push_descriptor(
 }
 
 /// Appends the number of each component that a record uses.
-#[tactic(auto, using(crate::proofs::Chains::telling))]
+#[tactic(auto, using(fw_script::proofs::Chains::telling))]
 fn push_each_use(alloc: Global, text: &mut Vec<u8>, uses: Uses<'_>) -> Result<(), AllocError>
     ensures { OnOk result (Adds text.old.items text.new.items (flat_map use_text uses.entry)) }
 {
@@ -52,7 +52,7 @@ fn push_each_use(alloc: Global, text: &mut Vec<u8>, uses: Uses<'_>) -> Result<()
 }
 
 /// Appends the numbers of the components that a record uses, or a dash.
-#[tactic(auto, using(crate::proofs::Chains::uses_none, crate::proofs::Chains::uses_some))]
+#[tactic(auto, using(crate::proofs::Uses::uses_none, crate::proofs::Uses::uses_some))]
 fn push_uses(alloc: Global, text: &mut Vec<u8>, uses: Uses<'_>) -> Result<(), AllocError>
     ensures { OnOk result (Adds text.old.items text.new.items (uses_text uses.entry)) }
 {
@@ -104,7 +104,7 @@ fn push_component(
 }
 
 /// Appends the lines of a record's descriptors.
-#[tactic(auto, using(crate::proofs::Chains::telling))]
+#[tactic(auto, using(fw_script::proofs::Chains::telling))]
 fn push_descriptors(
     alloc: Global,
     text: &mut Vec<u8>,
@@ -133,7 +133,7 @@ fn push_record(
 }
 
 /// Appends the lines of all records.
-#[tactic(auto, using(crate::proofs::Chains::telling))]
+#[tactic(auto, using(fw_script::proofs::Chains::telling))]
 fn push_records(
     alloc: Global,
     text: &mut Vec<u8>,
@@ -151,7 +151,7 @@ fn push_records(
 }
 
 /// Appends the lines of all components.
-#[tactic(auto, using(crate::proofs::Chains::telling))]
+#[tactic(auto, using(fw_script::proofs::Chains::telling))]
 fn push_components(
     alloc: Global,
     text: &mut Vec<u8>,

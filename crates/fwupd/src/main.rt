@@ -5,7 +5,6 @@ mod command_line;
 mod drops;
 mod faults;
 mod inspection;
-mod printing;
 mod responder;
 mod retries;
 mod stream;

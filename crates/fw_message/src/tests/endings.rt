@@ -6,9 +6,8 @@ use crate::tests::seeing::{
 };
 use crate::tests::setup::{KEY, ONE, Small, package};
 use crate::tests::steps::{
-    ACTIVATING, ALL_APPLIED, APPLIED, APPLY, ASK_DOWN, ASK_UP, ASKED, CANCEL, COMPLETE_ASKED,
-    DATA_LEARNT, DEVICE, DROP_UP, LEARN_DOWN, LEARN_UP, PASS, START, TAKE_BUSY, TAKE_UP,
-    TIME_OUT_DEVICE, TIME_OUT_SESSION, UPDATE, VERIFY, WHOLE, go_on, led, takes, takes_worked,
+    APPLY, ASK_DOWN, ASK_UP, CANCEL, COMPLETE_ASKED, DEVICE, DROP_UP, LEARN_DOWN, LEARN_UP,
+    TAKE_BUSY, TAKE_UP, VERIFY, WHOLE, led, takes, takes_worked,
 };
 use crate::{MessageStep, Way};
 use fd_core::{State, Verdict};
@@ -28,8 +27,6 @@ const NOTES: [Note; 3] = [
 
 /// The applied image alone.
 const APPLIED_ALONE: [Note; 1] = [Note::Applied(DEVICE, KEY, 241)];
-
-const TIMED_OUT: SessionState = SessionState::Failed(Cause::TimeOut);
 
 /// Whether the first image runs, nothing is applied and nothing recorded.
 fn is_as_before(world: &Small<'_>) -> bool {
@@ -68,145 +65,6 @@ fn a_stale_completion_records_nothing(rt: HostRuntime) -> Result<(), Fail> {
     ];
     for then in rows {
         assert!(rt; is_refused_late(rt.alloc(), &packages, then)?);
-    }
-    Ok(())
-}
-
-/// A time-out, by how many of the worked steps lead to it, and what else; and where device and session then stand.
-type Row<'a> = (&'a str, usize, &'a [MessageStep], State, SessionState);
-
-const OF_THE_DEVICE: [Row<'static>; 6] = [
-    (
-        "in LEARN COMPONENTS",
-        PASS,
-        &[TIME_OUT_DEVICE],
-        State::Idle,
-        SessionState::Pass,
-    ),
-    (
-        "in READY XFER",
-        UPDATE,
-        &[TIME_OUT_DEVICE],
-        State::Idle,
-        SessionState::Update,
-    ),
-    (
-        "in DOWNLOAD",
-        DATA_LEARNT,
-        &[TIME_OUT_DEVICE],
-        State::Idle,
-        SessionState::Download,
-    ),
-    (
-        "in VERIFY",
-        VERIFY,
-        &[TIME_OUT_DEVICE],
-        State::Idle,
-        SessionState::Verify,
-    ),
-    (
-        "in APPLY",
-        APPLIED,
-        &[TIME_OUT_DEVICE],
-        State::Idle,
-        SessionState::Apply,
-    ),
-    (
-        "all applied",
-        ALL_APPLIED,
-        &[TIME_OUT_DEVICE],
-        State::Idle,
-        SessionState::AllApplied,
-    ),
-];
-
-const OF_THE_SESSION: [Row<'static>; 8] = [
-    (
-        "in Query",
-        ASKED,
-        &[TIME_OUT_SESSION],
-        State::Idle,
-        TIMED_OUT,
-    ),
-    (
-        "in Pass",
-        PASS,
-        &[TIME_OUT_SESSION],
-        State::Learn,
-        TIMED_OUT,
-    ),
-    (
-        "in Download",
-        DATA_LEARNT,
-        &[TIME_OUT_SESSION],
-        State::Download,
-        TIMED_OUT,
-    ),
-    (
-        "in Verify",
-        VERIFY,
-        &[TIME_OUT_SESSION],
-        State::Verify,
-        TIMED_OUT,
-    ),
-    (
-        "in Apply",
-        APPLIED,
-        &[TIME_OUT_SESSION],
-        State::Apply,
-        TIMED_OUT,
-    ),
-    (
-        "in AllApplied",
-        ALL_APPLIED,
-        &[TIME_OUT_SESSION],
-        State::Ready,
-        TIMED_OUT,
-    ),
-    (
-        "in Activate",
-        ACTIVATING,
-        &[TIME_OUT_SESSION],
-        State::Ready,
-        TIMED_OUT,
-    ),
-    (
-        "in Cancelling",
-        DATA_LEARNT,
-        &[CANCEL, TIME_OUT_SESSION],
-        State::Download,
-        SessionState::Idle,
-    ),
-];
-
-/// Whether device and session stand as the row says, the first image runs, and a device that is idle has nothing applied.
-fn is_ended(world: &Small<'_>, device: State, session: SessionState) -> bool {
-    let dropped = device != State::Idle || applied(world, DEVICE, KEY).is_empty();
-    stands(world, DEVICE, device, session) && runs_first(world, DEVICE) && dropped
-}
-
-/// Whether an update that is started then ends well.
-fn is_updated_anew(world: &mut Small<'_>) -> bool {
-    let cancelled = takes(world, &[CANCEL]);
-    go_on(world);
-    let started = takes(world, &[START]);
-    go_on(world);
-    cancelled
-        && started
-        && stands(world, DEVICE, State::Activate, SessionState::Done)
-        && happened_last(world, &NOTES)
-}
-
-#[test]
-fn behind_a_time_out_the_next_update_ends_well(rt: HostRuntime) -> Result<(), Fail> {
-    let one = file(rt.alloc(), ONE)?;
-    let packages = [package(&one)?];
-    for rows in [OF_THE_DEVICE.as_slice(), &OF_THE_SESSION] {
-        for (situation, count, then, device, session) in rows {
-            let mut world = led(rt.alloc(), &packages, *count, then)?;
-            assert!(rt; is_ended(&world, *device, *session), "{situation}");
-            assert!(rt; is_updated_anew(&mut world), "{situation}");
-        }
     }
     Ok(())
 }

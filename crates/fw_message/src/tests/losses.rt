@@ -2,13 +2,12 @@
 
 use crate::tests::packages::file;
 use crate::tests::seeing::{
-    Cell, Note, active, applied, cell_of, failures, happened, holds, is_worked_image, records,
-    stands,
+    Cell, Note, active, applied, cell_of, failures, happened, holds, records, stands,
 };
-use crate::tests::setup::{KEY, NEWER, ONE, Small, join, opening, package, packages_of};
+use crate::tests::setup::{KEY, ONE, Small, join, opening, package};
 use crate::tests::steps::{
-    ASKED, DEVICE, DROP_DOWN, DROP_UP, GIVE_UP_DOWN, GIVE_UP_UP, START, TAKE_DOWN, TIME_OUT_DEVICE,
-    WHOLE, go_on, led, replay, takes, takes_worked, worked,
+    ASKED, DEVICE, DROP_DOWN, GIVE_UP_DOWN, START, TAKE_DOWN, WHOLE, go_on, led, replay, takes,
+    takes_worked, worked,
 };
 use crate::{MessageStep, MessageStepFault, Way};
 use fd_core::State;
@@ -16,9 +15,6 @@ use fw_package::Package;
 use std::alloc::Global;
 use std::test::Fail;
 use ua_core::{Cause, SessionState};
-
-/// How many of the worked steps stand before each of the device's five requests.
-const REQUESTS: [usize; 5] = [19, 22, 25, 29, 33];
 
 /// What happens in the worked update.
 const NOTES: [Note; 3] = [
@@ -30,21 +26,6 @@ const NOTES: [Note; 3] = [
 /// Whether the update is done.
 fn is_done(world: &Small<'_>) -> bool {
     stands(world, DEVICE, State::Activate, SessionState::Done)
-}
-
-#[test]
-fn a_device_asks_again_for_what_is_lost(rt: HostRuntime) -> Result<(), Fail> {
-    let one = file(rt.alloc(), ONE)?;
-    let packages = [package(&one)?];
-    for count in REQUESTS {
-        // the request is lost, or its answer is
-        for lost in [count + 1, count + 2] {
-            let mut world = led(rt.alloc(), &packages, lost, &[GIVE_UP_UP, DROP_UP])?;
-            assert!(rt; takes_worked(&mut world, DEVICE, count, WHOLE), "{lost}");
-            assert!(rt; is_done(&world) && happened(&world, &NOTES), "{lost}");
-        }
-    }
-    Ok(())
 }
 
 #[test]
@@ -62,30 +43,6 @@ fn a_session_fails_when_its_asker_gives_up(rt: HostRuntime) -> Result<(), Fail> 
         assert!(rt; takes(&mut world, &[START]));
         go_on(&mut world);
         assert!(rt; is_done(&world));
-    }
-    Ok(())
-}
-
-/// Whether the update that has begun leads there.
-fn leads(world: &mut Small<'_>, device: State, session: SessionState) -> bool {
-    go_on(world);
-    is_worked_image(active(world, DEVICE, KEY)) && stands(world, DEVICE, device, session)
-}
-
-#[test]
-fn a_newer_package_follows_and_the_same_one_does_not(rt: HostRuntime) -> Result<(), Fail> {
-    let one = file(rt.alloc(), ONE)?;
-    let other = file(rt.alloc(), NEWER)?;
-    let packages = packages_of(&one, &other)?;
-    let nothing = SessionState::Failed(Cause::NothingToUpdate);
-    let rows = [
-        (1, State::Ready, nothing),
-        (2, State::Activate, SessionState::Done),
-    ];
-    for (number, device, session) in rows {
-        let start = MessageStep::Start(DEVICE, number);
-        let mut world = led(rt.alloc(), &packages, WHOLE, &[TIME_OUT_DEVICE, start])?;
-        assert!(rt; leads(&mut world, device, session), "package {number}");
     }
     Ok(())
 }

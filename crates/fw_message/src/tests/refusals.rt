@@ -4,10 +4,10 @@ use crate::tests::packages::file;
 use crate::tests::seeing::seen;
 use crate::tests::setup::{AGENT, NOBODY, ONE, Small, opening, package};
 use crate::tests::steps::{
-    ACTIVATE, ACTIVATING, ALL_APPLIED, ANSWERED, APPLIED, APPLY, ASK_DOWN, ASK_UP, ASKED, CANCEL,
+    ACTIVATE, ACTIVATING, ALL_APPLIED, ANSWERED, APPLIED, ASK_DOWN, ASK_UP, ASKED, CANCEL,
     DATA_ANSWERED, DATA_ASKED, DEVICE, DOWNLOAD, DROP_DOWN, DROP_UP, GIVE_UP_DOWN, GIVE_UP_UP,
     LEARN_DOWN, LEARN_UP, RESTART_AGENT, START, TAKE_BUSY, TAKE_DOWN, TAKE_UP, TIME_OUT_DEVICE,
-    TIME_OUT_SESSION, VERIFIED, VERIFY, WHOLE, led, replay, takes,
+    TIME_OUT_SESSION, WHOLE, led, replay, takes,
 };
 use crate::{MessageStep, MessageStepFault, Side, Way};
 use fd_core::Verdict;
@@ -17,13 +17,6 @@ use std::test::Fail;
 
 /// A situation, by how many of the worked steps and which others lead to it, and a step that isn't taken there.
 type Row<'a> = (&'a str, usize, &'a [MessageStep], MessageStep);
-
-const VERDICTS: [Verdict; 4] = [
-    Verdict::VerifyOk,
-    Verdict::VerifyFail,
-    Verdict::ApplyOk,
-    Verdict::ApplyFail,
-];
 
 /// Cells that aren't empty, or nothing that is wished.
 const ASKS: [Row<'static>; 12] = [
@@ -152,18 +145,6 @@ const CALLS: [Row<'static>; 15] = [
     ("in Cancelling", ALL_APPLIED, &[CANCEL], ACTIVATE),
 ];
 
-/// Of the four verdicts, those that are awaited behind so many of the worked steps.
-const AWAITED: [(usize, &[Verdict]); 8] = [
-    (0, &[]),
-    (DOWNLOAD, &[]),
-    (VERIFY, &[Verdict::VerifyOk, Verdict::VerifyFail]),
-    (VERIFIED, &[]),
-    (APPLY, &[Verdict::ApplyOk, Verdict::ApplyFail]),
-    (APPLIED, &[]),
-    (ALL_APPLIED, &[]),
-    (WHOLE, &[]),
-];
-
 /// Whether a replay stops at this step for this cause, and leaves the world as it was.
 fn is_refused(
     alloc: Global,
@@ -193,46 +174,20 @@ fn stops(
 }
 
 #[test]
-fn steps_out_of_time_leave_the_world(rt: HostRuntime) -> Result<(), Fail> {
+fn refused_steps_leave_the_world(rt: HostRuntime) -> Result<(), Fail> {
     let one = file(rt.alloc(), ONE)?;
     let packages = [package(&one)?];
-    for rows in [ASKS.as_slice(), &TAKES, &LEARNS, &ENDS] {
+    let tables: [(&[Row<'_>], MessageStepFault); 5] = [
+        (&ASKS, MessageStepFault::NotNow),
+        (&TAKES, MessageStepFault::NotNow),
+        (&LEARNS, MessageStepFault::NotNow),
+        (&ENDS, MessageStepFault::NotNow),
+        (&CALLS, MessageStepFault::Refused),
+    ];
+    for (rows, fault) in tables {
         for row in rows {
-            let refused = is_refused(rt.alloc(), &packages, *row, MessageStepFault::NotNow)?;
+            let refused = is_refused(rt.alloc(), &packages, *row, fault)?;
             assert!(rt; refused, "{}", row.0);
-        }
-    }
-    Ok(())
-}
-
-#[test]
-fn refused_calls_leave_the_world(rt: HostRuntime) -> Result<(), Fail> {
-    let one = file(rt.alloc(), ONE)?;
-    let packages = [package(&one)?];
-    for row in &CALLS {
-        let refused = is_refused(rt.alloc(), &packages, *row, MessageStepFault::Refused)?;
-        assert!(rt; refused, "{}", row.0);
-    }
-    Ok(())
-}
-
-#[test]
-fn verdicts_that_nobody_awaits_leave_the_world(rt: HostRuntime) -> Result<(), Fail> {
-    let one = file(rt.alloc(), ONE)?;
-    let packages = [package(&one)?];
-    for (count, awaited) in AWAITED {
-        for verdict in VERDICTS {
-            let row = (
-                "",
-                count,
-                [].as_slice(),
-                MessageStep::Verdict(DEVICE, verdict),
-            );
-            let refused = is_refused(rt.alloc(), &packages, row, MessageStepFault::Refused)?;
-            assert!(rt;
-                refused != awaited.contains(&verdict),
-                "{verdict:?} behind {count}"
-            );
         }
     }
     Ok(())

@@ -15,9 +15,6 @@ use std::alloc::Global;
 /// The agent.
 pub const AGENT: u8 = 8;
 
-/// A device beside the worked one.
-pub const OTHER: u8 = 10;
-
 /// No node has this identifier.
 pub const NOBODY: u8 = 11;
 
@@ -48,35 +45,12 @@ pub const ONE: Draft<'static> = Draft {
     items: &[ITEM],
 };
 
-/// The same with a newer stamp.
-pub const NEWER: Draft<'static> = Draft {
-    set_text: b"A",
-    items: &[Item { stamp: 3, ..ITEM }],
-};
-
-/// A package of two components.
-pub const TWO: Draft<'static> = Draft {
-    set_text: b"A",
-    items: &[
-        ITEM,
-        Item {
-            key: (10, 2),
-            ..ITEM
-        },
-    ],
-};
-
 /// A world of the tests.
 pub type Small<'a> = MessageWorld<'a, MemBank>;
 
 /// `Package::read`: the proofs of the tests need nothing of its contract.
 pub fn package(bytes: &[u8]) -> Result<Package<'_>, PackageFault> {
     Package::read(bytes)
-}
-
-/// The packages of two files.
-pub fn packages_of<'a>(one: &'a [u8], other: &'a [u8]) -> Result<[Package<'a>; 2], PackageFault> {
-    Ok([package(one)?, package(other)?])
 }
 
 /// The worked device's descriptors: type 0, data 34 12.
@@ -109,15 +83,6 @@ fn bank_of_one(alloc: Global) -> Result<MemBank, BankFault>
     Ok(bank)
 }
 
-/// The same with component (10, 2), image BB.
-fn bank_of_two(alloc: Global) -> Result<MemBank, BankFault>
-    ensures { IfOk result (λ b. map key_of b.rows ≡ KEY ∷ SECOND ∷ []) }
-{
-    let mut bank = bank_of_one(alloc)?;
-    bank.add(SECOND, &label(), &[0xBB])?;
-    Ok(bank)
-}
-
 /// The worked device.
 fn device_of_one(bank: MemBank) -> Device<MemBank>
     requires { map key_of bank.rows ≡ KEY ∷ [] }
@@ -125,20 +90,6 @@ fn device_of_one(bank: MemBank) -> Device<MemBank>
 {
     let mut components = ArrayVec::new();
     components.push(Component { key: KEY, index: 0 });
-    Device::new(descriptors(), components, bank)
-}
-
-/// A device with two components.
-fn device_of_two(bank: MemBank) -> Device<MemBank>
-    requires { map key_of bank.rows ≡ KEY ∷ SECOND ∷ [] }
-    ensures { HasComponents result.device }
-{
-    let mut components = ArrayVec::new();
-    components.push(Component { key: KEY, index: 0 });
-    components.push(Component {
-        key: SECOND,
-        index: 1,
-    });
     Device::new(descriptors(), components, bank)
 }
 
@@ -175,19 +126,5 @@ pub fn world<'a>(
     for eid in devices {
         join(alloc, &mut world, *eid)?;
     }
-    Ok(world)
-}
-
-/// The agent, and one device with two components.
-pub fn world_of_two<'a>(
-    alloc: Global,
-    packages: &'a [Package<'a>],
-    eid: u8,
-) -> Result<Small<'a>, MessageStepFault> {
-    let mut world = opening(alloc, packages);
-    let Ok(bank) = bank_of_two(alloc) else {
-        return Err(MessageStepFault::Memory);
-    };
-    add(&mut world, eid, device_of_two(bank))?;
     Ok(world)
 }

@@ -1,6 +1,6 @@
 //! The steps of the worked update.
 
-use crate::tests::setup::{AGENT, Small, world, world_of_two};
+use crate::tests::setup::{AGENT, Small, world};
 use crate::{MessageStep, MessageStepFault, Side, Way, message_replay};
 use fd_core::Verdict;
 use fw_package::Package;
@@ -45,8 +45,6 @@ pub const TIME_OUT_DEVICE: MessageStep = MessageStep::TimeOut(DEVICE, Side::Devi
 
 pub const RESTART_AGENT: MessageStep = MessageStep::Restart(AGENT);
 
-pub const RESTART_DEVICE: MessageStep = MessageStep::Restart(DEVICE);
-
 /// The device takes a command and is told that its own cell isn't empty.
 pub const TAKE_BUSY: MessageStep = MessageStep::Take(DEVICE, Way::Down, false);
 
@@ -54,22 +52,14 @@ pub const TAKE_BUSY: MessageStep = MessageStep::Take(DEVICE, Way::Down, false);
 pub const ASKED: usize = 2;
 /// Before it is learnt.
 pub const ANSWERED: usize = 3;
-/// Before PassComponentTable.
-pub const PASS: usize = 13;
-/// Before UpdateComponent.
-pub const UPDATE: usize = 16;
 /// Before the first request for data.
 pub const DOWNLOAD: usize = 19;
 /// Before it is answered.
 pub const DATA_ASKED: usize = 20;
 /// Before it is learnt.
 pub const DATA_ANSWERED: usize = 21;
-/// Before the second request for data.
-pub const DATA_LEARNT: usize = 22;
 /// Before the verdict VerifyOk.
 pub const VERIFY: usize = 28;
-/// Behind it.
-pub const VERIFIED: usize = 29;
 /// Before the verdict ApplyOk.
 pub const APPLY: usize = 32;
 /// Behind it.
@@ -145,26 +135,6 @@ pub fn led<'a>(
 ) -> Result<Small<'a>, MessageStepFault> {
     let mut world = world(alloc, packages, &[DEVICE])?;
     if takes_worked(&mut world, DEVICE, 0, count) && takes(&mut world, then) {
-        Ok(world)
-    } else {
-        Err(MessageStepFault::NotNow)
-    }
-}
-
-/// A device of two components in its update, until the second piece of the second image is asked for: the first is
-/// recorded.
-pub fn halfway_of_two<'a>(
-    alloc: Global,
-    packages: &'a [Package<'a>],
-) -> Result<Small<'a>, MessageStepFault> {
-    let mut world = world_of_two(alloc, packages, DEVICE)?;
-    let one = takes_worked(&mut world, DEVICE, 0, DOWNLOAD)
-        && takes(&mut world, &down(DEVICE))
-        && takes_worked(&mut world, DEVICE, DOWNLOAD, ALL_APPLIED);
-    let other = takes(&mut world, &down(DEVICE))
-        && takes(&mut world, &up(DEVICE))
-        && takes(&mut world, &[ASK_UP]);
-    if one && other {
         Ok(world)
     } else {
         Err(MessageStepFault::NotNow)

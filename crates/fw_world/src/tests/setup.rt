@@ -104,6 +104,71 @@ fn device_of_two(alloc: Global) -> Result<Device<MemBank>, AllocError>
     Ok(Device::new(descriptors(), components, bank))
 }
 
+/// The third component of a device with three.
+const THIRD: Key = Key {
+    classification: 10,
+    identifier: 3,
+};
+
+/// The worked device with components (10, 2) and (10, 3) beside, which are alike.
+fn device_of_three(alloc: Global) -> Result<Device<MemBank>, AllocError>
+    ensures components { IfOk result (λ d. HasComponents d.device) }
+    ensures idle { IfOk result (λ d. d.device.phase ≡ Phase.Idle) }
+    ensures unapplied { IfOk result (λ d. AllByRecursion IsUnapplied d.device.rows) }
+{
+    let mut bank = MemBank::new(alloc);
+    let Ok(()) = bank.add(KEY, &label(), &[0xAA]) else {
+        return Err(AllocError);
+    };
+    let Ok(()) = bank.add(SECOND, &label(), &[0xAA]) else {
+        return Err(AllocError);
+    };
+    let Ok(()) = bank.add(THIRD, &label(), &[0xAA]) else {
+        return Err(AllocError);
+    };
+    let mut components = ArrayVec::new();
+    components.push(Component { key: KEY, index: 0 });
+    components.push(Component { key: SECOND, index: 1 });
+    components.push(Component { key: THIRD, index: 2 });
+    Ok(Device::new(descriptors(), components, bank))
+}
+
+/// The node of a device with two or three components.
+#[tactic(auto, using(crate::proofs::Opening::new_node))]
+fn node_of(alloc: Global, eid: u8, components: usize) -> Result<DeviceNode<MemBank>, AllocError>
+    requires { IsEid eid }
+    ensures new { IfOk result (IsNewNode 8) }
+    ensures eid { IfOk result (λ n. n.endpoint.eid ≡ eid) }
+{
+    let device = if components == 3 {
+        device_of_three(alloc)?
+    } else {
+        device_of_two(alloc)?
+    };
+    Ok(DeviceNode::new(endpoint(eid), 8, device))
+}
+
+/// The nodes of two devices with so many components.
+fn nodes_of_two_devices(alloc: Global, components: usize) -> Result<Vec<DeviceNode<MemBank>>, AllocError>
+    ensures { IfOk result (λ ns. AreNewNodes 8 ns.items) }
+{
+    let first = node_of(alloc, DEVICE, components)?;
+    let second = node_of(alloc, 10, components)?;
+    let mut nodes = Vec::new(alloc);
+    nodes.push(first)?;
+    nodes.push(second)?;
+    Ok(nodes)
+}
+
+/// The world of the agent 8 and the devices 9 and 10 with two or three components.
+pub fn two_devices<'a>(
+    alloc: Global,
+    packages: &'a [Package<'a>],
+    components: usize,
+) -> Result<Small<'a>, AllocError> {
+    World::new(alloc, endpoint(8), nodes_of_two_devices(alloc, components)?, packages)
+}
+
 /// The node of such a device.
 #[tactic(auto, using(crate::proofs::Opening::new_node))]
 fn node(alloc: Global, eid: u8) -> Result<DeviceNode<MemBank>, AllocError>

@@ -1,4 +1,4 @@
-use Rattle.fwupd.proofs.Chains.{adds_more}
+use Rattle.fw_script.proofs.Chains.{adds_more}
 use Rattle.fwupd.specs.Inspection.{record_text}
 use Rattle.fwupd.proofs.inspection.push_record.Goals as goal
 

@@ -1,7 +1,6 @@
 -- What is appended piece by piece is appended as a whole.
-use Rattle.std.proofs.Common.{◌≡◌, ◌≢◌, ◌<◌, ◌+◌, ◌∙◌, ℕ, zero, suc, List, [], ◌∷◌, ◌++◌, length, take, get_or, append_assoc, append-nil, codes, refl, sym, ap, arith}
-use Rattle.std.specs.List.{flat_map}
-use Rattle.fwupd.specs.Inspection.{Adds, use_text, uses_text}
+use Rattle.std.proofs.Common.{◌≡◌, ◌∙◌, List, [], ◌++◌, ℕ, append_assoc, append-nil, sym, ap, refl}
+use Rattle.fw_script.specs.Printing.{Adds}
 
 pub adds_more : {t t1 t2 a b : List ℕ} → Adds t t1 a → Adds t1 t2 b → Adds t t2 (a ++ b)
 adds_more {t} {t1} {t2} {a} {b} first second = record { is = rw (second.is, first.is, append_assoc t a b) refl }
@@ -22,13 +21,3 @@ pub told_all : (t t1 all : List ℕ) → t1 ++ [] ≡ t ++ all → Adds t t1 all
 told_all t t1 all told = record { is = sym (append-nil t1) ∙ told }
 
 pub ruleset telling = (told_more, told_all)
-
-pub uses_none : (ns : List ℕ) → length ns ≡ 0 → uses_text ns ≡ codes " -"
-unfolding uses_text
-uses_none [] e = refl
-uses_none (n ∷ ns) e = absurd (omega (arith, e))
-
-pub uses_some : (ns : List ℕ) → length ns ≢ 0 → uses_text ns ≡ flat_map use_text ns
-unfolding uses_text
-uses_some [] some = absurd (some refl)
-uses_some (n ∷ ns) some = refl

@@ -1,7 +1,7 @@
 use Rattle.std.proofs.Common.{◌≡◌, ◌++◌, take}
 use Rattle.std.specs.List.{flat_map}
-use Rattle.fwupd.specs.Inspection.{escaped}
-use Rattle.fwupd.proofs.printing.push_all_escaped.Given as goal
+use Rattle.fw_script.specs.Printing.{escaped}
+use Rattle.fw_script.proofs.printing.push_all_escaped.Given as goal
 
 -- the bytes that were passed are written
 abbrev pub invariant-loop-byte : goal.invariant-loop-byte

@@ -1,0 +1,37 @@
+-- Pieces of printed text.
+use Rattle.std.specs.Prelude.{◌≡◌, ℕ, ◌/◌, ◌%◌, ◌==◌, ◌&&◌, nat_le, not, Bool, if◌then◌else◌, List, [], ◌∷◌, ◌++◌, codes, decimal}
+use Rattle.std.specs.List.{flat_map}
+use Rattle.hex.specs.Hex.{encode_upper}
+
+-- the new bytes are the old ones and a piece after them
+pub record Adds (old new piece : List ℕ) : Type 0 where
+  pub is : new ≡ old ++ piece
+
+-- a word, and a number in decimal digits after it
+unfoldable pub numbered : List ℕ → ℕ → List ℕ
+numbered word n = word ++ decimal n
+
+-- a word, and a number of two bytes in four digits after it
+unfoldable pub in_four : List ℕ → ℕ → List ℕ
+in_four word n = word ++ encode_upper (n / 256 ∷ n % 256 ∷ [])
+
+-- a word, and a number of four bytes in eight digits after it
+unfoldable pub in_eight : List ℕ → ℕ → List ℕ
+in_eight word n = word ++ encode_upper (n / 16777216 ∷ n / 65536 % 256 ∷ n / 256 % 256 ∷ n % 256 ∷ [])
+
+-- a byte that is printed as it is: 0x20 to 0x7E, and neither a quote nor a backslash
+abbrev pub is_plain : ℕ → Bool
+is_plain b = (nat_le 0x20 b && nat_le b 0x7E) && (not (b == 0x22) && not (b == 0x5C))
+
+-- another byte is printed as \x and two digits
+abbrev pub escaped : ℕ → List ℕ
+escaped b = if is_plain b then b ∷ [] else codes "\\x" ++ encode_upper (b ∷ [])
+
+-- a word, and a text in quotes after it
+unfoldable pub quoted : List ℕ → List ℕ → List ℕ
+quoted word text = word ++ 0x22 ∷ flat_map escaped text ++ 0x22 ∷ []
+
+-- data in digits; no data is a dash
+abbrev pub data_text : List ℕ → List ℕ
+data_text [] = codes "-"
+data_text (b ∷ bytes) = encode_upper (b ∷ bytes)

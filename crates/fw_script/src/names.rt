@@ -1,0 +1,73 @@
+//! The names of states, as a report has them.
+
+ghost use Rattle.std.specs.Prelude.{◌≡◌};
+ghost use Rattle.fw_script.specs.Reports.{session_name, session_text, state_name};
+
+use fd_core::State;
+use ua_core::{Cause, SessionState};
+
+/// The name of a device's state (DSP0267 1.0, "Firmware device state machine").
+pub(crate) fn state_name(state: State) -> &'static str
+    ensures { result.now ≡ state_name state }
+{
+    match state {
+        State::Idle => "IDLE",
+        State::Learn => "LEARN",
+        State::Ready => "READY",
+        State::Download => "DOWNLOAD",
+        State::Verify => "VERIFY",
+        State::Apply => "APPLY",
+        State::Activate => "ACTIVATE",
+    }
+}
+
+/// The name of why a session failed.
+fn failure_name(cause: Cause) -> &'static str
+    ensures { result.now ≡ session_name (SessionState.Failed cause) }
+{
+    match cause {
+        Cause::Silent => "Failed:Silent",
+        Cause::TimeOut => "Failed:TimeOut",
+        Cause::NoRecord => "Failed:NoRecord",
+        Cause::Plan => "Failed:Plan",
+        Cause::NothingToUpdate => "Failed:NothingToUpdate",
+        Cause::Answer => "Failed:Answer",
+        Cause::Refused => "Failed:Refused",
+        Cause::Transfer => "Failed:Transfer",
+        Cause::Verify => "Failed:Verify",
+        Cause::Apply => "Failed:Apply",
+    }
+}
+
+/// The name of where a session stands; of one that failed, with the cause.
+fn session_name(state: SessionState) -> &'static str
+    ensures { result.now ≡ session_name state }
+{
+    match state {
+        SessionState::Idle => "Idle",
+        SessionState::Query => "Query",
+        SessionState::Params => "Params",
+        SessionState::ClearOld => "ClearOld",
+        SessionState::Request => "Request",
+        SessionState::Pass => "Pass",
+        SessionState::Update => "Update",
+        SessionState::Download => "Download",
+        SessionState::Verify => "Verify",
+        SessionState::Apply => "Apply",
+        SessionState::AllApplied => "AllApplied",
+        SessionState::Activate => "Activate",
+        SessionState::Done => "Done",
+        SessionState::Cancelling => "Cancelling",
+        SessionState::Failed(cause) => failure_name(cause),
+    }
+}
+
+/// The name of where the session with a device stands, if there is one.
+pub(crate) fn session_text(session: Option<SessionState>) -> &'static str
+    ensures { result.now ≡ session_text session }
+{
+    match session {
+        Some(state) => session_name(state),
+        None => "-",
+    }
+}
