@@ -1,0 +1,9 @@
+//! The texts that a run of the update agent and its devices begins with: a configuration, which says who they are, and a
+//! schedule of steps. Each is read line by line, and the first line with a fault is told, with the first of its faults.
+#![tactic(auto)]
+
+mod faults;
+mod lines;
+mod values;
+
+pub use faults::{ScriptCause, ScriptFault};
