@@ -2,6 +2,7 @@
 use Rattle.std.specs.Prelude.{ℕ, ◌≡◌, ◌≢◌, List, Result, Ok, Err, codes, nat_le, if◌then◌else◌}
 use Rattle.fw_script.specs.declared.faults.ScriptCause.{ScriptCause}
 use Rattle.fw_script.specs.declared.faults.ScriptCause.TheVariants as causes
+use Rattle.fw_script.specs.declared.faults.ScriptFault.{ScriptFault}
 
 -- the word that names a cause
 abbrev pub name_of : ScriptCause → List ℕ
@@ -44,3 +45,8 @@ both (Err fault) (Err other) = Err (earlier fault other)
 abbrev pub Answers : {A B : Type 0} → (A → B) → Result A ScriptCause → Result B ScriptCause → Type 0
 Answers seen (Ok a) wanted = wanted ≡ Ok (seen a)
 Answers seen (Err cause) wanted = cause ≢ causes.Memory → wanted ≡ Err cause
+
+-- The same of a whole text, whose faults have their line.
+abbrev pub ReadsAs : {A B : Type 0} → (A → B) → Result A ScriptFault → Result B ScriptFault → Type 0
+ReadsAs seen (Ok a) wanted = wanted ≡ Ok (seen a)
+ReadsAs seen (Err fault) wanted = fault.cause ≢ causes.Memory → wanted ≡ Err fault

@@ -12,7 +12,7 @@ use Rattle.fw_script.specs.declared.faults.ScriptCause.{ScriptCause}
 use Rattle.fw_script.specs.declared.faults.ScriptCause.TheVariants as causes
 
 -- a decimal number within its bounds
-abbrev pub number_in : (least most : ℕ) → List ℕ → Result ℕ ScriptCause
+unfoldable pub number_in : (least most : ℕ) → List ℕ → Result ℕ ScriptCause
 number_in least most word =
     if list_all is_ascii_digit word
     then (if nat_le least (digits_value 10 word) && nat_le (digits_value 10 word) most then Ok (digits_value 10 word) else Err causes.Range)
@@ -27,7 +27,7 @@ some_or cause None = Err cause
 some_or cause (Some a) = Ok a
 
 -- the bytes of a UUID's text
-abbrev pub uuid_of : List ℕ → Result (List ℕ) ScriptCause
+unfoldable pub uuid_of : List ℕ → Result (List ℕ) ScriptCause
 uuid_of word = some_or causes.Number (parsed word)
 
 -- a field that stands for nothing
@@ -35,7 +35,7 @@ abbrev pub is_dash : List ℕ → Bool
 is_dash word = bytes_eq word (codes "-")
 
 -- a text: its bytes
-abbrev pub text_of : List ℕ → List ℕ
+unfoldable pub text_of : List ℕ → List ℕ
 text_of word = if is_dash word then [] else word
 
 abbrev pub decoded : Result (List ℕ) FromHexError → Result (List ℕ) ScriptCause
@@ -43,5 +43,5 @@ decoded (Ok bytes) = Ok bytes
 decoded (Err fault) = Err causes.Hex
 
 -- bytes: two hexadecimal digits each
-abbrev pub bytes_of : List ℕ → Result (List ℕ) ScriptCause
+unfoldable pub bytes_of : List ℕ → Result (List ℕ) ScriptCause
 bytes_of word = if is_dash word then Ok [] else decoded (decode_of word)

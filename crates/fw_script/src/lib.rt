@@ -4,6 +4,9 @@
 
 mod faults;
 mod lines;
+mod schedule;
+mod step;
 mod values;
 
 pub use faults::{ScriptCause, ScriptFault};
+pub use schedule::read_schedule;

@@ -34,6 +34,7 @@ fn is_number(word: &[u8]) -> bool
 }
 
 /// A decimal number from `least` to `most`.
+#[tactic(auto, unfolding(crate::specs::Values::number_in))]
 pub fn number_in(word: &[u8], least: u64, most: u64) -> Result<u64, ScriptCause>
     ensures value { result ≡ number_within least most word.now }
     ensures within { IfOk result (λ n. n ≤ most) }
@@ -58,6 +59,7 @@ pub fn eid(word: &[u8]) -> Result<u8, ScriptCause>
 }
 
 /// A UUID.
+#[tactic(auto, unfolding(crate::specs::Values::uuid_of))]
 pub fn uuid(word: &[u8]) -> Result<Uuid, ScriptCause>
     ensures { result ≡ uuid_of word.now }
 {
@@ -75,6 +77,7 @@ fn is_dash(word: &[u8]) -> bool
 }
 
 /// A text's bytes.
+#[tactic(auto, unfolding(crate::specs::Values::text_of))]
 pub fn text(word: &[u8]) -> &[u8]
     ensures { result.now ≡ text_of word.now }
 {
@@ -82,6 +85,7 @@ pub fn text(word: &[u8]) -> &[u8]
 }
 
 /// Bytes.
+#[tactic(auto, unfolding(crate::specs::Values::bytes_of))]
 pub fn bytes(alloc: Global, word: &[u8]) -> Result<Vec<u8>, ScriptCause>
     ensures { Answers (λ v. v.items) result (bytes_of word.now) }
 {
