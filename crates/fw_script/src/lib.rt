@@ -5,7 +5,6 @@
 mod faults;
 mod lines;
 mod schedule;
-mod step;
 mod values;
 
 pub use faults::{ScriptCause, ScriptFault};

@@ -1,6 +1,6 @@
 use Rattle.std.proofs.Common.{◌≡◌, ◌++◌, ◌∷◌, []}
 use Rattle.std.specs.List.{repeat}
-use Rattle.fw_script.specs.declared.step.Step.TheVariants as steps
+use Rattle.fw_world.specs.declared.step.Step.TheVariants as steps
 use Rattle.fw_script.proofs.schedule.push_ticks.Given as goal
 
 -- so many ticks are appended
