@@ -1,4 +1,6 @@
+pub mod Configs
 pub mod Faults
 pub mod Lines
 pub mod Schedules
+pub mod Seen
 pub mod Values

@@ -5,7 +5,7 @@ use Rattle.std.specs.Char.{is_ascii_digit}
 use Rattle.std.specs.Str.{bytes_eq}
 use Rattle.std.specs.Str.Parse.{digits_value}
 use Rattle.std.specs.Prelude.{codes}
-use Rattle.hex.specs.Hex.{decode_of}
+use Rattle.hex.specs.Hex.{decode_of, decode_sized}
 use Rattle.hex.specs.declared.error.FromHexError.{FromHexError}
 use Rattle.uuid.specs.Text.{parsed}
 use Rattle.fw_script.specs.declared.faults.ScriptCause.{ScriptCause}
@@ -45,3 +45,12 @@ decoded (Err fault) = Err causes.Hex
 -- bytes: two hexadecimal digits each
 unfoldable pub bytes_of : List ℕ → Result (List ℕ) ScriptCause
 bytes_of word = if is_dash word then Ok [] else decoded (decode_of word)
+
+-- a descriptor's type: four hexadecimal digits
+abbrev pub kind_in : Result (List ℕ) FromHexError → Result ℕ ScriptCause
+kind_in (Ok (high ∷ low ∷ [])) = Ok (high * 256 + low)
+kind_in (Ok bytes) = Err causes.Hex
+kind_in (Err fault) = Err causes.Hex
+
+unfoldable pub kind_of : List ℕ → Result ℕ ScriptCause
+kind_of word = kind_in (decode_sized word 2)

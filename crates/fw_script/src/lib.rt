@@ -2,10 +2,13 @@
 //! schedule of steps. Each is read line by line, and the first line with a fault is told, with the first of its faults.
 #![tactic(auto)]
 
+mod config;
+mod draft;
 mod faults;
 mod lines;
 mod schedule;
 mod values;
 
+pub use config::{ComponentConfig, Config, DeviceConfig};
 pub use faults::{ScriptCause, ScriptFault};
 pub use schedule::read_schedule;

@@ -7,9 +7,9 @@ ghost use Rattle.fw_script.specs.Schedules.{delivery as delivery_of, directive_o
 
 use crate::faults::{ScriptCause, ScriptFault, both};
 use crate::lines::{fields_after, first_line, first_word, is_skipped};
+use crate::values::{bytes, eid, number_in};
 use fd_core::Verdict;
 use fw_world::{LogRequest, Step};
-use crate::values::{bytes, eid, number_in};
 use std::alloc::Global;
 
 /// The most bytes of a request of the event log.

@@ -4,10 +4,10 @@ ghost use Rattle.std.specs.Prelude.{◌≡◌, ◌≤◌, ◌<◌, ◌^◌, ◌&
 ghost use Rattle.std.specs.List.{list_all};
 ghost use Rattle.std.specs.Char.{is_ascii_digit};
 ghost use Rattle.std.specs.Str.Parse.{digits_value};
-ghost use Rattle.fw_script.specs.Faults.{Answers};
-ghost use Rattle.fw_script.specs.Values.{bytes_of, eid_of, is_dash as stands_for_nothing, number_in as number_within, text_of, uuid_of};
+ghost use Rattle.fw_script.specs.Faults.{Answers, both as both_of};
+ghost use Rattle.fw_script.specs.Values.{bytes_of, eid_of, is_dash as stands_for_nothing, kind_of, number_in as number_within, text_of, uuid_of};
 
-use crate::faults::ScriptCause;
+use crate::faults::{ScriptCause, both};
 use hex::FromHexError;
 use std::alloc::Global;
 use uuid::Uuid;
@@ -58,6 +58,36 @@ pub fn eid(word: &[u8]) -> Result<u8, ScriptCause>
     }
 }
 
+/// A number of one byte.
+pub fn number_u8(word: &[u8]) -> Result<u8, ScriptCause>
+    ensures { result ≡ number_within 0 255 word.now }
+{
+    match number_in(word, 0, 255) {
+        Ok(number) => Ok(number as u8),
+        Err(cause) => Err(cause),
+    }
+}
+
+/// A number of two bytes.
+pub fn number_u16(word: &[u8]) -> Result<u16, ScriptCause>
+    ensures { result ≡ number_within 0 65535 word.now }
+{
+    match number_in(word, 0, 65535) {
+        Ok(number) => Ok(number as u16),
+        Err(cause) => Err(cause),
+    }
+}
+
+/// A number of four bytes.
+pub fn number_u32(word: &[u8]) -> Result<u32, ScriptCause>
+    ensures { result ≡ number_within 0 4294967295 word.now }
+{
+    match number_in(word, 0, 4_294_967_295) {
+        Ok(number) => Ok(number as u32),
+        Err(cause) => Err(cause),
+    }
+}
+
 /// A UUID.
 #[tactic(auto, unfolding(crate::specs::Values::uuid_of))]
 pub fn uuid(word: &[u8]) -> Result<Uuid, ScriptCause>
@@ -96,5 +126,32 @@ pub fn bytes(alloc: Global, word: &[u8]) -> Result<Vec<u8>, ScriptCause>
         Ok(bytes) => Ok(bytes),
         Err(FromHexError::OutOfMemory) => Err(ScriptCause::Memory),
         Err(_) => Err(ScriptCause::Hex),
+    }
+}
+
+/// A descriptor's type.
+#[tactic(auto, unfolding(crate::specs::Values::kind_of))]
+pub fn kind(word: &[u8]) -> Result<u16, ScriptCause>
+    ensures { result ≡ kind_of word.now }
+{
+    let mut kind = [0; 2];
+    match hex::decode_to_slice(word, &mut kind) {
+        Ok(()) => Ok(u16::from_be_bytes(kind)),
+        Err(_) => Err(ScriptCause::Hex),
+    }
+}
+
+/// A value, and bytes behind it.
+pub fn with_bytes<T: Drop>(
+    alloc: Global,
+    value: Result<T, ScriptCause>,
+    word: &[u8],
+) -> Result<(T, Vec<u8>), ScriptCause>
+    ensures { Answers (λ r. (r.0, r.1.items)) result (both_of value (bytes_of word.now)) }
+{
+    match bytes(alloc, word) {
+        Ok(bytes) => both(value, Ok(bytes)),
+        Err(ScriptCause::Memory) => Err(ScriptCause::Memory),
+        Err(cause) => both(value, Err(cause)),
     }
 }
