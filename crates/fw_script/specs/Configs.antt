@@ -60,16 +60,20 @@ directive_of word =
     else if bytes_eq word (codes "package") then Some directives.Package
     else None
 
-abbrev pub endpoint_of : ℕ × List ℕ → Endpoint
-endpoint_of e = record { eid = e.0; uuid = e.1 }
+abbrev pub made : {A B : Type 0} → (A → B) → Result A ScriptCause → Result B ScriptCause
+made f (Ok a) = Ok (f a)
+made f (Err cause) = Err cause
 
 -- a node's identifier and its UUID
-abbrev pub node_of : List ℕ → List ℕ → Result (ℕ × List ℕ) ScriptCause
-node_of eid uuid = both (eid_of eid) (uuid_of uuid)
+abbrev pub endpoint_made : ℕ × List ℕ → Endpoint
+endpoint_made e = record { eid = e.0; uuid = e.1 }
+
+abbrev pub node_of : List ℕ → List ℕ → Result Endpoint ScriptCause
+node_of eid uuid = made endpoint_made (both (eid_of eid) (uuid_of uuid))
 
 -- the agent's line comes first
-abbrev pub with_agent : DraftOf → Result (ℕ × List ℕ) ScriptCause → Result DraftOf ScriptCause
-with_agent d (Ok node) = Ok (record d { agent = Some (endpoint_of node) })
+abbrev pub with_agent : DraftOf → Result Endpoint ScriptCause → Result DraftOf ScriptCause
+with_agent d (Ok agent) = Ok (record d { agent = Some agent })
 with_agent d (Err cause) = Err cause
 
 abbrev pub agent_line : DraftOf → List (List ℕ) → Result DraftOf ScriptCause
@@ -101,12 +105,12 @@ new_device endpoint = record { endpoint = endpoint; descriptors = []; components
 abbrev pub begun : DraftOf → Endpoint → DraftOf
 begun d endpoint = record d { done = devices_of d; last = Some (new_device endpoint) }
 
-abbrev pub with_device : DraftOf → Result (ℕ × List ℕ) ScriptCause → Result DraftOf ScriptCause
+abbrev pub with_device : DraftOf → Result Endpoint ScriptCause → Result DraftOf ScriptCause
 with_device d (Err cause) = Err cause
-with_device d (Ok node) =
-    if uses_eid d node.0 then Err causes.Duplicate
+with_device d (Ok endpoint) =
+    if uses_eid d endpoint.eid then Err causes.Duplicate
     else if nat_lt 15 (length (devices_of d)) then Err causes.Limit
-    else Ok (begun d (endpoint_of node))
+    else Ok (begun d endpoint)
 
 abbrev pub device_line : DraftOf → List (List ℕ) → Result DraftOf ScriptCause
 device_line d (eid ∷ uuid ∷ []) = if may_begin d then with_device d (node_of eid uuid) else Err causes.Order
@@ -145,10 +149,6 @@ descriptor_line d (kind ∷ bytes ∷ []) = in_device d (described kind bytes)
 descriptor_line d fields = Err causes.Fields
 
 -- the numbers of a component: its classification, identifier and index, and the stamp of its image
-abbrev pub made : {A B : Type 0} → (A → B) → Result A ScriptCause → Result B ScriptCause
-made f (Ok a) = Ok (f a)
-made f (Err cause) = Err cause
-
 abbrev pub key_made : ℕ × ℕ → Key
 key_made v = record { classification = v.0; identifier = v.1 }
 
@@ -184,19 +184,23 @@ abbrev pub with_component : List ℕ → DeviceConfigOf → Result (Numbers × L
 with_component text x (Ok v) = added x (component_made text v)
 with_component text x (Err cause) = Err cause
 
-unfoldable pub extended : List ℕ → List ℕ → List ℕ → List ℕ → List ℕ → List ℕ → DeviceConfigOf → Result DeviceConfigOf ScriptCause
-extended class ident index stamp text image x =
-    with_component (text_of text) x (both (numbers_of class ident index stamp) (bytes_of image))
+unfoldable pub extended : Result Numbers ScriptCause → (label image : List ℕ) → DeviceConfigOf → Result DeviceConfigOf ScriptCause
+extended numbers label image x = with_component (text_of label) x (both numbers (bytes_of image))
 
 abbrev pub component_line : DraftOf → List (List ℕ) → Result DraftOf ScriptCause
-component_line d (class ∷ ident ∷ index ∷ stamp ∷ text ∷ image ∷ []) = in_device d (extended class ident index stamp text image)
+component_line d (class ∷ ident ∷ index ∷ stamp ∷ label ∷ image ∷ []) = in_device d (extended (numbers_of class ident index stamp) label image)
 component_line d fields = Err causes.Fields
 
 -- a package's line follows the agent's, and none but another package's follows it
+unfoldable pub path_of : List ℕ → Result (List ℕ) ScriptCause
+path_of word = if is_utf8 word then Ok word else Err causes.Number
+
+abbrev pub with_package : DraftOf → Result (List ℕ) ScriptCause → Result DraftOf ScriptCause
+with_package d (Ok path) = Ok (record d { packages = d.packages ++ path ∷ [] })
+with_package d (Err cause) = Err cause
+
 abbrev pub package_line : DraftOf → List (List ℕ) → Result DraftOf ScriptCause
-package_line d (path ∷ []) =
-    if is_some d.agent then (if is_utf8 path then Ok (record d { packages = d.packages ++ path ∷ [] }) else Err causes.Number)
-    else Err causes.Order
+package_line d (path ∷ []) = if is_some d.agent then with_package d (path_of path) else Err causes.Order
 package_line d fields = Err causes.Fields
 
 -- what a line says

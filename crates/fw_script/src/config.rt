@@ -181,7 +181,7 @@ impl DeviceConfig {
         label: &[u8],
         image: &[u8],
     ) -> Result<(), ScriptCause>
-        ensures { Answers (λ _. device_of self.new) result (with_component (text_of label.now) (device_of self.old) (both_of numbers (bytes_of image.now))) }
+        ensures { Answers (λ _. device_of self.new) result (extended numbers label.now image.now (device_of self.old)) }
     {
         match with_bytes(alloc, numbers, image) {
             Ok((numbers, image)) => self.add(ComponentConfig {

@@ -10,5 +10,6 @@ mod schedule;
 mod values;
 
 pub use config::{ComponentConfig, Config, DeviceConfig};
+pub use draft::read_config;
 pub use faults::{ScriptCause, ScriptFault};
 pub use schedule::read_schedule;
