@@ -1,3 +1,6 @@
 pub mod Chains
+mod Cuts
+mod Decimals
 mod Keys
 mod Sites
+mod Steps

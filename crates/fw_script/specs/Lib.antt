@@ -1,2 +1,8 @@
+pub mod Configs
+pub mod Faults
+pub mod Lines
 pub mod Printing
 pub mod Reports
+pub mod Schedules
+pub mod Seen
+pub mod Values

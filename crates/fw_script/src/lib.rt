@@ -1,8 +1,20 @@
-//! Texts of a firmware update: configurations and schedules as they are read, and the report of what happened.
+//! The texts of a firmware update: a configuration, which says who the agent and its devices are; a schedule of steps; and the
+//! report of what they led to. Configuration and schedule are read line by line, and the first line with a fault is told, with the
+//! first of its faults.
 #![tactic(auto)]
 
+mod config;
+mod draft;
+mod faults;
+mod lines;
 mod names;
 pub mod printing;
 mod reports;
+mod schedule;
+mod values;
 
+pub use config::{ComponentConfig, Config, DeviceConfig};
+pub use draft::read_config;
+pub use faults::{ScriptCause, ScriptFault};
 pub use reports::report;
+pub use schedule::read_schedule;

@@ -1,0 +1,130 @@
+-- The text of a schedule: which steps it is.
+use Rattle.std.specs.Prelude.{ℕ, ◌+◌, ◌-◌, ◌^◌, nat_lt, Bool, List, [], ◌∷◌, ◌++◌, Option, None, Some, Result, Ok, Err, codes, if◌then◌else◌, length}
+use Rattle.std.specs.List.{repeat}
+use Rattle.std.specs.Result.{result_map_both}
+use Rattle.std.specs.Str.{bytes_eq}
+use Rattle.fd_core.specs.declared.states.Verdict.{Verdict}
+use Rattle.fd_core.specs.declared.states.Verdict.TheVariants as verdicts
+use Rattle.fw_world.specs.declared.step.Step.{Step}
+use Rattle.fw_world.specs.declared.step.Step.TheVariants as steps
+use Rattle.fw_script.specs.declared.faults.ScriptCause.{ScriptCause}
+use Rattle.fw_script.specs.declared.faults.ScriptCause.TheVariants as causes
+use Rattle.fw_script.specs.declared.faults.ScriptFault.{ScriptFault}
+use Rattle.fw_script.specs.declared.schedule.Directive.{Directive}
+use Rattle.fw_script.specs.declared.schedule.Directive.TheVariants as directives
+use Rattle.fw_script.specs.Faults.{both}
+use Rattle.fw_script.specs.Lines.{fields_in, is_skipped, lines_of, words_of}
+use Rattle.fw_script.specs.Values.{bytes_of, eid_of, number_in, some_or}
+
+-- the word that a line begins with
+unfoldable pub directive_of : List ℕ → Option Directive
+directive_of word =
+    if bytes_eq word (codes "tick") then Some directives.Tick
+    else if bytes_eq word (codes "deliver") then Some directives.Deliver
+    else if bytes_eq word (codes "start") then Some directives.Start
+    else if bytes_eq word (codes "cancel") then Some directives.Cancel
+    else if bytes_eq word (codes "activate") then Some directives.Activate
+    else if bytes_eq word (codes "verdict") then Some directives.Verdict
+    else if bytes_eq word (codes "restart") then Some directives.Restart
+    else if bytes_eq word (codes "sel") then Some directives.Sel
+    else None
+
+abbrev pub verdict_named : List ℕ → Option Verdict
+verdict_named word =
+    if bytes_eq word (codes "verify-ok") then Some verdicts.VerifyOk
+    else if bytes_eq word (codes "verify-fail") then Some verdicts.VerifyFail
+    else if bytes_eq word (codes "apply-ok") then Some verdicts.ApplyOk
+    else if bytes_eq word (codes "apply-fail") then Some verdicts.ApplyFail
+    else None
+
+unfoldable pub verdict_of : List ℕ → Result Verdict ScriptCause
+verdict_of word = some_or causes.Number (verdict_named word)
+
+-- the number of a packet or a package
+abbrev pub place_of : List ℕ → Result ℕ ScriptCause
+place_of word = number_in 0 (2 ^ 64 - 1) word
+
+-- a step of these values
+abbrev pub made : {A : Type 0} → (A → Step) → Result A ScriptCause → Result Step ScriptCause
+made f (Ok a) = Ok (f a)
+made f (Err cause) = Err cause
+
+-- a request of the event log
+abbrev pub request_step : Result (List ℕ) ScriptCause → Result Step ScriptCause
+request_step (Ok bytes) = if nat_lt 64 (length bytes) then Err causes.Limit else Ok (steps.Sel (record { items = bytes }))
+request_step (Err cause) = Err cause
+
+-- the only field, an endpoint identifier
+abbrev pub only_eid_of : List (List ℕ) → Result ℕ ScriptCause
+only_eid_of (eid ∷ []) = eid_of eid
+only_eid_of fields = Err causes.Fields
+
+-- a packet comes
+abbrev pub delivery : List ℕ → List ℕ → List ℕ → Result Step ScriptCause
+delivery pair number node = made (λ v. steps.Deliver v.0 v.1.0 v.1.1) (both (eid_of pair) (both (place_of number) (eid_of node)))
+
+-- what the fields of a step's line say, each directive in turn
+abbrev pub step_of : Directive → List (List ℕ) → Result Step ScriptCause
+step_of directives.Deliver (pair ∷ number ∷ node ∷ []) = delivery pair number node
+step_of directives.Start (eid ∷ number ∷ []) = made (λ v. steps.Start v.0 v.1) (both (eid_of eid) (place_of number))
+step_of directives.Cancel fields = made steps.Cancel (only_eid_of fields)
+step_of directives.Activate fields = made steps.Activate (only_eid_of fields)
+step_of directives.Verdict (eid ∷ verdict ∷ []) = made (λ v. steps.Verdict v.0 v.1) (both (eid_of eid) (verdict_of verdict))
+step_of directives.Restart fields = made steps.Restart (only_eid_of fields)
+step_of directives.Sel (request ∷ []) = request_step (bytes_of request)
+step_of d fields = Err causes.Fields
+
+-- how many ticks: one, or as many as are named
+abbrev pub ticks_of : List (List ℕ) → Result ℕ ScriptCause
+ticks_of [] = Ok 1
+ticks_of (count ∷ []) = number_in 1 1000 count
+ticks_of fields = Err causes.Fields
+
+abbrev pub ticks : Result ℕ ScriptCause → Result (List Step) ScriptCause
+ticks (Ok count) = Ok (repeat count (steps.Tick ∷ []))
+ticks (Err cause) = Err cause
+
+abbrev pub alone : Result Step ScriptCause → Result (List Step) ScriptCause
+alone (Ok step) = Ok (step ∷ [])
+alone (Err cause) = Err cause
+
+abbrev pub steps_said : Directive → List (List ℕ) → Result (List Step) ScriptCause
+steps_said directives.Tick fields = ticks (ticks_of fields)
+steps_said d fields = alone (step_of d fields)
+
+abbrev pub steps_named : Option Directive → Option (List (List ℕ)) → Result (List Step) ScriptCause
+steps_named None fields = Err causes.Directive
+steps_named (Some d) None = Err causes.Fields
+steps_named (Some d) (Some fields) = steps_said d fields
+
+abbrev pub steps_in : List (List ℕ) → Result (List Step) ScriptCause
+steps_in [] = Err causes.Directive
+steps_in (name ∷ fields) = steps_named (directive_of name) (fields_in fields)
+
+-- the steps of a line
+unfoldable pub steps_of : List ℕ → Result (List Step) ScriptCause
+steps_of line = if is_skipped line then Ok [] else steps_in (words_of line)
+
+-- steps, and those that follow
+abbrev pub before : List Step → Result (List Step) ScriptFault → Result (List Step) ScriptFault
+before steps (Ok more) = Ok (steps ++ more)
+before steps (Err fault) = Err fault
+
+-- a line's steps, and those of the lines that follow
+abbrev pub then_lines : ℕ → Result (List Step) ScriptCause → Result (List Step) ScriptFault → Result (List Step) ScriptFault
+then_lines number (Ok steps) rest = before steps rest
+then_lines number (Err cause) rest = Err (record { line = number; cause = cause })
+
+-- the steps of lines, the first of which has this number
+abbrev pub script_from : ℕ → List (List ℕ) → Result (List Step) ScriptFault
+script_from number [] = Ok []
+script_from number (line ∷ lines) = then_lines number (steps_of line) (script_from (number + 1) lines)
+
+-- the steps of a text, or its first line with a fault and what that is
+abbrev pub script_of : List ℕ → Result (List Step) ScriptFault
+script_of text = script_from 1 (lines_of text)
+
+-- these steps, and a line's
+abbrev pub with_line : List Step → Result (List Step) ScriptCause → Result (List Step) ScriptCause
+with_line steps (Ok more) = Ok (steps ++ more)
+with_line steps (Err cause) = Err cause

@@ -1,0 +1,381 @@
+//! Configurations, line by line.
+
+ghost use Rattle.std.specs.Prelude.{◌≡◌, IfErr, OnOk, length, map, string_bytes};
+ghost use Rattle.std.specs.List.{list_any};
+ghost use Rattle.fw_script.specs.Faults.{Answers, ReadsAs};
+ghost use Rattle.fw_script.specs.Configs.{after_line, agent_line, begun, component_line, config_of, descriptor_line, device_line, directive_of as directive_named, devices_of, extended, finished, in_device, is_bare, is_device as has_device, line_said, node_of, nothing_said, package_line, path_of, uses_eid};
+ghost use Rattle.fw_script.specs.Seen.{config_seen, device_of};
+
+use crate::config::{Config, DeviceConfig, Numbers, read_numbers};
+use crate::faults::{ScriptCause, ScriptFault, both};
+use crate::lines::{fields_after, first_line, first_word, is_skipped};
+use crate::values::{eid, uuid};
+use mctp_ctl::Endpoint;
+use std::alloc::Global;
+use std::marker::Model;
+
+/// The most devices.
+const MAX_DEVICES: usize = 16;
+
+/// What a line begins with.
+#[derive(Clone, Copy, Debug, PartialEq, Eq)]
+enum Directive {
+    Agent,
+    Device,
+    Descriptor,
+    Component,
+    Package,
+}
+
+/// What a word begins, if it is one of the format.
+#[tactic(auto, unfolding(crate::specs::Configs::directive_of))]
+fn directive_of(word: &[u8]) -> Option<Directive>
+    ensures { result ≡ directive_named word.now }
+{
+    if word == b"agent".as_slice() {
+        Some(Directive::Agent)
+    } else if word == b"device".as_slice() {
+        Some(Directive::Device)
+    } else if word == b"descriptor".as_slice() {
+        Some(Directive::Descriptor)
+    } else if word == b"component".as_slice() {
+        Some(Directive::Component)
+    } else if word == b"package".as_slice() {
+        Some(Directive::Package)
+    } else {
+        None
+    }
+}
+
+/// A node's identifier and UUID.
+fn read_node(eid_word: &[u8], uuid_word: &[u8]) -> Result<Endpoint, ScriptCause>
+    ensures { result ≡ node_of eid_word.now uuid_word.now }
+{
+    match both(eid(eid_word), uuid(uuid_word)) {
+        Ok((eid, uuid)) => Ok(Endpoint { eid, uuid }),
+        Err(cause) => Err(cause),
+    }
+}
+
+/// A file's path.
+fn read_path(alloc: Global, word: &[u8]) -> Result<String, ScriptCause>
+    ensures { Answers (λ path. string_bytes path) result (path_of word.now) }
+{
+    match str::from_utf8(word) {
+        Ok(path) => match String::from_str(alloc, path) {
+            Ok(path) => Ok(path),
+            Err(_) => Err(ScriptCause::Memory),
+        },
+        Err(_) => Err(ScriptCause::Number),
+    }
+}
+
+/// Whether a device of this identifier is there.
+fn is_device(devices: &[DeviceConfig], eid: u8) -> bool
+    ensures { result ≡ has_device (map device_of devices.now) eid }
+{
+    for device in devices {
+        if device.endpoint.eid == eid {
+            return true;
+        }
+    }
+    false
+}
+
+/// Whether a device has no component.
+fn is_any_bare(devices: &[DeviceConfig]) -> bool
+    ensures { result ≡ list_any is_bare (map device_of devices.now) }
+{
+    for device in devices {
+        if device.components.is_empty() {
+            return true;
+        }
+    }
+    false
+}
+
+/// What lines have said so far.
+#[derive(Drop)]
+struct Draft {
+    agent: Option<Endpoint>,
+    /// The devices before the last.
+    done: Vec<DeviceConfig>,
+    /// The last device, which the lines that follow it describe.
+    last: Option<DeviceConfig>,
+    packages: Vec<String>,
+}
+
+impl Model for Draft {
+    ghost use Rattle.std.specs.Prelude.{map, option_map, string_bytes};
+    ghost use Rattle.fw_script.specs.Configs.{DraftOf};
+    ghost use Rattle.fw_script.specs.Seen.{device_of};
+
+    ghost Value = { DraftOf };
+
+    ghost view = { λ d. record {
+      agent = d.agent;
+      done = map device_of d.done.items;
+      last = option_map device_of d.last;
+      packages = map (λ p. string_bytes p) d.packages.items;
+    } };
+}
+
+impl Draft {
+    /// Before the first line.
+    fn new(alloc: Global) -> Draft
+        ensures { result ≡ nothing_said }
+    {
+        Draft {
+            agent: None,
+            done: Vec::new(alloc),
+            last: None,
+            packages: Vec::new(alloc),
+        }
+    }
+
+    /// Whether a node of this identifier is there.
+    fn has_node(&self, eid: u8) -> bool
+        ensures { result ≡ uses_eid self.now eid }
+    {
+        if let Some(agent) = &self.agent
+            && agent.eid == eid
+        {
+            return true;
+        }
+        if let Some(last) = &self.last
+            && last.endpoint.eid == eid
+        {
+            return true;
+        }
+        is_device(self.done.as_slice(), eid)
+    }
+
+    /// How many devices there are.
+    fn device_count(&self) -> usize
+        ensures { result ≡ length (devices_of self.now) }
+    {
+        match &self.last {
+            Some(_) => self.done.len() + 1,
+            None => self.done.len(),
+        }
+    }
+
+    /// Takes the agent's line.
+    fn set_agent(&mut self, fields: &[&[u8]]) -> Result<(), ScriptCause>
+        ensures { Answers (λ _. self.new) result (agent_line self.old (map (λ f. f.now) fields.now)) }
+    {
+        let [eid, uuid] = fields else {
+            return Err(ScriptCause::Fields);
+        };
+        if self.agent.is_some() {
+            return Err(ScriptCause::Order);
+        }
+        match read_node(eid, uuid) {
+            Ok(agent) => {
+                self.agent = Some(agent);
+                Ok(())
+            }
+            Err(cause) => Err(cause),
+        }
+    }
+
+    /// Begins a device.
+    fn begin(&mut self, alloc: Global, endpoint: Endpoint) -> Result<(), ScriptCause>
+        ensures ok { OnOk result (self.new ≡ begun self.old endpoint) }
+        ensures err { IfErr result (λ e. e ≡ ScriptCause.Memory) }
+    {
+        if let Some(device) = self.last.take() {
+            let Ok(()) = self.done.push(device) else {
+                return Err(ScriptCause::Memory);
+            };
+        }
+        self.last = Some(DeviceConfig::new(alloc, endpoint));
+        Ok(())
+    }
+
+    /// Takes a device's line.
+    fn add_device(&mut self, alloc: Global, fields: &[&[u8]]) -> Result<(), ScriptCause>
+        ensures { Answers (λ _. self.new) result (device_line self.old (map (λ f. f.now) fields.now)) }
+    {
+        let [eid, uuid] = fields else {
+            return Err(ScriptCause::Fields);
+        };
+        if self.agent.is_none() || !self.packages.is_empty() {
+            return Err(ScriptCause::Order);
+        }
+        let endpoint = match read_node(eid, uuid) {
+            Ok(endpoint) => endpoint,
+            Err(cause) => return Err(cause),
+        };
+        if self.has_node(endpoint.eid) {
+            return Err(ScriptCause::Duplicate);
+        }
+        if self.device_count() >= MAX_DEVICES {
+            return Err(ScriptCause::Limit);
+        }
+        self.begin(alloc, endpoint)
+    }
+
+    /// Takes a descriptor's line.
+    fn add_descriptor(&mut self, alloc: Global, fields: &[&[u8]]) -> Result<(), ScriptCause>
+        ensures { Answers (λ _. self.new) result (descriptor_line self.old (map (λ f. f.now) fields.now)) }
+    {
+        let [kind, bytes] = fields else {
+            return Err(ScriptCause::Fields);
+        };
+        if !self.packages.is_empty() {
+            return Err(ScriptCause::Order);
+        }
+        match &mut self.last {
+            Some(device) => device.describe(alloc, kind, bytes),
+            None => Err(ScriptCause::Order),
+        }
+    }
+
+    /// Adds a component to the last device.
+    fn extend_last(
+        &mut self,
+        alloc: Global,
+        numbers: Result<Numbers, ScriptCause>,
+        label: &[u8],
+        image: &[u8],
+    ) -> Result<(), ScriptCause>
+        ensures { Answers (λ _. self.new) result (in_device self.old (extended numbers label.now image.now)) }
+    {
+        if !self.packages.is_empty() {
+            return Err(ScriptCause::Order);
+        }
+        match &mut self.last {
+            Some(device) => device.extend(alloc, numbers, label, image),
+            None => Err(ScriptCause::Order),
+        }
+    }
+
+    /// Takes a component's line.
+    fn add_component(&mut self, alloc: Global, fields: &[&[u8]]) -> Result<(), ScriptCause>
+        ensures { Answers (λ _. self.new) result (component_line self.old (map (λ f. f.now) fields.now)) }
+    {
+        let [class, ident, index, stamp, label, image] = fields else {
+            return Err(ScriptCause::Fields);
+        };
+        let numbers = read_numbers(class, ident, index, stamp);
+        self.extend_last(alloc, numbers, label, image)
+    }
+
+    /// Takes a package's line.
+    fn add_package(&mut self, alloc: Global, fields: &[&[u8]]) -> Result<(), ScriptCause>
+        ensures { Answers (λ _. self.new) result (package_line self.old (map (λ f. f.now) fields.now)) }
+    {
+        let [path] = fields else {
+            return Err(ScriptCause::Fields);
+        };
+        if self.agent.is_none() {
+            return Err(ScriptCause::Order);
+        }
+        let path = match read_path(alloc, path) {
+            Ok(path) => path,
+            Err(cause) => return Err(cause),
+        };
+        let Ok(()) = self.packages.push(path) else {
+            return Err(ScriptCause::Memory);
+        };
+        Ok(())
+    }
+
+    /// Takes the fields of a line.
+    fn say(
+        &mut self,
+        alloc: Global,
+        directive: Directive,
+        fields: &[&[u8]],
+    ) -> Result<(), ScriptCause>
+        ensures { Answers (λ _. self.new) result (line_said self.old directive (map (λ f. f.now) fields.now)) }
+    {
+        match directive {
+            Directive::Agent => self.set_agent(fields),
+            Directive::Device => self.add_device(alloc, fields),
+            Directive::Descriptor => self.add_descriptor(alloc, fields),
+            Directive::Component => self.add_component(alloc, fields),
+            Directive::Package => self.add_package(alloc, fields),
+        }
+    }
+
+    /// Takes a line.
+    #[tactic(auto, unfolding(crate::specs::Configs::after_line))]
+    fn take_line(&mut self, alloc: Global, line: &[u8]) -> Result<(), ScriptCause>
+        ensures { Answers (λ _. self.new) result (after_line self.old line.now) }
+    {
+        if is_skipped(line) {
+            return Ok(());
+        }
+        let (name, rest) = first_word(line);
+        let Some(directive) = directive_of(name) else {
+            return Err(ScriptCause::Directive);
+        };
+        let Some(fields) = fields_after(rest) else {
+            return Err(ScriptCause::Fields);
+        };
+        self.say(alloc, directive, fields.as_slice())
+    }
+
+    /// Ends behind the last line.
+    #[tactic(auto, unfolding(crate::specs::Configs::finished))]
+    fn finish(self) -> Result<Config, ScriptCause>
+        ensures { Answers config_seen result (finished self) }
+    {
+        let Draft {
+            agent,
+            done,
+            last,
+            packages,
+        } = self;
+        let Some(agent) = agent else {
+            return Err(ScriptCause::Missing);
+        };
+        let mut devices = done;
+        if let Some(last) = last {
+            let Ok(()) = devices.push(last) else {
+                return Err(ScriptCause::Memory);
+            };
+        }
+        if devices.is_empty() || is_any_bare(devices.as_slice()) {
+            return Err(ScriptCause::Missing);
+        }
+        Ok(Config {
+            agent,
+            devices,
+            packages,
+        })
+    }
+}
+
+/// Reads a configuration.
+///
+/// Work is linear in the text.
+///
+/// # Errors
+/// The first line that is none, with the first of its faults; `Missing` at the line after the last where there is no agent,
+/// no device, or a device without a component; `Memory` where memory is refused.
+pub fn read_config(alloc: Global, text: &[u8]) -> Result<Config, ScriptFault>
+    ensures { ReadsAs config_seen result (config_of text.now) }
+{
+    let mut draft = Draft::new(alloc);
+    let mut rest = text;
+    let mut line = 0;
+    while !rest.is_empty() {
+        let (first, after) = first_line(rest);
+        line += 1;
+        match draft.take_line(alloc, first) {
+            Ok(()) => {}
+            Err(cause) => return Err(ScriptFault { line, cause }),
+        }
+        rest = after;
+    }
+    match draft.finish() {
+        Ok(config) => Ok(config),
+        Err(cause) => Err(ScriptFault {
+            line: line + 1,
+            cause,
+        }),
+    }
+}

@@ -1,0 +1,84 @@
+//! A text as lines, and a line as words.
+
+ghost use Rattle.std.specs.Prelude.{◌≡◌, ◌<◌, ◌∷◌, ◌==◌, [], IfSome, MatchOption, length, map, option_map};
+ghost use Rattle.std.specs.List.{position, slice_split};
+ghost use Rattle.fw_script.specs.Lines.{fields_in, is_skipped as says_nothing, lines_of, words_from, words_of};
+
+use arrayvec::ArrayVec;
+
+/// The most fields of a line.
+const MAX_FIELDS: usize = 6;
+
+/// The fields of a line behind its first word.
+pub type Fields<'a> = ArrayVec<&'a [u8], MAX_FIELDS>;
+
+/// Where a byte first stands.
+fn place_of(bytes: &[u8], byte: u8) -> Option<usize>
+    ensures { result ≡ position (λ b. b == byte) bytes.now }
+{
+    bytes.iter().position(|other| *other == byte)
+}
+
+/// What stands before the first of these bytes, and what behind it.
+fn cut(bytes: &[u8], byte: u8) -> Option<(&[u8], &[u8])>
+    ensures parts { MatchOption result (slice_split (λ b. b == byte) bytes.now ≡ bytes.now ∷ [])
+        (λ p. slice_split (λ b. b == byte) bytes.now ≡ p.0.now ∷ slice_split (λ b. b == byte) p.1.now) }
+    ensures shorter { IfSome result (λ p. length p.1.now < length bytes.now) }
+{
+    match place_of(bytes, byte) {
+        Some(place) => Some((&bytes[..place], &bytes[place + 1..])),
+        None => None,
+    }
+}
+
+/// Cuts off the first line of a text that isn't empty.
+#[tactic(auto, using(crate::proofs::Cuts::more_lines))]
+pub fn first_line(text: &[u8]) -> (&[u8], &[u8])
+    requires { 0 < length text.now }
+    ensures lines { lines_of text.now ≡ result.0.now ∷ lines_of result.1.now }
+    ensures shorter { length result.1.now < length text.now }
+{
+    match cut(text, b'\n') {
+        Some(parts) => parts,
+        None => (text, &[]),
+    }
+}
+
+/// Whether a line says nothing.
+pub fn is_skipped(line: &[u8]) -> bool
+    ensures { result ≡ says_nothing line.now }
+{
+    match line {
+        [] => true,
+        [first, ..] => *first == b'#',
+    }
+}
+
+/// Cuts off the first word of a line.
+pub fn first_word(line: &[u8]) -> (&[u8], Option<&[u8]>)
+    ensures words { words_of line.now ≡ result.0.now ∷ words_from (option_map (λ r. r.now) result.1) }
+    ensures shorter { IfSome result.1 (λ r. length r.now < length line.now) }
+{
+    match cut(line, b' ') {
+        Some((word, rest)) => (word, Some(rest)),
+        None => (line, None),
+    }
+}
+
+/// The fields that follow, if none is empty and they aren't too many.
+#[tactic(auto, using(crate::proofs::Cuts::left_out, crate::proofs::Cuts::too_many))]
+pub fn fields_after(rest: Option<&[u8]>) -> Option<Fields<'_>>
+    ensures { option_map (λ fields. map (λ f. f.now) fields.items) result ≡ fields_in (words_from (option_map (λ r. r.now) rest.entry)) }
+{
+    let mut fields = Fields::new();
+    let mut left = rest;
+    while let Some(words) = left {
+        let (word, after) = first_word(words);
+        if word.is_empty() || fields.is_full() {
+            return None;
+        }
+        fields.push(word);
+        left = after;
+    }
+    Some(fields)
+}

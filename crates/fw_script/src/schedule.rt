@@ -1,0 +1,282 @@
+//! Schedules: the steps of a world, a line each.
+
+ghost use Rattle.std.specs.Prelude.{◌≡◌, ◌≢◌, ◌++◌, ◌∷◌, [], Err, IfErr, IfOk, Ok, OnOk, map};
+ghost use Rattle.std.specs.List.{repeat};
+ghost use Rattle.fw_script.specs.Faults.{Answers, ReadsAs};
+ghost use Rattle.fw_script.specs.Schedules.{delivery as delivery_of, directive_of as directive_named, only_eid_of, place_of as place_in, script_of, step_of, steps_of, steps_said, ticks_of, verdict_of, with_line};
+
+use crate::faults::{ScriptCause, ScriptFault, both};
+use crate::lines::{fields_after, first_line, first_word, is_skipped};
+use crate::values::{bytes, eid, number_in};
+use fd_core::Verdict;
+use fw_world::{LogRequest, Step};
+use std::alloc::Global;
+
+/// The most bytes of a request of the event log.
+const MAX_REQUEST: usize = 64;
+
+/// The most ticks of a line.
+const MAX_TICKS: u64 = 1000;
+
+/// What a line begins with.
+#[derive(Clone, Copy, Debug, PartialEq, Eq)]
+enum Directive {
+    Tick,
+    Deliver,
+    Start,
+    Cancel,
+    Activate,
+    Verdict,
+    Restart,
+    Sel,
+}
+
+/// What a word begins, if it is one of the format.
+#[tactic(auto, unfolding(crate::specs::Schedules::directive_of))]
+fn directive_of(word: &[u8]) -> Option<Directive>
+    ensures { result ≡ directive_named word.now }
+{
+    if word == b"tick".as_slice() {
+        Some(Directive::Tick)
+    } else if word == b"deliver".as_slice() {
+        Some(Directive::Deliver)
+    } else if word == b"start".as_slice() {
+        Some(Directive::Start)
+    } else if word == b"cancel".as_slice() {
+        Some(Directive::Cancel)
+    } else if word == b"activate".as_slice() {
+        Some(Directive::Activate)
+    } else if word == b"verdict".as_slice() {
+        Some(Directive::Verdict)
+    } else if word == b"restart".as_slice() {
+        Some(Directive::Restart)
+    } else if word == b"sel".as_slice() {
+        Some(Directive::Sel)
+    } else {
+        None
+    }
+}
+
+/// A verdict by its word.
+#[tactic(auto, unfolding(crate::specs::Schedules::verdict_of))]
+fn verdict(word: &[u8]) -> Result<Verdict, ScriptCause>
+    ensures { result ≡ verdict_of word.now }
+{
+    if word == b"verify-ok".as_slice() {
+        Ok(Verdict::VerifyOk)
+    } else if word == b"verify-fail".as_slice() {
+        Ok(Verdict::VerifyFail)
+    } else if word == b"apply-ok".as_slice() {
+        Ok(Verdict::ApplyOk)
+    } else if word == b"apply-fail".as_slice() {
+        Ok(Verdict::ApplyFail)
+    } else {
+        Err(ScriptCause::Number)
+    }
+}
+
+/// The number of a packet or a package.
+fn place(word: &[u8]) -> Result<usize, ScriptCause>
+    ensures { result ≡ place_in word.now }
+{
+    match number_in(word, 0, u64::MAX) {
+        Ok(number) => Ok(number as usize),
+        Err(cause) => Err(cause),
+    }
+}
+
+/// How many ticks a line says.
+fn ticks(fields: &[&[u8]]) -> Result<u64, ScriptCause>
+    ensures { result ≡ ticks_of (map (λ f. f.now) fields.now) }
+{
+    match fields {
+        [] => Ok(1),
+        [count] => number_in(count, 1, MAX_TICKS),
+        _ => Err(ScriptCause::Fields),
+    }
+}
+
+/// The packet of a pair with this number comes to a node.
+fn delivery(pair: &[u8], number: &[u8], node: &[u8]) -> Result<Step, ScriptCause>
+    ensures { result ≡ delivery_of pair.now number.now node.now }
+{
+    match both(eid(pair), both(place(number), eid(node))) {
+        Ok((pair, (number, node))) => Ok(Step::Deliver(pair, number, node)),
+        Err(cause) => Err(cause),
+    }
+}
+
+/// The step of a packet that comes.
+fn deliver(fields: &[&[u8]]) -> Result<Step, ScriptCause>
+    ensures { result ≡ step_of Directive.Deliver (map (λ f. f.now) fields.now) }
+{
+    match fields {
+        [pair, number, node] => delivery(pair, number, node),
+        _ => Err(ScriptCause::Fields),
+    }
+}
+
+/// The step that starts an update.
+fn start(fields: &[&[u8]]) -> Result<Step, ScriptCause>
+    ensures { result ≡ step_of Directive.Start (map (λ f. f.now) fields.now) }
+{
+    let [device, number] = fields else {
+        return Err(ScriptCause::Fields);
+    };
+    match both(eid(device), place(number)) {
+        Ok((device, number)) => Ok(Step::Start(device, number)),
+        Err(cause) => Err(cause),
+    }
+}
+
+/// The step of a verdict.
+fn verdict_step(fields: &[&[u8]]) -> Result<Step, ScriptCause>
+    ensures { result ≡ step_of Directive.Verdict (map (λ f. f.now) fields.now) }
+{
+    let [device, word] = fields else {
+        return Err(ScriptCause::Fields);
+    };
+    match both(eid(device), verdict(word)) {
+        Ok((device, verdict)) => Ok(Step::Verdict(device, verdict)),
+        Err(cause) => Err(cause),
+    }
+}
+
+/// The only field, an endpoint identifier.
+fn only_eid(fields: &[&[u8]]) -> Result<u8, ScriptCause>
+    ensures { result ≡ only_eid_of (map (λ f. f.now) fields.now) }
+{
+    match fields {
+        [node] => eid(node),
+        _ => Err(ScriptCause::Fields),
+    }
+}
+
+/// The step of a request of the event log.
+fn sel(alloc: Global, fields: &[&[u8]]) -> Result<Step, ScriptCause>
+    ensures { Answers (λ s. s) result (step_of Directive.Sel (map (λ f. f.now) fields.now)) }
+{
+    let [digits] = fields else {
+        return Err(ScriptCause::Fields);
+    };
+    let bytes = match bytes(alloc, digits) {
+        Ok(bytes) => bytes,
+        Err(cause) => return Err(cause),
+    };
+    if bytes.len() > MAX_REQUEST {
+        return Err(ScriptCause::Limit);
+    }
+    let mut request = LogRequest::new();
+    let _ = request.try_extend_from_slice(&bytes);
+    Ok(Step::Sel(request))
+}
+
+/// The step of a line that says one.
+fn step(alloc: Global, directive: Directive, fields: &[&[u8]]) -> Result<Step, ScriptCause>
+    requires { directive ≢ Directive.Tick }
+    ensures { Answers (λ s. s) result (step_of directive (map (λ f. f.now) fields.now)) }
+{
+    match directive {
+        Directive::Tick => Err(ScriptCause::Fields),
+        Directive::Deliver => deliver(fields),
+        Directive::Start => start(fields),
+        Directive::Cancel => match only_eid(fields) {
+            Ok(eid) => Ok(Step::Cancel(eid)),
+            Err(cause) => Err(cause),
+        },
+        Directive::Activate => match only_eid(fields) {
+            Ok(eid) => Ok(Step::Activate(eid)),
+            Err(cause) => Err(cause),
+        },
+        Directive::Verdict => verdict_step(fields),
+        Directive::Restart => match only_eid(fields) {
+            Ok(eid) => Ok(Step::Restart(eid)),
+            Err(cause) => Err(cause),
+        },
+        Directive::Sel => sel(alloc, fields),
+    }
+}
+
+/// Appends ticks.
+///
+/// # Errors
+/// `Memory` where memory for them is refused.
+fn push_ticks(steps: &mut Vec<Step>, count: u64) -> Result<(), ScriptCause>
+    ensures ok { OnOk result (steps.new.items ≡ steps.old.items ++ repeat count (Step.Tick ∷ [])) }
+    ensures err { IfErr result (λ e. e ≡ ScriptCause.Memory) }
+{
+    for _pushed in 0..count {
+        let Ok(()) = steps.push(Step::Tick) else {
+            return Err(ScriptCause::Memory);
+        };
+    }
+    Ok(())
+}
+
+/// Appends the steps that the fields of a line say.
+fn push_said(
+    alloc: Global,
+    directive: Directive,
+    fields: &[&[u8]],
+    steps: &mut Vec<Step>,
+) -> Result<(), ScriptCause>
+    ensures { Answers (λ _. steps.new.items) result (with_line steps.old.items (steps_said directive (map (λ f. f.now) fields.now))) }
+{
+    if let Directive::Tick = directive {
+        return match ticks(fields) {
+            Ok(count) => push_ticks(steps, count),
+            Err(cause) => Err(cause),
+        };
+    }
+    let step = match step(alloc, directive, fields) {
+        Ok(step) => step,
+        Err(cause) => return Err(cause),
+    };
+    let Ok(()) = steps.push(step) else {
+        return Err(ScriptCause::Memory);
+    };
+    Ok(())
+}
+
+/// Appends the steps of a line.
+#[tactic(auto, unfolding(crate::specs::Schedules::steps_of))]
+fn push_line(alloc: Global, line: &[u8], steps: &mut Vec<Step>) -> Result<(), ScriptCause>
+    ensures { Answers (λ _. steps.new.items) result (with_line steps.old.items (steps_of line.now)) }
+{
+    if is_skipped(line) {
+        return Ok(());
+    }
+    let (name, rest) = first_word(line);
+    let Some(directive) = directive_of(name) else {
+        return Err(ScriptCause::Directive);
+    };
+    let Some(fields) = fields_after(rest) else {
+        return Err(ScriptCause::Fields);
+    };
+    push_said(alloc, directive, fields.as_slice(), steps)
+}
+
+/// Reads a schedule: its steps in their order, of which `tick N` is N.
+///
+/// Work is linear in the text and its steps.
+///
+/// # Errors
+/// The first line that is none, with the first of its faults; `Memory` where memory is refused.
+#[tactic(auto, using(crate::proofs::Steps::before_nothing, crate::proofs::Steps::steps_read, crate::proofs::Steps::fault_read))]
+pub fn read_schedule(alloc: Global, text: &[u8]) -> Result<Vec<Step>, ScriptFault>
+    ensures { ReadsAs (λ steps. steps.items) result (script_of text.now) }
+{
+    let mut steps = Vec::new(alloc);
+    let mut rest = text;
+    let mut line = 0;
+    while !rest.is_empty() {
+        let (first, after) = first_line(rest);
+        line += 1;
+        match push_line(alloc, first, &mut steps) {
+            Ok(()) => {}
+            Err(cause) => return Err(ScriptFault { line, cause }),
+        }
+        rest = after;
+    }
+    Ok(steps)
+}
