@@ -4,3 +4,4 @@ mod Decimals
 mod Keys
 mod Sites
 mod Steps
+mod Whole

@@ -6,3 +6,4 @@ pub mod Reports
 pub mod Schedules
 pub mod Seen
 pub mod Values
+pub mod Whole

@@ -1,7 +1,7 @@
 use Rattle.std.proofs.Common.{◌≡◌, ◌+◌, ◌≤◌, length}
 use Rattle.fw_script.specs.Lines.{lines_of}
 use Rattle.fw_script.specs.Configs.{config_from, config_of}
-use Rattle.fw_script.proofs.draft.read_config.Given as goal
+use Rattle.fw_script.proofs.draft.read_lines.Given as goal
 
 -- what is left makes of the draft what all makes
 abbrev pub invariant-loop-rest : goal.invariant-loop-rest
