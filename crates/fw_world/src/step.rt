@@ -62,7 +62,7 @@ pub enum StepFault {
     #[error("NoSuchNode")]
     NoSuchNode,
     /// The step is refused.
-    #[error("{0}")]
+    #[error("Refused:{0}")]
     Refused(Refusal),
     /// Memory was refused.
     #[error("Memory")]

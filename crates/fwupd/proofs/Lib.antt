@@ -1,3 +1,4 @@
-mod Uses
 mod Digits
+mod Making
 mod Streams
+mod Uses

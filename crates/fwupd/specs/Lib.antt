@@ -1,4 +1,6 @@
 pub mod Answers
 pub mod Inspection
 pub mod Lines
+pub mod Nodes
+pub mod Replayed
 pub mod Stream

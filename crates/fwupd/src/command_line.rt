@@ -13,6 +13,8 @@ pub enum Job<'a> {
     Answer(Endpoint),
     /// Inspect the package in the file of this path.
     Inspect(&'a str),
+    /// Replay, with the configuration of the first path, the schedule of the second.
+    Replay(&'a str, &'a str),
 }
 
 /// What stands below the help of `answer`.
@@ -102,6 +104,66 @@ fn inspect_command<'a>(alloc: Global) -> Result<Command<'a>, clap::Error> {
     Ok(command)
 }
 
+/// What stands below the help of `replay`.
+const REPLAY_HELP: &str = "\
+Example:
+  fwupd replay data/worlds/one.config data/worlds/update.schedule
+
+CONFIG, a line each; words stand one space apart, empty lines and lines that begin with # say nothing, - is nothing:
+  agent EID UUID                                  the update agent, first; an EID is 8 to 254
+  device EID UUID                                 a device, at most 16; what follows it is its own:
+    descriptor TYPE HEX                           type in four digits, data; at most 246 bytes of them all
+    component CLASS IDENT INDEX STAMP TEXT HEX    the image that runs; 1 to 3 of them
+  package PATH                                    a package's file, last; the first has number 1
+
+SCHEDULE, a step a line:
+  tick [N]                   N ticks pass, 1 to 1000
+  deliver PAIR NUMBER NODE   packet NUMBER of those between the agent and device PAIR comes to NODE
+  start EID PACKAGE          the operator starts the update of a device with a package
+  cancel EID                 the operator cancels it
+  activate EID               the operator has a device activate what it applied
+  verdict EID WORD           verify-ok, verify-fail, apply-ok or apply-fail, on what a device has written
+  restart EID                the agent or a device starts anew, and is deaf for 40 ticks
+  sel HEX                    a command of the event log and its data, at most 64 bytes
+
+A line's fault, of which the first that holds is printed:
+  Directive, Fields, Order, Number, Hex, Range, Duplicate, Limit; Missing at the line after the last
+
+Why a step isn't taken; the report is then of the world before it:
+  NoSuchPacket, Dead (sent more than 8 ticks ago), NoSuchNode, Memory, or Refused: and
+  Busy, NotReady, NotNow, NoSuchPackage, ClockEnd
+
+The report: the ticks that passed; each node, whether it hears, the states of device and session and how many packets
+were sent between them; the images that run, with their size and first bytes; the records of the event log and its last
+answer; and what was applied, recorded and activated, in order.
+
+Status: 0; 1 where standard error says 'fwupd: PATH: line N: FAULT', 'fwupd: package: FAULT', 'fwupd: step N: FAULT',
+'fwupd: FILE: unreadable', 'fwupd: output' or 'fwupd: memory'; 2 for wrong usage.";
+
+/// The subcommand `replay`.
+fn replay_command<'a>(alloc: Global) -> Result<Command<'a>, clap::Error> {
+    let config = Arg::new(alloc, "CONFIG")
+        .help("The configuration's file: an agent, its devices, packages")
+        .required(true)
+        .action(ArgAction::Set);
+    let schedule = Arg::new(alloc, "SCHEDULE")
+        .help("The schedule's file: the steps, one after the other")
+        .required(true)
+        .action(ArgAction::Set);
+    let command = Command::new(alloc, "replay")
+        .about("Replays a schedule of packets, ticks and commands, and prints what it leaves")
+        .long_about(
+            "Replays a schedule of packets, ticks and commands on an update agent and its devices, and prints a report \
+            of what it leaves.\n\n\
+            Each packet that was sent may come at once, later, more than once or never, for 8 ticks: the schedule says \
+            which comes when.",
+        )
+        .after_long_help(REPLAY_HELP)
+        .arg(config)?
+        .arg(schedule)?;
+    Ok(command)
+}
+
 /// The whole command line.
 fn command<'a>(alloc: Global) -> Result<Command<'a>, clap::Error> {
     let command = Command::new(alloc, "fwupd")
@@ -110,7 +172,8 @@ fn command<'a>(alloc: Global) -> Result<Command<'a>, clap::Error> {
         .subcommand_required(true)
         .arg_required_else_help(true)
         .subcommand(answer_command(alloc)?)?
-        .subcommand(inspect_command(alloc)?)?;
+        .subcommand(inspect_command(alloc)?)?
+        .subcommand(replay_command(alloc)?)?;
     Ok(command)
 }
 
@@ -138,6 +201,10 @@ pub fn parse<'a>(alloc: Global, words: &'a [String]) -> Result<Job<'a>, clap::Er
     match matches.subcommand() {
         Some(("answer", matches)) => answer_job(alloc, matches),
         Some(("inspect", matches)) => Ok(Job::Inspect(matches.get_str("FILE").unwrap_or(""))),
+        Some(("replay", matches)) => Ok(Job::Replay(
+            matches.get_str("CONFIG").unwrap_or(""),
+            matches.get_str("SCHEDULE").unwrap_or(""),
+        )),
         _ => Err(command(alloc)?.error(ErrorKind::MissingSubcommand, "a subcommand is required")?),
     }
 }

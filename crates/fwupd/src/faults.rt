@@ -3,6 +3,8 @@
 use crate::inspection::InspectFault;
 use crate::stream::AnswerFault;
 use fw_package::PackageFault;
+use fw_script::{ScriptCause, ScriptFault};
+use fw_world::StepFault;
 use std::io;
 use thiserror::Error;
 
@@ -18,6 +20,12 @@ pub enum RunFault<'a> {
     /// The file holds no package.
     #[error("package: {0}")]
     Package(PackageFault),
+    /// The text in the file of this path is none of its format.
+    #[error("{0}: {1}")]
+    Text(&'a str, ScriptFault),
+    /// A step of a schedule, numbered from 1, isn't taken.
+    #[error("step {0}: {1}")]
+    Step(usize, StepFault),
     /// Standard output takes no more.
     #[error("output")]
     Output,
@@ -39,5 +47,13 @@ pub fn inspection_fault<'a>(fault: InspectFault) -> RunFault<'a> {
     match fault {
         InspectFault::Memory => RunFault::Memory,
         InspectFault::Package(fault) => RunFault::Package(fault),
+    }
+}
+
+/// Why a text couldn't be read.
+pub fn text_fault<'a>(path: &'a str, fault: ScriptFault) -> RunFault<'a> {
+    match fault.cause {
+        ScriptCause::Memory => RunFault::Memory,
+        _ => RunFault::Text(path, fault),
     }
 }

@@ -9,10 +9,10 @@ ghost use Rattle.fw_package.specs.Package.{descriptor_of};
 ghost use Rattle.fw_package.specs.Reading.{package_of};
 ghost use Rattle.fwupd.specs.Inspection.{component_line, components_text, descriptor_line, inspect_of, package_line, record_line, records_text, record_text, use_text, uses_text};
 
-use fw_script::printing::{push_data, push_eight, push_four, push_number, push_quoted, push_words};
 use fw_package::{
     Component, Components, Descriptor, Descriptors, Package, PackageFault, Record, Records, Uses,
 };
+use fw_script::printing::{push_data, push_eight, push_four, push_number, push_quoted, push_words};
 use std::alloc::{AllocError, Global};
 
 /// Appends the package's line.

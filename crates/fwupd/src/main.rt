@@ -5,6 +5,8 @@ mod command_line;
 mod drops;
 mod faults;
 mod inspection;
+mod nodes;
+mod replaying;
 mod responder;
 mod retries;
 mod stream;
@@ -12,10 +14,18 @@ mod stream;
 mod tests;
 mod text;
 
+ghost use Rattle.std.specs.Prelude.{IfOk, map};
+ghost use Rattle.fw_script.specs.Seen.{device_of};
+ghost use Rattle.fw_script.specs.Whole.{AreWhole};
+
 use clap::error::ErrorKind;
 use command_line::Job;
-use faults::{RunFault, inspection_fault, reading_fault};
+use faults::{RunFault, inspection_fault, reading_fault, text_fault};
+use fw_package::Package;
+use fw_script::{Config, read_config, read_schedule};
+use fw_world::Step;
 use mctp_ctl::Endpoint;
+use replaying::{Outcome, replayed};
 use std::fs::File;
 use std::io::{self, BufWriter, Read, Write};
 use std::process::ExitCode;
@@ -65,11 +75,120 @@ fn inspect<'a>(rt: &HostRuntime, path: &'a str) -> Result<(), RunFault<'a>> {
     }
 }
 
-/// Does what the words ask for.
-fn run<'a>(rt: &HostRuntime, job: &Job<'a>) -> Result<(), RunFault<'a>> {
+/// What a configuration's file says.
+fn configuration<'a>(rt: &HostRuntime, path: &'a str) -> Result<Config, RunFault<'a>>
+    ensures { IfOk result (λ c. AreWhole c.agent.eid (map device_of c.devices.items)) }
+{
+    let bytes = match contents(rt, path) {
+        Ok(bytes) => bytes,
+        Err(error) => return Err(reading_fault(path, &error)),
+    };
+    match read_config(rt.alloc(), &bytes) {
+        Ok(config) => Ok(config),
+        Err(fault) => Err(text_fault(path, fault)),
+    }
+}
+
+/// The steps of a schedule's file.
+fn schedule<'a>(rt: &HostRuntime, path: &'a str) -> Result<Vec<Step>, RunFault<'a>> {
+    let bytes = match contents(rt, path) {
+        Ok(bytes) => bytes,
+        Err(error) => return Err(reading_fault(path, &error)),
+    };
+    match read_schedule(rt.alloc(), &bytes) {
+        Ok(steps) => Ok(steps),
+        Err(fault) => Err(text_fault(path, fault)),
+    }
+}
+
+/// The files of these paths, each of which holds a package.
+fn package_files<'a>(rt: &HostRuntime, paths: &'a [String]) -> Result<Vec<Vec<u8>>, RunFault<'a>> {
+    let mut files = Vec::new(rt.alloc());
+    for path in paths {
+        let bytes = match contents(rt, path) {
+            Ok(bytes) => bytes,
+            Err(error) => return Err(reading_fault(path, &error)),
+        };
+        if let Err(fault) = Package::read(&bytes) {
+            return Err(RunFault::Package(fault));
+        }
+        let Ok(()) = files.push(bytes) else {
+            return Err(RunFault::Memory);
+        };
+    }
+    Ok(files)
+}
+
+/// The packages in these files.
+fn packages_in<'a, 'p>(
+    rt: &HostRuntime,
+    files: &'p [Vec<u8>],
+) -> Result<Vec<Package<'p>>, RunFault<'a>> {
+    let mut packages = Vec::new(rt.alloc());
+    for file in files {
+        let package = match Package::read(file) {
+            Ok(package) => package,
+            Err(fault) => return Err(RunFault::Package(fault)),
+        };
+        let Ok(()) = packages.push(package) else {
+            return Err(RunFault::Memory);
+        };
+    }
+    Ok(packages)
+}
+
+/// Prints a report, and then the fault of the step that isn't taken, if there is one.
+fn told<'a>(rt: &HostRuntime, outcome: &Outcome) -> Result<(), RunFault<'a>> {
+    let Ok(()) = io::writer(rt).write_all(&outcome.report) else {
+        return Err(RunFault::Output);
+    };
+    match outcome.fault {
+        Some((number, fault)) => Err(RunFault::Step(number.saturating_add(1), fault)),
+        None => Ok(()),
+    }
+}
+
+/// Replays a schedule on the nodes of a configuration, and prints what it leaves.
+fn replay(rt: &HostRuntime, config_path: &str, schedule_path: &str) -> ExitCode {
+    let Config {
+        agent,
+        devices,
+        packages: paths,
+    } = match configuration(rt, config_path) {
+        Ok(config) => config,
+        Err(fault) => return failed(rt, fault),
+    };
+    let files = match package_files(rt, paths.as_slice()) {
+        Ok(files) => files,
+        Err(fault) => return failed(rt, fault),
+    };
+    let packages = match packages_in(rt, files.as_slice()) {
+        Ok(packages) => packages,
+        Err(fault) => return failed(rt, fault),
+    };
+    let steps = match schedule(rt, schedule_path) {
+        Ok(steps) => steps,
+        Err(fault) => return failed(rt, fault),
+    };
+    let outcome = match replayed(
+        rt.alloc(),
+        agent,
+        devices,
+        packages.as_slice(),
+        steps.as_slice(),
+    ) {
+        Ok(outcome) => outcome,
+        Err(_) => return failed(rt, RunFault::Memory),
+    };
+    status(rt, told(rt, &outcome))
+}
+
+/// Does what the words ask for, and gives the status of it.
+fn run(rt: &HostRuntime, job: &Job<'_>) -> ExitCode {
     match job {
-        Job::Answer(endpoint) => answer(rt, *endpoint),
-        Job::Inspect(path) => inspect(rt, path),
+        Job::Answer(endpoint) => status(rt, answer(rt, *endpoint)),
+        Job::Inspect(path) => status(rt, inspect(rt, path)),
+        Job::Replay(config, schedule) => replay(rt, config, schedule),
     }
 }
 
@@ -77,6 +196,14 @@ fn run<'a>(rt: &HostRuntime, job: &Job<'a>) -> Result<(), RunFault<'a>> {
 fn failed(rt: &HostRuntime, fault: RunFault<'_>) -> ExitCode {
     let _ = eprintln!(rt; "fwupd: {fault}");
     ExitCode::FAILURE
+}
+
+/// The status of a job that has ended so; a fault is printed.
+fn status(rt: &HostRuntime, end: Result<(), RunFault<'_>>) -> ExitCode {
+    match end {
+        Ok(()) => ExitCode::SUCCESS,
+        Err(fault) => failed(rt, fault),
+    }
 }
 
 /// Prints what stands in place of a job, the text of help or of wrong usage, and gives its status.
@@ -115,10 +242,7 @@ fn main(rt: HostRuntime) -> ExitCode {
         Err(status) => return status,
     };
     match command_line::parse(rt.alloc(), words.as_slice()) {
-        Ok(job) => match run(&rt, &job) {
-            Ok(()) => ExitCode::SUCCESS,
-            Err(fault) => failed(&rt, fault),
-        },
+        Ok(job) => run(&rt, &job),
         Err(error) => no_job(&rt, &error),
     }
 }

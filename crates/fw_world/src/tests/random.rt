@@ -1,11 +1,11 @@
 //! Random schedules, whose histories a checker of its own looks at after each step.
 
+use crate::Step;
 use crate::tests::dice::Dice;
 use crate::tests::headers::{THREE_FIRST, THREE_SECOND, TWO_FIRST, TWO_SECOND};
 use crate::tests::packages::package;
 use crate::tests::setup::{Small, fault, two_devices};
 use crate::tests::watch::{Watch, byte_of, size_of};
-use crate::Step;
 use fd_core::Verdict;
 use fw_package::Package;
 use std::alloc::{AllocError, Global};
@@ -13,6 +13,7 @@ use std::test::Fail;
 
 /// How many schedules of each kind, and how many ticks each.
 const SCHEDULES: u64 = 200;
+
 const TICKS: u32 = 60;
 
 const DEVICES: [u8; 2] = [9, 10];
@@ -73,8 +74,22 @@ impl<'a> Trial<'a> {
     /// Verdicts, mostly good, and the activation.
     fn judge(&mut self, device: u8) {
         let bad = self.dice.hits(4);
-        self.take(Step::Verdict(device, if bad { Verdict::VerifyFail } else { Verdict::VerifyOk }));
-        self.take(Step::Verdict(device, if bad { Verdict::ApplyFail } else { Verdict::ApplyOk }));
+        self.take(Step::Verdict(
+            device,
+            if bad {
+                Verdict::VerifyFail
+            } else {
+                Verdict::VerifyOk
+            },
+        ));
+        self.take(Step::Verdict(
+            device,
+            if bad {
+                Verdict::ApplyFail
+            } else {
+                Verdict::ApplyOk
+            },
+        ));
         self.take(Step::Activate(device));
     }
 
@@ -145,11 +160,7 @@ fn activations(
 }
 
 /// Tells how many activations the schedules over two packages reach, and that they are many and safe.
-fn many_are_safe(
-    rt: &HostRuntime,
-    headers: [&[u8]; 2],
-    components: usize,
-) -> Result<bool, Fail> {
+fn many_are_safe(rt: &HostRuntime, headers: [&[u8]; 2], components: usize) -> Result<bool, Fail> {
     let first = file(rt.alloc(), headers[0], 0, components)?;
     let second = file(rt.alloc(), headers[1], 1, components)?;
     let packages = [package(&first)?, package(&second)?];

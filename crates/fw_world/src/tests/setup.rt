@@ -128,8 +128,14 @@ fn device_of_three(alloc: Global) -> Result<Device<MemBank>, AllocError>
     };
     let mut components = ArrayVec::new();
     components.push(Component { key: KEY, index: 0 });
-    components.push(Component { key: SECOND, index: 1 });
-    components.push(Component { key: THIRD, index: 2 });
+    components.push(Component {
+        key: SECOND,
+        index: 1,
+    });
+    components.push(Component {
+        key: THIRD,
+        index: 2,
+    });
     Ok(Device::new(descriptors(), components, bank))
 }
 
@@ -149,7 +155,10 @@ fn node_of(alloc: Global, eid: u8, components: usize) -> Result<DeviceNode<MemBa
 }
 
 /// The nodes of two devices with so many components.
-fn nodes_of_two_devices(alloc: Global, components: usize) -> Result<Vec<DeviceNode<MemBank>>, AllocError>
+fn nodes_of_two_devices(
+    alloc: Global,
+    components: usize,
+) -> Result<Vec<DeviceNode<MemBank>>, AllocError>
     ensures { IfOk result (λ ns. AreNewNodes 8 ns.items) }
 {
     let first = node_of(alloc, DEVICE, components)?;
@@ -166,7 +175,12 @@ pub fn two_devices<'a>(
     packages: &'a [Package<'a>],
     components: usize,
 ) -> Result<Small<'a>, AllocError> {
-    World::new(alloc, endpoint(8), nodes_of_two_devices(alloc, components)?, packages)
+    World::new(
+        alloc,
+        endpoint(8),
+        nodes_of_two_devices(alloc, components)?,
+        packages,
+    )
 }
 
 /// The node of such a device.

@@ -4,6 +4,7 @@ use crate::{Entry, Event, Image};
 
 /// How many packages, and how many components each.
 const PACKAGES: usize = 2;
+
 const COMPONENTS: usize = 3;
 
 /// A number for each component of each package.
@@ -141,7 +142,9 @@ impl Seen {
         };
         let _ = count(&mut self.since, package, component);
         match self.applied.get(package) {
-            Some(row) => row.get(component).is_some_and(|applied| recorded <= *applied),
+            Some(row) => row
+                .get(component)
+                .is_some_and(|applied| recorded <= *applied),
             None => false,
         }
     }

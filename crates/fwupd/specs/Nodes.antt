@@ -1,0 +1,24 @@
+-- The nodes that a configuration is of.
+use Rattle.std.specs.Prelude.{ℕ, List, None, map}
+use Rattle.fd_core.specs.Images.{RowOf}
+use Rattle.fd_core.specs.States.{DeviceOf, new_device}
+use Rattle.fw_node.specs.Nodes.{DeviceNodeOf, new_device_node}
+use Rattle.fw_script.specs.Configs.{ComponentConfigOf, DeviceConfigOf}
+
+-- a component with the image that runs, and nothing applied
+abbrev pub row_made : ComponentConfigOf → RowOf
+row_made c = record { key = c.component.key; active = record { label = c.label; bytes = c.image }; applied = None }
+
+abbrev pub device_made : DeviceConfigOf → DeviceOf
+device_made x = record {
+  device = new_device x.descriptors (map (λ c. c.component) x.components) (map row_made x.components);
+  idle = 0;
+  faults = 0;
+}
+
+-- a device's node before its first packet
+abbrev pub node_made : (agent : ℕ) → DeviceConfigOf → DeviceNodeOf
+node_made agent x = new_device_node x.endpoint agent (device_made x)
+
+abbrev pub nodes_made : (agent : ℕ) → List DeviceConfigOf → List DeviceNodeOf
+nodes_made agent xs = map (node_made agent) xs
