@@ -20,6 +20,7 @@ pub record MovesOn (now : ℕ) (ls : List LinkOf) (notes : List NotedOf) (v : Wo
   pub after : WorldOf
   pub along : world_along (Some v) steps ≡ Some after
   pub packages : after.packages ≡ v.packages
+  pub agent : after.agent ≡ v.agent
   pub history : after.history ≡ v.history ++ notes
   pub same : map eid_of after.nodes ≡ map eid_of v.nodes
   pub stands : WorldStands now ls after
@@ -53,6 +54,7 @@ one_moves lanes messages now v ls place l s t eid stands is named time may said 
       after = nodes_in v g.nodes (v.history ++ map (noted_of g.eid) g.stepped.noted);
       along = g.along;
       packages = refl;
+      agent = refl;
       history = ap (λ x. v.history ++ map (noted_of g.eid) x.noted) stepped ∙ ap (λ e. v.history ++ map (noted_of e) t.noted) eids;
       same = g.same;
       stands = record {
@@ -85,6 +87,7 @@ all_move lanes messages now v ls s ts stands may after =
       after = nodes_in v g.nodes (v.history ++ notes_of (map eid_of v.nodes) g.stepped);
       along = g.along;
       packages = refl;
+      agent = refl;
       history = ap (λ xs. v.history ++ notes_of (map eid_of v.nodes) xs) stepped;
       same = g.same;
       stands = record {

@@ -48,6 +48,7 @@ pub record Stand (opening w : WorldOf) : Type 0 where
   pub messages : MessageWorld
   pub stands : WorldStands w.now (links_of w) messages
   pub packages : messages.packages ≡ w.packages
+  pub agent : messages.agent ≡ w.agent.endpoint.eid
   pub history : messages.history ≡ w.history
   pub eids : map eid_of messages.nodes ≡ eids_of w
   pub reaches : Reaches (messages_of opening) messages
@@ -191,6 +192,7 @@ stand_moved lanes opening w v works s now ls notes k f m links time noted = reco
   messages = m.after;
   stands = subst (λ xs. WorldStands v.now xs m.after) (sym links) (subst (λ n. WorldStands n ls m.after) (sym time) m.stands);
   packages = m.packages ∙ k.packages ∙ sym f.packages;
+  agent = m.agent ∙ k.agent ∙ sym f.agent;
   history = m.history ∙ ap (λ h. h ++ notes) k.history ∙ sym noted;
   eids = m.same ∙ k.eids ∙ sym f.eids;
   reaches = reaches_on (messages_of opening) k.messages now ls notes k.reaches m;
@@ -198,7 +200,7 @@ stand_moved lanes opening w v works s now ls notes k f m links time noted = reco
 
 -- nothing went a step
 stays_put : (now : ℕ) (ls : List LinkOf) (m : MessageWorld) → WorldStands now ls m → MovesOn now ls [] m
-stays_put now ls m stands = record { steps = []; after = m; along = refl; packages = refl; history = sym (append-nil m.history); same = refl; stands = stands }
+stays_put now ls m stands = record { steps = []; after = m; along = refl; packages = refl; agent = refl; history = sym (append-nil m.history); same = refl; stands = stands }
 
 pub stand_none : LinksAreLanes → (opening w v : WorldOf) (works : Bool) (s : Step) → Stand opening w → Follows works s w v → v.now ≡ w.now
     → ((eid : ℕ) (l : LinkOf) → link_at w eid ≡ Some l → link_step works w.agent.endpoint.eid s eid ≡ None) → Stand opening v
