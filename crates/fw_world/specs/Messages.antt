@@ -1,8 +1,10 @@
 -- What a run of packets is over whole messages: steps of commands that are asked, taken, answered, learnt or given up, without
 -- packets, tags and time, lead to the same devices and sessions, with the same history.
-use Rattle.std.specs.Prelude.{◌≡◌, List, map, Some}
+use Rattle.std.specs.Prelude.{◌≡◌, List, map}
+use Rattle.fw_message.specs.Replays.{CountedWorldOf, Run as MessageRun}
 use Rattle.fw_message.specs.WorldLaws.{IsOpeningWorld as IsOpeningMessages}
-use Rattle.fw_message.specs.Worlds.{WorldOf as MessageWorldOf, WorldStepOf, world_along}
+use Rattle.fw_message.specs.Worlds.{WorldOf as MessageWorldOf}
+use Rattle.fw_message.specs.declared.step.MessageStep.{MessageStep}
 use Rattle.fw_world.specs.Replays.{IsOpeningWorld, Run}
 use Rattle.fw_world.specs.Worlds.{WorldOf}
 use Rattle.fw_world.specs.declared.step.Step.{Step}
@@ -20,13 +22,13 @@ pub record IsSameWorld (w : WorldOf) (m : MessageWorldOf) : Type 0 where
 -- A run of messages leads from the devices and sessions of one world to those of the other. It begins with nothing asked and
 -- nothing that happened.
 pub record IsRunOfMessages (opening w : WorldOf) : Type 0 where
-  pub first : MessageWorldOf
-  pub begins : IsOpeningMessages first
-  pub from : IsSameWorld opening first
-  pub steps : List WorldStepOf
-  pub last : MessageWorldOf
-  pub along : world_along (Some first) steps ≡ Some last
-  pub to : IsSameWorld w last
+  pub first : CountedWorldOf
+  pub begins : IsOpeningMessages first.world
+  pub from : IsSameWorld opening first.world
+  pub steps : List MessageStep
+  pub last : CountedWorldOf
+  pub run : MessageRun first steps last
+  pub to : IsSameWorld w last.world
 
 -- Every run of packets is one of messages.
 abbrev pub RunsAreMessages : Type 0

@@ -1,10 +1,13 @@
 -- A run of packets is one of whole messages.
-use Rattle.std.proofs.Common.{◌≡◌, ◌∙◌, ℕ, List, [], ◌∷◌, map, refl, ap, subst, sym}
+use Rattle.std.proofs.Common.{◌≡◌, ◌≢◌, ◌∙◌, ℕ, List, [], ◌∷◌, map, None, refl, ap, subst, sym}
+use Rattle.std.specs.List.{AllByRecursion}
+use Rattle.std.proofs.lemmas.Bool.{ne_eqb}
 use Rattle.mctp_ctl.specs.declared.answers.Endpoint.{Endpoint}
 use Rattle.exch_lane.specs.Laws.{LaneIsACell}
 use Rattle.fw_package.specs.Package.{PackageText}
 use Rattle.ua_core.specs.Session.{TimedOf}
-use Rattle.fw_message.specs.Worlds.{NodeOf}
+use Rattle.fw_message.specs.Worlds.{NodeOf, node_at}
+use Rattle.fw_message.proofs.Counted.{named_run, no_failures}
 use Rattle.fw_node.specs.Agents.{new_half}
 use Rattle.fw_node.specs.Halves.{HalfOf}
 use Rattle.fw_node.specs.Nodes.{DeviceNodeOf}
@@ -13,13 +16,14 @@ use Rattle.fw_world.specs.LinkLaws.{LinksAreLanes}
 use Rattle.fw_world.specs.Messages.{IsRunOfMessages, IsSameWorld, RunsAreMessages}
 use Rattle.fw_world.specs.Replays.{AreNewNodes, IsOpeningWorld, new_world}
 use Rattle.fw_world.specs.Worlds.{SiteOf, WorldOf}
-use Rattle.fw_world.proofs.Joins.Each.{AllStand}
+use Rattle.fw_world.proofs.Joins.Each.{AllStand, eid_of}
 use Rattle.fw_world.proofs.Joins.Worlds.{opening_node}
 use Rattle.fw_world.proofs.Links.AgentTicks.{half_peer}
-use Rattle.fw_world.proofs.Links.Listed.{links_in}
+use Rattle.fw_world.proofs.Links.Keys.{eids_of}
+use Rattle.fw_world.proofs.Links.Listed.{every, links_in}
 use Rattle.fw_world.proofs.Links.Posting.{site_eid}
 use Rattle.fw_world.proofs.Worlds.Safe.{stand_along}
-use Rattle.fw_world.proofs.Worlds.SafeOpening.{halves_for, links_for, opening_messages, opening_stands, same_nodes, same_peers, sites_for}
+use Rattle.fw_world.proofs.Worlds.SafeOpening.{halves_for, links_for, opening_eids, opening_messages, opening_stands, same_nodes, same_peers, sites_for}
 use Rattle.fw_world.proofs.Worlds.SafeStands.{Stand, messages_of}
 
 -- what stands for the links has their devices and sessions
@@ -86,18 +90,29 @@ same_first agent nodes packages k =
 same_opening : (w : WorldOf) → IsOpeningWorld w → IsSameWorld w (messages_of w)
 same_opening w is = subst (λ x. IsSameWorld x (messages_of x)) (sym is.is) (same_first is.agent is.nodes w.packages is.are)
 
+-- the agent is none of its devices
+absent : (ns : List NodeOf) (eid : ℕ) → AllByRecursion (λ y. eid ≢ y) (map eid_of ns) → node_at ns eid ≡ None
+absent [] eid far = refl
+absent (n ∷ ns) eid far = rw (ne_eqb n.eid eid (λ z. far.0 (sym z))) (absent ns eid far.1)
+
+agent_absent : (opening : WorldOf) → IsOpeningWorld opening → Stand opening opening → node_at (messages_of opening).nodes opening.agent.endpoint.eid ≡ None
+agent_absent opening is begins =
+    absent (messages_of opening).nodes opening.agent.endpoint.eid
+    (subst (AllByRecursion (λ y. opening.agent.endpoint.eid ≢ y)) (sym (opening_eids opening is)) (every (λ y. opening.agent.endpoint.eid ≢ y) (eids_of opening) begins.apart.0))
+
 -- ALL RUNS
 
 pub runs_are_messages : LaneIsACell → LinksAreLanes → LinksAreMessages → RunsAreMessages
 runs_are_messages law lanes messages opening w steps is run =
     let begins = opening_stands law opening is in
     let k = stand_along law lanes messages opening opening w steps begins run in
+    let named = named_run (messages_of opening) k.messages k.reaches.steps (agent_absent opening is begins) k.reaches.named k.reaches.along in
     record {
-      first = messages_of opening;
+      first = no_failures (messages_of opening);
       begins = opening_messages opening is;
       from = same_opening opening is;
-      steps = k.reaches.steps;
-      last = k.messages;
-      along = k.reaches.along;
+      steps = named.names;
+      last = record { world = k.messages; faults = named.faults };
+      run = named.run;
       to = same_world opening w k;
     }
