@@ -1,6 +1,6 @@
 mod Activating
 mod Allowing
-mod Apart
+pub mod Apart
 pub mod Applied
 mod Closings
 pub mod Counted

@@ -1,4 +1,5 @@
 -- Why a run of the packet world is one over whole messages, and so keeps what these keep.
+pub mod AsMessages
 pub mod Grown
 pub mod HistoryAgent
 pub mod HistoryDelivered
@@ -14,4 +15,3 @@ pub mod SafeStands
 pub mod SafeSteps
 pub mod SafeTicks
 pub mod Tied
-pub mod Told

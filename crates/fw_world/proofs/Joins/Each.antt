@@ -8,10 +8,12 @@ use Rattle.fw_message.specs.Names.{HasName, IsNamed}
 use Rattle.fw_message.specs.Pairs.{StepOf}
 use Rattle.fw_message.specs.Worlds.{NodeOf, NotedOf, WorldOf, WorldStepOf, node_at, noted_of, world_along}
 use Rattle.fw_message.specs.declared.side.Side.TheVariants as sides
+use Rattle.fw_message.proofs.Apart.{absent_more}
+use Rattle.fw_message.proofs.Safety.Worlds.{along_append}
 use Rattle.fw_world.specs.JoinLaws.{AreStepsOf}
 use Rattle.fw_world.specs.Links.{LinkOf, LinkStep, LinkStepped, link_after, time_after}
 use Rattle.fw_world.specs.Replays.{AreDifferent}
-use Rattle.fw_world.proofs.Joins.Pairs.{absent_more, along_append, among, node_of, pair_among}
+use Rattle.fw_world.proofs.Joins.Pairs.{among, node_of, pair_among}
 use Rattle.fw_world.proofs.Joins.Sides.{all_along}
 use Rattle.fw_world.proofs.Joins.Stands.{Stands, StandsOn}
 

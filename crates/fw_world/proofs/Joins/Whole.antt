@@ -26,7 +26,7 @@ use Rattle.fw_world.proofs.Joins.Delivers.{half_comes}
 use Rattle.fw_world.proofs.Joins.DeviceSide.{device_notes, device_place, device_side}
 use Rattle.fw_world.proofs.Joins.Learns.{HeardGoes}
 use Rattle.fw_world.proofs.Joins.Links.{BothHold, BothRest, BothWait, LinkGoes, both_joined, joined_both, joined_pair, pair_at, tick_joins}
-use Rattle.fw_world.proofs.Links.Sorted.{numbered_at}
+use Rattle.fw_world.proofs.Links.Comings.{fact_of}
 
 -- A PACKET
 
@@ -92,16 +92,6 @@ device_hears packages now l m works (HalfHeard.Took half sent command answer) t 
 device_hears packages now l m works (HalfHeard.Asks half request head body) t down_cell up_cell g e deaf = absurd (cc)
 device_hears packages now l m works (HalfHeard.Strayed half message) t down_cell up_cell g e deaf = absurd (cc)
 
--- a fact of all packets, of one of them
-fact_at : (P : Sent → Type 0) (xs : List Sent) (i : ℕ) (x : Sent) → AllByRecursion P xs → slice_get xs i ≡ Some x → P x
-fact_at P [] i x h e = absurd (cc)
-fact_at P (y ∷ ys) zero x h e = let is : y ≡ x = cc in rw is at h.0
-fact_at P (y ∷ ys) (suc i) x h e = fact_at P ys i x h.1 e
-
-fact_of : (P : Sent → Type 0) (xs : List Sent) (number : ℕ) (x : Sent) → AllByRecursion P xs → numbered xs number ≡ Some x → P x
-fact_of P xs zero x h e = absurd (cc)
-fact_of P xs (suc i) x h e = fact_at P xs i x h (sym (numbered_at xs i) ∙ e)
-
 coming : (late : Bool) (o : Option LinkStepped) (t : LinkStepped) → (if late then None else o) ≡ Some t → o ≡ Some t
 coming true o t e = absurd (cc)
 coming false o t e = e
@@ -127,14 +117,14 @@ deliver_joins : (packages : List PackageText) (now : ℕ) (l : LinkOf) (to : Sid
 deliver_joins packages now l to works number None t down up down_past up_past down_run up_run down_last up_last x both waits rests is told s e f = absurd (cc)
 deliver_joins packages now l sides.Agent works number (Some p) t down up down_past up_past down_run up_run down_last up_last x both waits rests is told s e f =
     let live = living (p.date + 8) now (hears_on now packages l sides.Agent works p.bytes) t s in
-    let way = fact_of (λ q. now ≤ q.date + 8 → (is_down l q ≡ true) ⊎ (is_up l q ≡ true)) l.packets number p x.packets is live.0 in
+    let way = fact_of {A = Sent} (λ q. now ≤ q.date + 8 → (is_down l q ≡ true) ⊎ (is_up l q ≡ true)) l.packets number p x.packets is live.0 in
     agent_hears packages now l (pair_at l down up) (is_quiet l.agent.asker.caller) true (half_hears (session_core packages) true l.agent p.bytes) t down_last.cell up_last.cell
     (half_comes (agent_side packages l.device.core.device) true now l.agent l.device l.packets down_past up_past number p down up down_run down_last up_run up_last
     x.ends.differ x.agent_peer x.device_peer is way both.agent (record { stands = both.device.stands; wished = both.device.wished; is_for = both.device.is_for }) both.agent_deaf waits.down rests.down told e f)
     live.1 both.device_deaf
 deliver_joins packages now l sides.Device works number (Some p) t down up down_past up_past down_run up_run down_last up_last x both waits rests is told s e f =
     let live = living (p.date + 8) now (hears_on now packages l sides.Device works p.bytes) t s in
-    let way = fact_of (λ q. now ≤ q.date + 8 → (is_down l q ≡ true) ⊎ (is_up l q ≡ true)) l.packets number p x.packets is live.0 in
+    let way = fact_of {A = Sent} (λ q. now ≤ q.date + 8 → (is_down l q ≡ true) ⊎ (is_up l q ≡ true)) l.packets number p x.packets is live.0 in
     device_hears packages now l (pair_at l down up) works (half_hears device_core works l.device p.bytes) t down_last.cell up_last.cell
     (half_comes (device_side packages l.agent.core.session) works now l.device l.agent l.packets up_past down_past number p up down up_run up_last down_run down_last
     (λ z. x.ends.differ (sym z)) x.device_peer x.agent_peer is (either_way way) both.device (record { stands = both.agent.stands; wished = both.agent.wished; is_for = both.agent.is_for }) both.device_deaf waits.up rests.up told f e)

@@ -8,12 +8,13 @@ use Rattle.fw_message.specs.Names.{IsNamed}
 use Rattle.fw_message.specs.WorldLaws.{IsOpeningWorld, IsSafeWorld, WorldsAreSafe}
 use Rattle.fw_message.specs.Worlds.{NodeOf, NotedOf, WorldOf, WorldStepOf, world_along}
 use Rattle.fw_message.specs.declared.side.Side.TheVariants as sides
+use Rattle.fw_message.proofs.Safety.Worlds.{along_append}
 use Rattle.fw_world.specs.Links.{LinkOf, LinkStep, LinkStepped, link_ticks, unnoted}
 use Rattle.fw_world.specs.Replays.{AreDifferent}
 use Rattle.fw_world.proofs.Joins.Each.{AllAfter, AllStand, eid_of, notes_of}
 use Rattle.fw_world.proofs.Joins.Links.{pair_at}
 use Rattle.fw_world.proofs.Joins.Moves.{MovesOn, WorldStands}
-use Rattle.fw_world.proofs.Joins.Pairs.{along_append, node_of}
+use Rattle.fw_world.proofs.Joins.Pairs.{node_of}
 use Rattle.fw_world.proofs.Joins.Sides.{all_along}
 use Rattle.fw_world.proofs.Joins.Stands.{new_link_stands}
 use Rattle.fw_world.proofs.Links.Openings.{IsNewHalf}
