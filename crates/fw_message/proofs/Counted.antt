@@ -1,5 +1,5 @@
 -- Steps of a world that have names are a run of message steps.
-use Rattle.std.specs.Prelude.{ℕ, ◌≡◌, ◌≢◌, ◌<◌, ◌+◌, ◌⊎◌, ◌==◌, Bool, true, false, if◌then◌else◌, is_some, get_or, set, List, [], ◌∷◌, length, map, Option, Some, None, IfSome}
+use Rattle.std.specs.Prelude.{ℕ, ◌≡◌, ◌<◌, ◌+◌, ◌==◌, Bool, true, false, if◌then◌else◌, is_some, get_or, set, List, [], ◌∷◌, length, map, Option, Some, None, IfSome}
 use Rattle.std.specs.Option.{option_map}
 use Rattle.std.specs.List.{AllByRecursion}
 use Rattle.std.proofs.Common.{refl, sym, ap, subst, ◌∙◌, suc, zero, arith, inl, inr}
@@ -9,7 +9,7 @@ use Rattle.std.proofs.lemmas.List.{get_or-set_same, length-map, length-set}
 use Rattle.fd_core.specs.Banks.{Rose}
 use Rattle.fw_message.specs.Names.{HasName, IsNamed}
 use Rattle.fw_message.specs.Pairs.{PairOf, StepOf, Stepped, pair_after}
-use Rattle.fw_message.specs.Replays.{BankFailed, CountedWorldOf, Leads, Run, place_at, place_from}
+use Rattle.fw_message.specs.Replays.{CountedWorldOf, Leads, Run, place_at}
 use Rattle.fw_message.specs.Worlds.{NodeOf, WorldOf, WorldStepOf, agent_restarted, device_of, named_step, node_at, step_at, went_on, with_pair, world_after, world_along}
 use Rattle.fw_message.specs.declared.side.Side.TheVariants as sides
 use Rattle.fw_message.specs.declared.side.Way.TheVariants as ways

@@ -1,6 +1,4 @@
 -- The steps of a world that a message step names: a restart of the agent is one of all its sessions.
-use Rattle.std.specs.Prelude.{ℕ}
-use Rattle.std.specs.List.{AllByRecursion}
 use Rattle.fw_message.specs.Pairs.{StepOf}
 use Rattle.fw_message.specs.Worlds.{WorldStepOf}
 use Rattle.fw_message.specs.declared.side.Side.TheVariants as sides

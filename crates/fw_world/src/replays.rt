@@ -19,7 +19,8 @@ use fd_core::Bank;
 /// each recorded since its activation before, and each record has an application of its own before it; and tied: what runs on
 /// a device and what the agent has recorded are what the history says. So it is between the moment after the call and each
 /// earlier one: the history has only grown, and what runs, what is applied and what is recorded are those of then, with what
-/// happened since. And whatever came of packets, steps over whole messages lead to the same devices, sessions and history.
+/// happened since; and so it is at each two moments of the run that led there. Whatever came of packets, steps over whole
+/// messages lead to the same devices, sessions and history.
 ///
 /// # Errors
 /// The number of the step that isn't taken, counted from 0, and why: `NoSuchNode`, then `NoSuchPacket`, then `Dead`; for the
@@ -33,6 +34,7 @@ pub fn replay<B: Bank + Drop>(
     ensures stopped { IfErr result (λ e. (e.0 < length steps.now) × Run world.old (take e.0 steps.now) world.new × IfSome (slice_get steps.now e.0) (λ s. Refuses world.new s e.1)) }
     ensures grown { IsGrown world.old world.new }
     ensures tied { (opening earlier : WorldOf) (before since : List Step) → IsOpeningWorld opening → Run opening before earlier → Run earlier since world.old → IsTiedBetween earlier world.new }
+    ensures moments { (opening earlier later : WorldOf) (before between after : List Step) → IsOpeningWorld opening → Run opening before earlier → Run earlier between later → Run later after world.new → IsSafeWorld opening later × IsTiedBetween earlier later }
     ensures messages { (opening : WorldOf) (before : List Step) → IsOpeningWorld opening → Run opening before world.old → IsRunOfMessages opening world.new }
     ensures safe { (opening : WorldOf) (before : List Step) → IsOpeningWorld opening → Run opening before world.old → IsSafeWorld opening world.new }
 {

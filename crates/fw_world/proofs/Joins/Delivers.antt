@@ -1,5 +1,5 @@
 -- A packet that comes to a side of a link, as steps of its pair.
-use Rattle.std.proofs.Common.{◌≡◌, ◌≢◌, ◌⊎◌, ◌∙◌, ℕ, not, Bool, true, false, List, [], ◌∷◌, Option, Some, refl, sym, ap, subst, inl, inr}
+use Rattle.std.proofs.Common.{◌≡◌, ◌≢◌, ◌⊎◌, ◌∙◌, ℕ, not, Bool, true, false, List, [], ◌∷◌, Option, Some, sym, ap, subst, inl, inr}
 use Rattle.std.specs.Option.{option_map}
 use Rattle.pldm_exch.specs.Caller.{asking, is_quiet}
 use Rattle.pldm_exch.specs.Sides.{asker_row, taker_row}

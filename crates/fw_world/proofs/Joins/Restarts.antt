@@ -1,5 +1,5 @@
 -- The agent starts anew: each link does, and its pair with it, which is one step of the world of messages.
-use Rattle.std.proofs.Common.{◌≡◌, ◌∙◌, ℕ, List, [], ◌∷◌, map, append-nil, Option, Some, None, refl, sym, ap, subst}
+use Rattle.std.proofs.Common.{◌≡◌, ℕ, List, [], ◌∷◌, map, append-nil, Option, Some, None, refl, sym, ap, subst}
 use Rattle.std.specs.Option.{option_map}
 use Rattle.fw_package.specs.Package.{PackageText}
 use Rattle.fw_message.specs.History.{EntryOf}

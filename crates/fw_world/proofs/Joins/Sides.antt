@@ -7,7 +7,7 @@ use Rattle.fwup_wire.specs.Commands.{command_code}
 use Rattle.fwup_wire.specs.Values.{AnswerOf, CommandOf}
 use Rattle.fw_message.specs.History.{EntryOf}
 use Rattle.fw_message.specs.Names.{HasName}
-use Rattle.fw_message.specs.Pairs.{HeldOf, PairOf, PairRun, StepOf, Stepped, closed, closed_unless, closing, fresh_cell, is_empty, message_along, noted, pair_after, ran_on, run_after, step_of, unwished_closed}
+use Rattle.fw_message.specs.Pairs.{HeldOf, PairOf, PairRun, StepOf, Stepped, closed_unless, closing, fresh_cell, is_empty, message_along, noted, pair_after, ran_on, run_after, step_of, unwished_closed}
 use Rattle.fw_node.specs.Halves.{CoreOf}
 use Rattle.fw_world.specs.Joins.{IsFor, IsWishedIn}
 

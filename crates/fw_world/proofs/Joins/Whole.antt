@@ -1,6 +1,5 @@
 -- Each step of a link is steps of its pair over whole messages.
-use Rattle.std.proofs.Common.{◌≡◌, ◌⊎◌, ◌≤◌, ◌^◌, ◌-◌, ◌∙◌, ℕ, ◌+◌, nat_lt, zero, suc, slice_get, Bool, true, false, if◌then◌else◌, List, [], ◌∷◌, Option, Some, None, IfSome, refl, sym, subst, inl, inr}
-use Rattle.std.specs.List.{AllByRecursion}
+use Rattle.std.proofs.Common.{◌≡◌, ◌⊎◌, ◌≤◌, ◌^◌, ◌-◌, ℕ, ◌+◌, nat_lt, Bool, true, false, if◌then◌else◌, List, [], Option, Some, None, IfSome, refl, sym, subst, inl, inr}
 use Rattle.std.proofs.lemmas.Bool.{cases_lt, lt-ltb}
 use Rattle.pldm_exch.specs.Caller.{is_quiet}
 use Rattle.exch_lane.specs.Cells.{Cell, CellRun, cells_along}

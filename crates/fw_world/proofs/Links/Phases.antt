@@ -1,19 +1,16 @@
 -- A tick of the agent, all of whose halves do each part before the next begins, is a tick of each half.
-use Rattle.std.proofs.Common.{◌≡◌, ◌∙◌, ◌≤◌, ◌<◌, ◌-◌, ◌++◌, ◌∷◌, [], Bool, true, false, List, map, Option, Some, None, refl, ap, arith}
+use Rattle.std.proofs.Common.{◌≡◌, ◌∙◌, ◌≤◌, ◌<◌, ◌-◌, ◌++◌, ◌∷◌, [], true, List, map, refl, ap, arith}
 use Rattle.std.proofs.lemmas.Bool.{le-leb, lt-leb, ne_eqb}
 use Rattle.std.proofs.lemmas.Grind.{flat_map-append}
-use Rattle.std.proofs.lemmas.List.{append-nil}
-use Rattle.mctp_reasm.specs.Pieces.{MessageOf}
-use Rattle.pldm_exch.specs.Caller.{caller_tick, may_begin}
+use Rattle.pldm_exch.specs.Caller.{caller_tick}
 use Rattle.pldm_exch.specs.Sides.{asker_called}
 use Rattle.pldm_exch.specs.declared.caller.CallTick.{CallTick}
 use Rattle.pldm_exch.specs.declared.caller.CallTick.TheVariants as ticks
 use Rattle.fw_package.specs.Package.{PackageText}
-use Rattle.fwup_wire.specs.Values.{CommandOf}
 use Rattle.ua_core.specs.Session.{TimedOf}
 use Rattle.fw_node.specs.Agents.{again_packets, ended, ended_packets, grown, silent_by, waited}
 use Rattle.fw_node.specs.Cores.{session_core}
-use Rattle.fw_node.specs.Halves.{CoreOf, HalfOf, Ticked, aged, begins_if, begins_wish, called, half_ticks, idled, last_part, unwished_abandoned, with_caller}
+use Rattle.fw_node.specs.Halves.{CoreOf, HalfOf, aged, called, half_ticks, idled, last_part}
 use Rattle.fw_node.specs.Packets.{all_packets, packets_of, sent_by}
 use Rattle.fw_node.proofs.NodeTicks.{behind, last_behind}
 

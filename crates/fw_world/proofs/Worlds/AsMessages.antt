@@ -13,7 +13,7 @@ use Rattle.fw_node.specs.Halves.{HalfOf}
 use Rattle.fw_node.specs.Nodes.{DeviceNodeOf}
 use Rattle.fw_world.specs.JoinLaws.{LinksAreMessages}
 use Rattle.fw_world.specs.LinkLaws.{LinksAreLanes}
-use Rattle.fw_world.specs.Messages.{IsRunOfMessages, IsSameWorld, RunsAreMessages}
+use Rattle.fw_world.specs.Messages.{IsSameWorld, RunsAreMessages}
 use Rattle.fw_world.specs.Replays.{AreNewNodes, IsOpeningWorld, new_world}
 use Rattle.fw_world.specs.Worlds.{SiteOf, WorldOf}
 use Rattle.fw_world.proofs.Joins.Each.{AllStand, eid_of}

@@ -9,9 +9,9 @@ use Rattle.fw_message.specs.History.{EntryOf}
 use Rattle.fw_message.specs.Worlds.{NotedOf, noted_of}
 use Rattle.mctp_wire.specs.Packet as wire
 use Rattle.fw_node.specs.Agents.{agent_hears}
-use Rattle.fw_world.specs.Moments.{IsGrown, RunsGrow, added}
+use Rattle.fw_world.specs.Moments.{RunsGrow, added}
 use Rattle.fw_world.specs.Replays.{Leads, Run}
-use Rattle.fw_world.specs.Worlds.{SiteOf, WorldOf, activated_at, at_agent, at_device, comes, delivers, judges, packets_of, place_of, recorded_from, sender_of, site_for, world_after}
+use Rattle.fw_world.specs.Worlds.{SiteOf, WorldOf, activated_at, at_agent, at_device, delivers, judges, packets_of, place_of, recorded_from, sender_of, site_for, world_after}
 use Rattle.fw_world.specs.declared.step.Step.{Step}
 use Rattle.fw_world.specs.declared.step.Step.TheVariants as steps
 use Rattle.fw_world.proofs.Worlds.HistoryGrows.{quiet_history}

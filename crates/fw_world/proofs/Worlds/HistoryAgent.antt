@@ -22,7 +22,7 @@ use Rattle.ua_core.specs.declared.planned.Recorded.{Recorded}
 use Rattle.ua_core.proofs.Lawful.{learns_no_record}
 use Rattle.fw_message.specs.History.{EntryOf}
 use Rattle.fw_message.specs.Worlds.{noted_of}
-use Rattle.fw_node.specs.Agents.{AgentOf, agent_hears, half_at, half_for, hears_at, place_of as half_place}
+use Rattle.fw_node.specs.Agents.{AgentOf, agent_hears, half_at, half_for, place_of as half_place}
 use Rattle.fw_node.specs.Cores.{package_of, session_core}
 use Rattle.fw_node.specs.Halves.{HalfHeard, HalfOf, half_hears, half_hears_by, half_takes, read_by, takes_if, takes_read}
 use Rattle.fw_node.specs.Nodes.{finished}

@@ -13,11 +13,9 @@ use Rattle.fw_node.specs.Agents.{half_for}
 use Rattle.fw_world.specs.JoinLaws.{LinksAreMessages}
 use Rattle.fw_world.specs.LinkLaws.{LinksAreLanes}
 use Rattle.fw_world.specs.Links.{LinkOf}
-use Rattle.fw_world.specs.Moments.{IsTiedBetween, IsTiedFrom, RunsJoin, RunsStayTied, added}
-use Rattle.fw_world.specs.Replays.{IsOpeningWorld, Run}
-use Rattle.fw_world.specs.Safety.{IsSafeWorld, WorldsAreSafe, pair_for, pair_run}
+use Rattle.fw_world.specs.Moments.{IsTiedFrom, RunsJoin, RunsStayTied, added}
+use Rattle.fw_world.specs.Safety.{WorldsAreSafe, pair_for, pair_run}
 use Rattle.fw_world.specs.Worlds.{WorldOf, site_for}
-use Rattle.fw_world.specs.declared.step.Step.{Step}
 use Rattle.fw_world.proofs.Links.Projection.{link_at}
 use Rattle.fw_world.proofs.Running.{run_append}
 use Rattle.fw_world.proofs.Worlds.Grown.{runs_grow}

@@ -47,3 +47,17 @@ pub returns-clause-messages : goal.returns-clause-messages
 returns-clause-messages g c =
     λ opening before begins h. c.packets_are_messages.ensures.law opening c.loop-i.world (before ++ take c.loop-i.i c.args.steps.now) begins
     (run_append opening c.args.world.now c.loop-i.world before (take c.loop-i.i c.args.steps.now) h c.loop-i.invariant)
+
+pub returns-in-Err-clause-moments : goal.returns-in-Err-clause-moments
+returns-in-Err-clause-moments g c =
+    λ opening earlier later before between after begins first second third. (
+      c.packets_are_safe.ensures.law opening later (before ++ between) begins (run_append opening earlier later before between first second),
+      c.moments_are_tied.ensures.tied opening earlier later before between begins first second,
+    )
+
+pub returns-clause-moments : goal.returns-clause-moments
+returns-clause-moments g c =
+    λ opening earlier later before between after begins first second third. (
+      c.packets_are_safe.ensures.law opening later (before ++ between) begins (run_append opening earlier later before between first second),
+      c.moments_are_tied.ensures.tied opening earlier later before between begins first second,
+    )
