@@ -1,17 +1,18 @@
 mod Activating
 mod Allowing
-mod Apart
+pub mod Apart
 pub mod Applied
 mod Closings
+pub mod Counted
 mod Finding
-mod Moments
+pub mod Moments
 mod Noting
 mod Openings
 mod Places
 mod Records
 mod Rising
 mod Running
-mod Safety
+pub mod Safety
 pub mod Sealing
 mod Stepping
 pub mod Working

@@ -55,7 +55,7 @@ later_found : (w : WorldOf) (device : ℕ) (s : StepOf) (o : Option NodeOf) → 
 later_found w device s None = tt
 later_found w device s (Some n) = later_taken w device (pair_after w.packages n.pair s)
 
-later_step : (w : WorldOf) (s : WorldStepOf) → IfSome (world_after w s) (Later w)
+pub later_step : (w : WorldOf) (s : WorldStepOf) → IfSome (world_after w s) (Later w)
 unfolding world_after
 later_step w (WorldStepOf.OfPair device s) = later_found w device s (node_at w.nodes device)
 later_step w WorldStepOf.RestartAgent = record {
@@ -95,13 +95,13 @@ pub runs_join : RunsJoin
 runs_join w v u ss ts h k = run_append w v u ss ts h k
 
 -- what runs and what is recorded, in two parts
-running_on : (runs : List Put) (es xs : List EntryOf) → running_after runs (es ++ xs) ≡ running_after (running_after runs es) xs
+pub running_on : (runs : List Put) (es xs : List EntryOf) → running_after runs (es ++ xs) ≡ running_after (running_after runs es) xs
 running_on runs [] xs = refl
 running_on runs (EntryOf.Applied p ∷ es) xs = running_on runs es xs
 running_on runs (EntryOf.Recording r ∷ es) xs = running_on runs es xs
 running_on runs (EntryOf.Activated p ∷ es) xs = running_on (map (replaced p) runs) es xs
 
-recorded_on : (es xs : List EntryOf) → recorded_in (es ++ xs) ≡ recorded_in es ++ recorded_in xs
+pub recorded_on : (es xs : List EntryOf) → recorded_in (es ++ xs) ≡ recorded_in es ++ recorded_in xs
 recorded_on [] xs = refl
 recorded_on (EntryOf.Applied p ∷ es) xs = recorded_on es xs
 recorded_on (EntryOf.Recording r ∷ es) xs = ap (λ rs. r ∷ rs) (recorded_on es xs)

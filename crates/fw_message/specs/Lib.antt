@@ -2,6 +2,7 @@ pub mod Cells
 pub mod Entries
 pub mod History
 pub mod Laws
+pub mod Names
 pub mod Nodes
 pub mod Pairs
 pub mod Replays

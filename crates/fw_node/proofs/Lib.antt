@@ -5,7 +5,7 @@ mod Controls
 pub mod Loops
 mod NodeHears
 mod NodeServes
-mod NodeTicks
+pub mod NodeTicks
 mod OneATick
 mod PartHears
 mod Places

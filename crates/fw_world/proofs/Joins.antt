@@ -11,6 +11,7 @@ pub mod Learns
 pub mod Links
 pub mod Moves
 pub mod Pairs
+pub mod Restarts
 pub mod Rows
 pub mod Sides
 pub mod Stands

@@ -1,5 +1,5 @@
 -- The nodes of a world as it begins.
-use Rattle.std.proofs.Common.{◌≡◌, ℕ, List, [], ◌∷◌, refl, subst, sym}
+use Rattle.std.proofs.Common.{◌≡◌, ◌∙◌, ℕ, List, [], ◌∷◌, ap, refl, subst, sym}
 use Rattle.std.specs.List.{AllByRecursion}
 use Rattle.std.proofs.lemmas.List.Elements.{All-from_recursion}
 use Rattle.mctp_ctl.specs.declared.answers.Endpoint.{Endpoint}
@@ -8,7 +8,9 @@ use Rattle.fd_core.specs.States.{DeviceOf, Phase}
 use Rattle.fw_message.specs.Laws.{IsUnapplied}
 use Rattle.fd_core.specs.Components.{HasComponents}
 use Rattle.fw_node.specs.Nodes.{DeviceNodeOf, new_device_node}
-use Rattle.fw_world.specs.Replays.{IsNewNode}
+use Rattle.fw_package.specs.Package.{PackageText}
+use Rattle.fw_world.specs.Replays.{AreNewNodes, IsNewNode, IsOpeningWorld, new_world}
+use Rattle.fw_world.specs.Worlds.{WorldOf}
 
 new_components : (agent : ℕ) (n : DeviceNodeOf) → IsNewNode agent n → HasComponents n.half.core.device
 new_components agent n k = subst (λ (m : DeviceNodeOf). HasComponents m.half.core.device) (sym k.is) k.components
@@ -21,3 +23,7 @@ pub new_node : (endpoint : Endpoint) (agent : ℕ) (d : DeviceOf) → HasCompone
     → IsNewNode agent (new_device_node endpoint agent d)
 new_node endpoint agent d components idle unapplied eid =
     record { device = d; is = refl; idle = idle; unapplied = All-from_recursion IsUnapplied d.device.rows unapplied; components = components; eid = eid }
+
+-- a world of new nodes is one as it begins
+pub opens_so : (w : WorldOf) (agent : Endpoint) (nodes : List DeviceNodeOf) (packages : List PackageText) → AreNewNodes agent.eid nodes → w ≡ new_world agent nodes packages → IsOpeningWorld w
+opens_so w agent nodes packages are is = record { agent = agent; nodes = nodes; are = are; is = is ∙ ap (λ (v : WorldOf). new_world agent nodes v.packages) (sym is) }

@@ -1,4 +1,6 @@
 -- Why a run of the packet world is one over whole messages, and so keeps what these keep.
+pub mod AsMessages
+pub mod Grown
 pub mod HistoryAgent
 pub mod HistoryDelivered
 pub mod HistoryDevice
@@ -12,3 +14,4 @@ pub mod SafeOpening
 pub mod SafeStands
 pub mod SafeSteps
 pub mod SafeTicks
+pub mod Tied

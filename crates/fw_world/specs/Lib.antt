@@ -4,6 +4,8 @@ pub mod Joins
 pub mod Lanes
 pub mod LinkLaws
 pub mod Links
+pub mod Messages
+pub mod Moments
 pub mod Replays
 pub mod Safety
 pub mod Sites

@@ -1,5 +1,7 @@
 //! What is promised of the packet world.
 
+ghost use Rattle.fw_world.specs.Messages.{RunsAreMessages};
+ghost use Rattle.fw_world.specs.Moments.{RunsGrow, RunsJoin, RunsStayTied};
 ghost use Rattle.fw_world.specs.Safety.{WorldsAreSafe};
 
 use crate::joined::links_are_messages;
@@ -16,4 +18,29 @@ pub fn packets_are_safe()
     links_are_lanes();
     links_are_messages();
     fw_message::worlds_are_safe();
+}
+
+/// What holds of any two moments of a run: a run followed by a run is a run, the history only grows, and what runs on a device,
+/// what it has applied and what the agent recorded of it at the later moment are those of the earlier one, with what happened
+/// since.
+pub fn moments_are_tied()
+    ensures join { RunsJoin }
+    ensures grow { RunsGrow }
+    ensures tied { RunsStayTied }
+{
+    exch_lane::lane_is_a_cell();
+    links_are_lanes();
+    links_are_messages();
+    packets_are_safe();
+}
+
+/// Every run of packets is one of whole messages: there are steps of commands that are asked, taken, answered, learnt or given
+/// up, without packets, tags and time, that lead to the same devices and sessions, their idle counts aside, with the same
+/// history.
+pub fn packets_are_messages()
+    ensures law { RunsAreMessages }
+{
+    exch_lane::lane_is_a_cell();
+    links_are_lanes();
+    links_are_messages();
 }

@@ -17,7 +17,7 @@ pub use fw_message::{
     Entry, Event, Held, Image, MessageStep, MessageStepFault, MessageWorld, Side, Way,
     message_replay, messages_are_safe, runs_stay_tied, worlds_are_safe,
 };
-pub use headline::packets_are_safe;
+pub use headline::{moments_are_tied, packets_are_messages, packets_are_safe};
 pub use joined::links_are_messages;
 pub use laws::links_are_lanes;
 pub use replays::replay;

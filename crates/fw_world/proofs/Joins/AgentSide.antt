@@ -10,13 +10,14 @@ use Rattle.ua_core.specs.Serve.{agent_answer, recorded_by}
 use Rattle.ua_core.specs.Session.{SessionOf, Stage, TimedOf}
 use Rattle.ua_core.specs.Wish.{entry_wish, offer_wish, request_wish, stage_wish}
 use Rattle.fw_message.specs.History.{EntryOf}
-use Rattle.fw_message.specs.Pairs.{HeldOf, PairOf, StepOf, closed, closed_unless, down_wish, fresh_cell, is_empty, quietly, step_of, unwished_closed, up_taken}
+use Rattle.fw_message.specs.Names.{HasName}
+use Rattle.fw_message.specs.Pairs.{HeldOf, PairOf, StepOf, closed, closed_unless, down_wish, fresh_cell, is_empty, pair_after, quietly, step_of, unwished_closed, up_taken}
 use Rattle.fw_message.specs.declared.side.Side.TheVariants as sides
 use Rattle.fw_message.specs.declared.side.Way.TheVariants as ways
 use Rattle.fw_node.specs.Cores.{package_of, session_core}
 use Rattle.fw_world.specs.Joins.{IsFor, IsWishedIn}
 use Rattle.fw_world.proofs.Joins.Cells.{closed_stays, stays, told_for}
-use Rattle.fw_world.proofs.Joins.Sides.{Leads, Sided, closes, no_step}
+use Rattle.fw_world.proofs.Joins.Sides.{closed_to, Leads, Sided, closes, no_step}
 
 -- the pair by the agent's half, with this device
 abbrev pub agent_place : DeviceState → TimedOf → Option HeldOf → Option HeldOf → PairOf
@@ -36,14 +37,14 @@ closed_so packages d s own after other k e = rw (e, stays (device_wish d) other 
 drops : (packages : List PackageText) (d : DeviceState) (x : TimedOf) (h : HeldOf) (other : Option HeldOf) → IsWishedIn other (device_wish d) → h.live ≡ false
     → Leads packages (agent_place d x (Some h) other) [] (agent_place d x None other)
 drops packages d x h other k dead =
-    closes packages (agent_place d x (Some h) other) (quietly (agent_place d x None other)) (agent_place d x None other) (StepOf.Drop ways.Down)
+    closes packages (agent_place d x (Some h) other) (quietly (agent_place d x None other)) (agent_place d x None other) (StepOf.Drop ways.Down) tt
     (rw dead refl) (closed_so packages d x.session None None other k refl)
 
 gives : (packages : List PackageText) (d : DeviceState) (x : TimedOf) (h : HeldOf) (other : Option HeldOf) → IsWishedIn other (device_wish d) → h.live ≡ true
     → Leads packages (agent_place d x (Some h) other) [] (agent_place d ((session_core packages).silent x) (Some (record h { live = false })) other)
 gives packages d x h other k live =
     closes packages (agent_place d x (Some h) other) (quietly (agent_place d ((session_core packages).silent x) (Some (record h { live = false })) other))
-    (agent_place d ((session_core packages).silent x) (Some (record h { live = false })) other) (StepOf.GiveUp ways.Down)
+    (agent_place d ((session_core packages).silent x) (Some (record h { live = false })) other) (StepOf.GiveUp ways.Down) tt
     (rw live refl) (closed_so packages d (agent_silent x.session) (Some (record h { live = false })) (Some (record h { live = false })) other k refl)
 
 -- nothing happens to the session, and nothing to what it asks
@@ -66,7 +67,7 @@ ticks_by packages d x false last own other k w is = unmoved packages d x.session
 ticks_by packages d x true false own other k w is = unmoved packages d x.session x.idle (x.idle + 1) own other w
 ticks_by packages d x true true own other k w is =
     closes packages (agent_place d x own other) (quietly (record { device = d; session = agent_timeout x.session; down = own; up = other }))
-    (agent_place d (ticked_by true true x) (closed_unless (down_wish packages (agent_timeout x.session)) own) other) (StepOf.TimeOut sides.Agent)
+    (agent_place d (ticked_by true true x) (closed_unless (down_wish packages (agent_timeout x.session)) own) other) (StepOf.TimeOut sides.Agent) tt
     (rw is refl) (closed_so packages d (agent_timeout x.session) own (closed_unless (down_wish packages (agent_timeout x.session)) own) other k refl)
 
 ticks : (packages : List PackageText) (d : DeviceState) (x : TimedOf) (own other : Option HeldOf) → IsWishedIn other (device_wish d) → IsWishedIn own (down_wish packages x.session)
@@ -76,30 +77,31 @@ ticks packages d x own other k w = ticks_by packages d x (times_out x.session.st
 asks : (packages : List PackageText) (d : DeviceState) (x : TimedOf) (c : CommandOf) (other : Option HeldOf) → IsWishedIn other (device_wish d) → (session_core packages).wish x ≡ Some c
     → Leads packages (agent_place d x None other) [] (agent_place d x (Some (fresh_cell c)) other)
 asks packages d x c other k wish =
-    closes packages (agent_place d x None other) (quietly (agent_place d x (Some (fresh_cell c)) other)) (agent_place d x (Some (fresh_cell c)) other) StepOf.AskDown
+    closes packages (agent_place d x None other) (quietly (agent_place d x (Some (fresh_cell c)) other)) (agent_place d x (Some (fresh_cell c)) other) StepOf.AskDown tt
     (rw wish refl) (closed_so packages d x.session (Some (fresh_cell c)) (Some (fresh_cell c)) other k (rw (wish, same_self c) refl))
 
 learns : (packages : List PackageText) (d : DeviceState) (x : TimedOf) (h : HeldOf) (a : AnswerOf) (works : Bool) (other : Option HeldOf) → IsWishedIn other (device_wish d) → h.live ≡ true → h.reply ≡ Some a
     → Leads packages (agent_place d x (Some h) other) [] (agent_place d ((session_core packages).learn x (Ok a) works) None other)
 learns packages d x h a works other k live answered =
     closes packages (agent_place d x (Some h) other) (quietly (agent_place d ((session_core packages).learn x (Ok a) works) None other))
-    (agent_place d ((session_core packages).learn x (Ok a) works) None other) StepOf.LearnDown
+    (agent_place d ((session_core packages).learn x (Ok a) works) None other) StepOf.LearnDown tt
     (rw (live, answered) refl) (closed_so packages d ((session_core packages).learn x (Ok a) works).session None None other k refl)
 
-restarts : (packages : List PackageText) (d : DeviceState) (x : TimedOf) (own other : Option HeldOf) → IsWishedIn other (device_wish d)
-    → Leads packages (agent_place d x own other) [] (agent_place d ((session_core packages).restarted x) (closed own) other)
-restarts packages d x own other k =
-    closes packages (agent_place d x own other) (quietly (agent_place d ((session_core packages).restarted x) (closed own) other))
+-- The session starts anew.
+pub agent_restarts : (packages : List PackageText) (d : DeviceState) (x : TimedOf) (own other : Option HeldOf) → IsWishedIn other (device_wish d)
+    → pair_after packages (agent_place d x own other) (StepOf.Restart sides.Agent) ≡ Some (quietly (agent_place d ((session_core packages).restarted x) (closed own) other))
+agent_restarts packages d x own other k =
+    closed_to packages (agent_place d x own other) (quietly (agent_place d ((session_core packages).restarted x) (closed own) other))
     (agent_place d ((session_core packages).restarted x) (closed own) other) (StepOf.Restart sides.Agent)
     refl (closed_so packages d (agent_restart x.session) (closed own) (closed own) other k (closed_stays (down_wish packages (agent_restart x.session)) own))
 
 -- A call of the operator, which leaves the session so.
-pub session_calls : (packages : List PackageText) (d : DeviceState) (x after : TimedOf) (own other : Option HeldOf) (s : StepOf) → IsWishedIn other (device_wish d)
+pub session_calls : (packages : List PackageText) (d : DeviceState) (x after : TimedOf) (own other : Option HeldOf) (s : StepOf) → HasName s → IsWishedIn other (device_wish d)
     → step_of packages (agent_place d x own other) s ≡ Some (quietly (record { device = d; session = after.session; down = own; up = other }))
     → Leads packages (agent_place d x own other) [] (agent_place d after (closed_unless (down_wish packages after.session) own) other)
-session_calls packages d x after own other s k e =
+session_calls packages d x after own other s named k e =
     closes packages (agent_place d x own other) (quietly (record { device = d; session = after.session; down = own; up = other }))
-    (agent_place d after (closed_unless (down_wish packages after.session) own) other) s e
+    (agent_place d after (closed_unless (down_wish packages after.session) own) other) s named e
     (closed_so packages d after.session own (closed_unless (down_wish packages after.session) own) other k refl)
 
 -- what the session took
@@ -132,7 +134,7 @@ takes packages d x own h quiet works k new may =
     (closes packages (agent_place d x own (Some h)) (up_taken packages (agent_place d x own (Some h)) h)
     (agent_place d (agent_took packages x h.command) (closed_unless (down_wish packages (agent_took packages x h.command).session) own)
     (Some (record h { reply = Some (agent_answer (package_of packages x.session) x.session h.command) })))
-    StepOf.TakeUp (rw new refl) (takes_closed packages d x own h k))
+    StepOf.TakeUp tt (rw new refl) (takes_closed packages d x own h k))
 
 -- what a session wishes is for a device
 wishes_at : (p : PackageText) (g : Stage) (c : CommandOf) → stage_wish p g ≡ Some c → IsFor false c
@@ -156,7 +158,6 @@ agent_side packages d = record {
   tick = ticks packages d;
   ask = asks packages d;
   learn = learns packages d;
-  restart = restarts packages d;
   take = takes packages d;
   wishes = wishes packages;
   serves = λ c k. k;

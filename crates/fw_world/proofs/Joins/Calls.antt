@@ -1,5 +1,5 @@
 -- The operator's calls, verdicts and restarts on a link, as steps of its pair.
-use Rattle.std.proofs.Common.{◌≡◌, ℕ, Bool, true, false, if◌then◌else◌, is_some, List, [], ◌∷◌, map, Option, Some, None, refl, sym, subst}
+use Rattle.std.proofs.Common.{◌≡◌, ℕ, Bool, true, false, if◌then◌else◌, is_some, List, [], ◌∷◌, map, Option, Some, None, refl, sym, ap, subst}
 use Rattle.std.specs.Option.{option_map}
 use Rattle.pldm_exch.specs.Caller.{Open, asking}
 use Rattle.exch_lane.specs.Cells.{Cell, CellRun, cell_closes_if, cells_along, close_in}
@@ -13,29 +13,32 @@ use Rattle.fd_core.specs.declared.states.Verdict.{Verdict}
 use Rattle.ua_core.specs.Calls.{agent_activated, agent_cancelled, agent_started, may_cancel}
 use Rattle.ua_core.specs.Session.{SessionOf, TimedOf}
 use Rattle.fw_message.specs.History.{EntryOf}
-use Rattle.fw_message.specs.Pairs.{HeldOf, StepOf, closed, closed_unless, down_wish, may_start, quietly, step_of}
+use Rattle.fw_message.specs.Names.{HasName}
+use Rattle.fw_message.specs.Pairs.{HeldOf, StepOf, closed, closed_unless, down_wish, may_start, message_along, quietly, ran_on, step_of}
+use Rattle.fw_message.specs.declared.side.Side.TheVariants as sides
 use Rattle.fw_node.specs.Agents.{activates, cancels, starts}
 use Rattle.fw_node.specs.Cores.{device_core, session_core}
 use Rattle.fw_node.specs.Halves.{CoreOf, half_restarts, recast}
 use Rattle.fwup_wire.specs.Values.{CommandOf}
+use Rattle.fw_world.specs.JoinLaws.{StepsInMessages}
 use Rattle.fw_world.specs.Joins.{IsHeldFor, IsWishedIn, StandsFor}
 use Rattle.fw_world.specs.Lanes.{activate_steps, call_steps, down_lane, judge_steps, settle_steps, up_lane}
-use Rattle.fw_world.specs.Links.{LinkOf, LinkStepped, activates_on, judges_on, unnoted}
-use Rattle.fw_world.proofs.Joins.AgentSide.{agent_side, session_calls}
-use Rattle.fw_world.proofs.Joins.DeviceSide.{device_judged, device_side}
+use Rattle.fw_world.specs.Links.{LinkOf, LinkStep, LinkStepped, activates_on, judges_on, unnoted}
+use Rattle.fw_world.proofs.Joins.AgentSide.{agent_restarts, session_calls}
+use Rattle.fw_world.proofs.Joins.DeviceSide.{device_judged, device_restarts}
 use Rattle.fw_world.proofs.Joins.Goes.{Holds, holds_still, settled_cell, settles}
-use Rattle.fw_world.proofs.Joins.Links.{BothHold, BothWait, LinkGoes, pair_at}
+use Rattle.fw_world.proofs.Joins.Links.{BothHold, BothWait, LinkGoes, both_joined, pair_at}
 
 -- The agent's half, whose session is another now.
-recast_joins : (packages : List PackageText) (now : ℕ) (l : LinkOf) (after : TimedOf) (step : StepOf) (down up : Option HeldOf) (down_past : List LaneEntry) (down_run up_run down_last up_last : CellRun)
+recast_joins : (packages : List PackageText) (now : ℕ) (l : LinkOf) (after : TimedOf) (step : StepOf) (named : HasName step) (down up : Option HeldOf) (down_past : List LaneEntry) (down_run up_run down_last up_last : CellRun)
     → BothHold packages l down_run.cell up_run.cell down up → BothWait l down_run.cell up_run.cell
     → step_of packages (pair_at l down up) step ≡ Some (quietly (record { device = l.device.core.device; session = after.session; down = down; up = up }))
     → cells_along (down_lane now l down_past) (settle_steps (session_core packages) l.agent.asker.caller.asked after) (Some down_run) ≡ Some down_last → Some up_run ≡ Some up_last
     → LinkGoes packages (pair_at l down up) (unnoted (record l { agent = recast (session_core packages) l.agent after })) down_last.cell up_last.cell
-recast_joins packages now l after step down up down_past down_run up_run down_last up_last both waits s e f = record {
+recast_joins packages now l after step named down up down_past down_run up_run down_last up_last both waits s e f = record {
   down = closed_unless (down_wish packages after.session) down;
   up = up;
-  leads = session_calls packages l.device.core.device l.agent.core after down up step both.device.wished s;
+  leads = session_calls packages l.device.core.device l.agent.core after down up step named both.device.wished s;
   both = record {
     agent = settles (session_core packages) false after l.agent.asker.caller.asked down_run.cell down_last.cell down waits.down both.agent.stands both.agent.is_for
         (settled_cell ((session_core packages).wish after) l.agent.asker.caller.asked (down_lane now l down_past) down_run down_last e);
@@ -58,7 +61,7 @@ pub start_joins : (packages : List PackageText) (now : ℕ) (l : LinkOf) (number
 start_joins packages now l number t down up down_past down_run up_run down_last up_last both waits s e f =
     let taken = taken_if (unnoted (record l { agent = starts packages l.agent number })) t (may_start packages l.agent.core.session number) s in
     subst (λ x. LinkGoes packages (pair_at l down up) x down_last.cell up_last.cell) taken.1
-    (recast_joins packages now l (record { session = agent_started l.agent.core.session number; idle = 0 }) (StepOf.Start number) down up down_past down_run up_run down_last up_last both waits
+    (recast_joins packages now l (record { session = agent_started l.agent.core.session number; idle = 0 }) (StepOf.Start number) tt down up down_past down_run up_run down_last up_last both waits
     (rw taken.0 refl) e f)
 
 pub cancel_joins : (packages : List PackageText) (now : ℕ) (l : LinkOf) (t : LinkStepped) (down up : Option HeldOf) (down_past : List LaneEntry) (down_run up_run down_last up_last : CellRun)
@@ -69,7 +72,7 @@ pub cancel_joins : (packages : List PackageText) (now : ℕ) (l : LinkOf) (t : L
 cancel_joins packages now l t down up down_past down_run up_run down_last up_last both waits s e f =
     let taken : unnoted (record l { agent = cancels packages l.agent }) ≡ t = cc in
     subst (λ x. LinkGoes packages (pair_at l down up) x down_last.cell up_last.cell) taken
-    (recast_joins packages now l (record { session = agent_cancelled l.agent.core.session; idle = if may_cancel l.agent.core.session.stage then 0 else l.agent.core.idle }) StepOf.Cancel down up down_past down_run up_run down_last up_last both waits
+    (recast_joins packages now l (record { session = agent_cancelled l.agent.core.session; idle = if may_cancel l.agent.core.session.stage then 0 else l.agent.core.idle }) StepOf.Cancel tt down up down_past down_run up_run down_last up_last both waits
     refl e f)
 
 activate_from : (packages : List PackageText) (now : ℕ) (l : LinkOf) (o : Option SessionOf) (t : LinkStepped) (down up : Option HeldOf) (down_past : List LaneEntry) (down_run up_run down_last up_last : CellRun)
@@ -81,7 +84,7 @@ activate_from packages now l None t down up down_past down_run up_run down_last 
 activate_from packages now l (Some x) t down up down_past down_run up_run down_last up_last both waits is s e f =
     let taken : unnoted (record l { agent = activates packages l.agent x }) ≡ t = cc in
     subst (λ x. LinkGoes packages (pair_at l down up) x down_last.cell up_last.cell) taken
-    (recast_joins packages now l (record { session = x; idle = 0 }) StepOf.Activate down up down_past down_run up_run down_last up_last both waits
+    (recast_joins packages now l (record { session = x; idle = 0 }) StepOf.Activate tt down up down_past down_run up_run down_last up_last both waits
     (rw is refl) e f)
 
 pub activate_joins : (packages : List PackageText) (now : ℕ) (l : LinkOf) (t : LinkStepped) (down up : Option HeldOf) (down_past : List LaneEntry) (down_run up_run down_last up_last : CellRun)
@@ -110,7 +113,7 @@ judge_from packages now l verdict works (Some j) t down up up_past down_run up_r
     subst (λ x. LinkGoes packages (pair_at l down up) x down_last.cell up_last.cell) taken (record {
       down = down;
       up = closed_unless (device_core.wish (record { device = j.after; idle = 0 })) up;
-      leads = device_judged packages l.agent.core.session l.device.core (record { device = j.after; idle = 0 }) up down (StepOf.Judge verdict works) (map EntryOf.Applied j.applied) both.agent.wished (rw is refl);
+      leads = device_judged packages l.agent.core.session l.device.core (record { device = j.after; idle = 0 }) up down (StepOf.Judge verdict works) (map EntryOf.Applied j.applied) tt both.agent.wished (rw is refl);
       both = record {
         agent = holds_still (session_core packages) false l.agent.core down_run down_last down e both.agent;
         device = settles device_core true (record { device = j.after; idle = 0 }) l.device.asker.caller.asked up_run.cell up_last.cell up waits.up both.device.stands both.device.is_for
@@ -182,19 +185,22 @@ pub agent_restart_joins : (packages : List PackageText) (now : ℕ) (l : LinkOf)
     → Some (unnoted (record l { agent = half_restarts (session_core packages) l.agent })) ≡ Some t
     → cells_along (down_lane now l down_past) (LaneStepOf.Restart ends.Asker ∷ []) (Some down_run) ≡ Some down_last
     → cells_along (up_lane now l up_past) (LaneStepOf.Restart ends.Taker ∷ []) (Some up_run) ≡ Some up_last
-    → LinkGoes packages (pair_at l down up) t down_last.cell up_last.cell
+    → StepsInMessages packages (pair_at l down up) (LinkStep.Restart sides.Agent) t down_last.cell up_last.cell
 agent_restart_joins packages now l t down up down_past up_past down_run up_run down_last up_last both waits s e f =
-    let taken : unnoted (record l { agent = half_restarts (session_core packages) l.agent }) ≡ t = cc in
-    subst (λ x. LinkGoes packages (pair_at l down up) x down_last.cell up_last.cell) taken (record {
-      down = closed down;
-      up = up;
-      leads = (agent_side packages l.device.core.device).restart l.agent.core down up both.device.wished;
-      both = record {
+    let after = record l { agent = half_restarts (session_core packages) l.agent } in
+    let taken : unnoted after ≡ t = cc in
+    subst (λ x. StepsInMessages packages (pair_at l down up) (LinkStep.Restart sides.Agent) x down_last.cell up_last.cell) taken (record {
+      steps = StepOf.Restart sides.Agent ∷ [];
+      named = refl;
+      pair = pair_at after (closed down) up;
+      along = λ es. ap (λ o. message_along packages (option_map (ran_on (record { pair = pair_at l down up; entries = es })) o) [])
+          (agent_restarts packages l.device.core.device l.agent.core down up both.device.wished);
+      joined = both_joined packages after down_last.cell up_last.cell (closed down) up (record {
         agent = restarted (session_core packages) false l.agent.core l.agent.asker.caller.asked down_run down_last down waits.down both.agent e;
         device = holds_still device_core true l.device.core up_run up_last up f both.device;
         agent_deaf = refl;
         device_deaf = both.device_deaf;
-      };
+      });
     })
 
 pub device_restart_joins : (packages : List PackageText) (now : ℕ) (l : LinkOf) (t : LinkStepped) (down up : Option HeldOf) (down_past up_past : List LaneEntry) (down_run up_run down_last up_last : CellRun)
@@ -208,7 +214,7 @@ device_restart_joins packages now l t down up down_past up_past down_run up_run 
     subst (λ x. LinkGoes packages (pair_at l down up) x down_last.cell up_last.cell) taken (record {
       down = down;
       up = closed up;
-      leads = (device_side packages l.agent.core.session).restart l.device.core up down both.agent.wished;
+      leads = device_restarts packages l.agent.core.session l.device.core up down both.agent.wished;
       both = record {
         agent = holds_still (session_core packages) false l.agent.core down_run down_last down e both.agent;
         device = restarted device_core true l.device.core l.device.asker.caller.asked up_run up_last up waits.up both.device f;

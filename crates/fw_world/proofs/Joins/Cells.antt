@@ -11,6 +11,7 @@ use Rattle.fw_message.specs.Pairs.{HeldOf, closed, closed_unless, is_wished}
 use Rattle.fw_node.specs.Halves.{still_wished, wished_read}
 use Rattle.fw_node.specs.Halves.{is_wished as is_wished_there}
 use Rattle.fw_world.specs.Joins.{IsAnsweredAs, IsAskedAs, IsFor, IsHeldFor, IsSaid, IsWishedIn, StandsFor, cell_kept, cell_unless}
+use Rattle.fw_world.proofs.Links.Routes.{both_hold}
 
 -- a node and a pair ask the same of a wish
 same_wish : (c : CommandOf) (wish : Option CommandOf) → is_wished_there c wish ≡ is_wished c wish
@@ -79,12 +80,6 @@ closed_stays wish (Some h) = refl
 pub still_for : (agent : Bool) (wish : Option CommandOf) (held : Option HeldOf) → IsHeldFor agent held → IsHeldFor agent (closed_unless wish held)
 still_for agent wish None k = tt
 still_for agent wish (Some h) k = k
-
--- two that hold together
-pub both_hold : (a b : Bool) → (a && b) ≡ true → (a ≡ true) × (b ≡ true)
-both_hold true true e = (refl, refl)
-both_hold true false e = absurd (cc)
-both_hold false b e = absurd (cc)
 
 -- the same bytes are equal
 pub bytes_are : (xs ys : List ℕ) → same_bytes xs ys ≡ true → xs ≡ ys

@@ -1,5 +1,5 @@
 -- A packet that comes to a side of a link, as steps of its pair.
-use Rattle.std.proofs.Common.{◌≡◌, ◌≢◌, ◌⊎◌, ◌∙◌, ℕ, not, Bool, true, false, List, [], ◌∷◌, Option, Some, refl, sym, ap, subst, inl, inr}
+use Rattle.std.proofs.Common.{◌≡◌, ◌≢◌, ◌⊎◌, ◌∙◌, ℕ, not, Bool, true, false, List, [], ◌∷◌, Option, Some, sym, ap, subst, inl, inr}
 use Rattle.std.specs.Option.{option_map}
 use Rattle.pldm_exch.specs.Caller.{asking, is_quiet}
 use Rattle.pldm_exch.specs.Sides.{asker_row, taker_row}
@@ -20,12 +20,9 @@ use Rattle.fw_world.proofs.Joins.Learns.{HeardGoes, Others, hears_reply, row_ans
 use Rattle.fw_world.proofs.Joins.Rows.{IsOneDeaf}
 use Rattle.fw_world.proofs.Joins.Sides.{Notes, Place, Sided}
 use Rattle.fw_world.proofs.Joins.Takes.{hears_request, row_hears}
+use Rattle.fw_world.proofs.Links.Comings.{same_row}
 use Rattle.fw_world.proofs.Links.Routes.{answers_nothing, asks_nothing, other_lane}
 use Rattle.fw_world.proofs.Links.Sorted.{lane_number}
-
--- the row of the half, and that of its end of the lane
-same_row : {A B : Type 0} (a : HalfOf A) (b : HalfOf B) (bytes : List ℕ) → a.peer ≡ b.own → b.peer ≡ a.own → taker_row b.peer b.own a.taker bytes ≡ taker_row a.own a.peer a.taker bytes
-same_row a b bytes peer back = rw (peer, back) refl
 
 -- a reply
 reply_comes : {A B : Type 0} {packages : List PackageText} {core : CoreOf A} {agent : Bool} {place : Place A} {peer_wish : Option CommandOf} {notes : Notes A} (side : Sided packages core agent place peer_wish notes)

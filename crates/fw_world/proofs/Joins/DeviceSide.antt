@@ -13,6 +13,7 @@ use Rattle.fd_core.specs.declared.states.Progress.{Progress}
 use Rattle.fd_core.specs.declared.states.Progress.TheVariants as progress
 use Rattle.ua_core.specs.Session.{SessionOf}
 use Rattle.fw_message.specs.History.{EntryOf}
+use Rattle.fw_message.specs.Names.{HasName}
 use Rattle.fw_message.specs.Pairs.{HeldOf, PairOf, StepOf, closed, closed_unless, down_taken, down_wish, fresh_cell, is_empty, quietly, step_of, unwished_closed}
 use Rattle.fw_message.specs.declared.side.Side.TheVariants as sides
 use Rattle.fw_message.specs.declared.side.Way.TheVariants as ways
@@ -39,14 +40,14 @@ closed_so packages s d own after other k e = rw (e, stays (down_wish packages s)
 drops : (packages : List PackageText) (s : SessionOf) (x : TimedDevice) (h : HeldOf) (other : Option HeldOf) → IsWishedIn other (down_wish packages s) → h.live ≡ false
     → Leads packages (device_place s x (Some h) other) [] (device_place s x None other)
 drops packages s x h other k dead =
-    closes packages (device_place s x (Some h) other) (quietly (device_place s x None other)) (device_place s x None other) (StepOf.Drop ways.Up)
+    closes packages (device_place s x (Some h) other) (quietly (device_place s x None other)) (device_place s x None other) (StepOf.Drop ways.Up) tt
     (rw dead refl) (closed_so packages s x.device None None other k refl)
 
 gives : (packages : List PackageText) (s : SessionOf) (x : TimedDevice) (h : HeldOf) (other : Option HeldOf) → IsWishedIn other (down_wish packages s) → h.live ≡ true
     → Leads packages (device_place s x (Some h) other) [] (device_place s x (Some (record h { live = false })) other)
 gives packages s x h other k live =
     closes packages (device_place s x (Some h) other) (quietly (device_place s x (Some (record h { live = false })) other))
-    (device_place s x (Some (record h { live = false })) other) (StepOf.GiveUp ways.Up)
+    (device_place s x (Some (record h { live = false })) other) (StepOf.GiveUp ways.Up) tt
     (rw live refl) (closed_so packages s x.device (Some (record h { live = false })) (Some (record h { live = false })) other k refl)
 
 -- the device, after what a tick makes of it
@@ -66,7 +67,7 @@ outwaited : (packages : List PackageText) (s : SessionOf) (d : DeviceState) (idl
     (device_place s (record { device = device_timeout d; idle = 0 }) (closed_unless (device_wish (device_timeout d)) own) other)
 outwaited packages s d idle own other k may =
     closes packages (device_place s (record { device = d; idle = idle }) own other) (quietly (record { device = device_timeout d; session = s; down = other; up = own }))
-    (device_place s (record { device = device_timeout d; idle = 0 }) (closed_unless (device_wish (device_timeout d)) own) other) (StepOf.TimeOut sides.Device)
+    (device_place s (record { device = device_timeout d; idle = 0 }) (closed_unless (device_wish (device_timeout d)) own) other) (StepOf.TimeOut sides.Device) tt
     (rw may refl) (closed_so packages s (device_timeout d) own (closed_unless (device_wish (device_timeout d)) own) other k refl)
 
 abbrev waited_by : (early : Bool) → DeviceState → ℕ → DeviceState × ℕ
@@ -98,30 +99,31 @@ ticks packages s x own other k w = ticks_at packages s x.device x.idle x.device.
 asks : (packages : List PackageText) (s : SessionOf) (x : TimedDevice) (c : CommandOf) (other : Option HeldOf) → IsWishedIn other (down_wish packages s) → device_wish x.device ≡ Some c
     → Leads packages (device_place s x None other) [] (device_place s x (Some (fresh_cell c)) other)
 asks packages s x c other k wish =
-    closes packages (device_place s x None other) (quietly (device_place s x (Some (fresh_cell c)) other)) (device_place s x (Some (fresh_cell c)) other) StepOf.AskUp
+    closes packages (device_place s x None other) (quietly (device_place s x (Some (fresh_cell c)) other)) (device_place s x (Some (fresh_cell c)) other) StepOf.AskUp tt
     (rw wish refl) (closed_so packages s x.device (Some (fresh_cell c)) (Some (fresh_cell c)) other k (rw (wish, same_self c) refl))
 
 learns : (packages : List PackageText) (s : SessionOf) (x : TimedDevice) (h : HeldOf) (a : AnswerOf) (works : Bool) (other : Option HeldOf) → IsWishedIn other (down_wish packages s) → h.live ≡ true → h.reply ≡ Some a
     → Leads packages (device_place s x (Some h) other) [] (device_place s (device_core.learn x (Ok a) works) None other)
 learns packages s x h a works other k live answered =
     closes packages (device_place s x (Some h) other) (quietly (device_place s (device_core.learn x (Ok a) works) None other))
-    (device_place s (device_core.learn x (Ok a) works) None other) (StepOf.LearnUp works)
+    (device_place s (device_core.learn x (Ok a) works) None other) (StepOf.LearnUp works) tt
     (rw (live, answered) refl) (closed_so packages s (device_core.learn x (Ok a) works).device None None other k refl)
 
-restarts : (packages : List PackageText) (s : SessionOf) (x : TimedDevice) (own other : Option HeldOf) → IsWishedIn other (down_wish packages s)
+-- The device starts anew.
+pub device_restarts : (packages : List PackageText) (s : SessionOf) (x : TimedDevice) (own other : Option HeldOf) → IsWishedIn other (down_wish packages s)
     → Leads packages (device_place s x own other) [] (device_place s (device_core.restarted x) (closed own) other)
-restarts packages s x own other k =
+device_restarts packages s x own other k =
     closes packages (device_place s x own other) (quietly (device_place s (device_core.restarted x) (closed own) other))
-    (device_place s (device_core.restarted x) (closed own) other) (StepOf.Restart sides.Device)
+    (device_place s (device_core.restarted x) (closed own) other) (StepOf.Restart sides.Device) tt
     refl (closed_so packages s (device_restart x.device) (closed own) (closed own) other k (closed_stays (device_wish (device_restart x.device)) own))
 
 -- A verdict, which leaves the device so.
-pub device_judged : (packages : List PackageText) (s : SessionOf) (x after : TimedDevice) (own other : Option HeldOf) (step : StepOf) (es : List EntryOf) → IsWishedIn other (down_wish packages s)
+pub device_judged : (packages : List PackageText) (s : SessionOf) (x after : TimedDevice) (own other : Option HeldOf) (step : StepOf) (es : List EntryOf) → HasName step → IsWishedIn other (down_wish packages s)
     → step_of packages (device_place s x own other) step ≡ Some (record { after = record { device = after.device; session = s; down = other; up = own }; noted = es })
     → Leads packages (device_place s x own other) es (device_place s after (closed_unless (device_wish after.device) own) other)
-device_judged packages s x after own other step es k e =
+device_judged packages s x after own other step es named k e =
     closes packages (device_place s x own other) (record { after = record { device = after.device; session = s; down = other; up = own }; noted = es })
-    (device_place s after (closed_unless (device_wish after.device) own) other) step e
+    (device_place s after (closed_unless (device_wish after.device) own) other) step named e
     (closed_so packages s after.device own (closed_unless (device_wish after.device) own) other k refl)
 
 -- the pair after the device took a command
@@ -149,7 +151,7 @@ takes packages s x own h quiet works k new may =
     subst (λ es. Leads packages (device_place s x own (Some h)) es (took s x own h quiet works))
     (takes_noted s x own h quiet works)
     (closes packages (device_place s x own (Some h)) (down_taken (device_place s x own (Some h)) h (device_take x.device h.command quiet works))
-    (took s x own h quiet works) (StepOf.TakeDown quiet works) (rw (new, may) refl) (takes_closed packages s x own h quiet works k))
+    (took s x own h quiet works) (StepOf.TakeDown quiet works) tt (rw (new, may) refl) (takes_closed packages s x own h quiet works k))
 
 -- what a device wishes is for the agent
 reports_at : (command : ℕ → CommandOf) (result : Option ℕ) (c : CommandOf) → reports command result ≡ Some c → ((n : ℕ) → IsFor true (command n)) → IsFor true c
@@ -180,7 +182,6 @@ device_side packages s = record {
   tick = ticks packages s;
   ask = asks packages s;
   learn = learns packages s;
-  restart = restarts packages s;
   take = takes packages s;
   wishes = wishes;
   serves = serves;

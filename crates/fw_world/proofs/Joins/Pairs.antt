@@ -1,7 +1,7 @@
 -- The run of one pair, in the world of all.
-use Rattle.std.proofs.Common.{◌≡◌, ◌≢◌, ◌∙◌, ℕ, ◌==◌, Bool, true, false, if◌then◌else◌, List, [], ◌∷◌, ◌++◌, map, append-nil, Option, Some, None, refl, sym, ap}
+use Rattle.std.proofs.Common.{◌≡◌, ◌∙◌, ℕ, ◌==◌, Bool, true, false, if◌then◌else◌, List, [], ◌∷◌, ◌++◌, map, append-nil, Option, Some, None, refl, sym, ap}
 use Rattle.std.specs.Option.{option_map}
-use Rattle.std.proofs.lemmas.Bool.{eq-eqb, ne_eqb}
+use Rattle.std.proofs.lemmas.Bool.{eq-eqb}
 use Rattle.std.proofs.lemmas.List.{map-append, append_assoc}
 use Rattle.fw_message.specs.History.{EntryOf}
 use Rattle.fw_message.specs.Pairs.{PairOf, PairRun, StepOf, Stepped, message_along, noted, pair_after, ran_on}
@@ -93,19 +93,3 @@ pair_among w front back eid history steps m after more away e =
     ap (λ xs. world_along (Some (among w front back eid m xs)) (map (WorldStepOf.OfPair eid) steps)) (sym (append-nil history))
     ∙ runs_among w front back eid history steps (record { pair = m; entries = [] }) (record { pair = after; entries = noted [] more }) away e
     ∙ ap (λ xs. Some (among w front back eid after (history ++ map (noted_of eid) xs))) (noted_behind [] more)
-
--- a run that goes on
-pub along_append : (ss ts : List WorldStepOf) (o : Option WorldOf) → world_along o (ss ++ ts) ≡ world_along (world_along o ss) ts
-along_append ss ts None = refl
-along_append [] ts (Some w) = refl
-along_append (s ∷ ss) ts (Some w) = along_append ss ts (world_after w s)
-
--- who is in none of these and isn't one more is in none of all
-absent_there : (here : Bool) (m : NodeOf) (o p : Option NodeOf) → (o ≡ None → p ≡ None) → (if here then Some m else o) ≡ None → (if here then Some m else p) ≡ None
-absent_there true m o p rest e = absurd (cc)
-absent_there false m o p rest e = rest e
-
-pub absent_more : (ns : List NodeOf) (n : NodeOf) (eid : ℕ) → node_at ns eid ≡ None → n.eid ≢ eid → node_at (ns ++ n ∷ []) eid ≡ None
-absent_more [] n eid e differ = rw (ne_eqb n.eid eid differ) refl
-absent_more (m ∷ ns) n eid e differ =
-    absent_there (m.eid == eid) m (node_at ns eid) (node_at (ns ++ n ∷ []) eid) (λ none. absent_more ns n eid none differ) e

@@ -1,8 +1,6 @@
 -- What a tick and a packet leave of an open request, and that a half keeps one deaf count.
-use Rattle.std.proofs.Common.{◌≡◌, ◌∙◌, ℕ, ◌+◌, ◌-◌, ◌==◌, nat_le, Bool, true, false, List, map, [], ◌∷◌, Option, Some, None, refl, sym, ap, subst, arith, inl, inr}
+use Rattle.std.proofs.Common.{◌≡◌, ◌∙◌, ℕ, ◌+◌, ◌-◌, ◌==◌, nat_le, Bool, true, false, List, map, [], ◌∷◌, Option, Some, None, refl, sym, ap, subst}
 use Rattle.std.specs.Option.{option_map}
-use Rattle.std.proofs.lemmas.Bool.{cases_lt, le-leb, ne_eqb}
-use Rattle.fw_world.proofs.Links.Ticks.{hears_then}
 use Rattle.mctp_reasm.specs.Held.{held_tick}
 use Rattle.mctp_reasm.specs.Pieces.{MessageOf}
 use Rattle.pldm_exch.specs.Caller.{CallerState, Open, asking, caller_tick, may_begin, sends_at, ticked}
@@ -55,19 +53,6 @@ waits_if a false = refl
 
 pub row_waits : (a : AskerOf) → RowWaits (asker_counts a) (option_map asking a.caller.asked)
 row_waits a = subst (λ r. RowWaits r (option_map asking a.caller.asked)) (sym (counts_are a (nat_le a.deaf 1) refl)) (waits_if a (nat_le a.deaf 1))
-
--- a half that hears after a tick was deaf for one tick at most
-hears_before : (a : AskerOf) (hears : Bool) → nat_le a.deaf 1 ≡ hears → hears_then (counts_if hears a) ≡ true → nat_le a.deaf 1 ≡ true
-hears_before a true is e = is
-hears_before a false is e = elim (cases_lt 1 a.deaf) [
-  | inl deaf ↦
-      let left : (a.deaf - 1 == 0) ≡ false = ne_eqb (a.deaf - 1) 0 (λ z. absurd (omega (arith, deaf, z))) in
-      absurd (cc)
-  | inr soon ↦ le-leb a.deaf 1 soon
-]
-
-pub deaf_before : (a : AskerOf) → hears_then (asker_counts a) ≡ true → nat_le a.deaf 1 ≡ true
-deaf_before a e = hears_before a (nat_le a.deaf 1) refl (ap hears_then (sym (counts_are a (nat_le a.deaf 1) refl)) ∙ e)
 
 -- ONE DEAF COUNT
 

@@ -8,7 +8,7 @@ use Rattle.exch_lane.specs.Laws.{IsCellOf, LaneIsACell}
 use Rattle.fw_package.specs.Package.{PackageText}
 use Rattle.fw_message.specs.History.{EntryOf}
 use Rattle.fw_message.specs.Pairs.{PairOf, StepOf, message_along, noted}
-use Rattle.fw_world.specs.JoinLaws.{LinksAreMessages}
+use Rattle.fw_world.specs.JoinLaws.{AreStepsOf, LinksAreMessages}
 use Rattle.fw_node.specs.Halves.{HalfOf}
 use Rattle.fw_world.specs.Joins.{Joined, StandsFor}
 use Rattle.fw_world.specs.Lanes.{Explained, LinkExplained, way_of}
@@ -29,6 +29,7 @@ pub record StandsOn (packages : List PackageText) (now : ℕ) (l : LinkOf) (s : 
   pub stepped : LinkStepped
   pub after : link_after now packages l s ≡ Some stepped
   pub steps : List StepOf
+  pub named : AreStepsOf s steps
   pub pair : PairOf
   pub along : (es : List EntryOf) → message_along packages (Some (record { pair = m; entries = es })) steps
       ≡ Some (record { pair = pair; entries = noted es stepped.noted })
@@ -43,6 +44,7 @@ stands_on lanes messages now packages l s m stands may said =
       stepped = on.stepped;
       after = on.after;
       steps = goes.steps;
+      named = goes.named;
       pair = goes.pair;
       along = goes.along;
       stands = record { explained = on.explained; joined = goes.joined };

@@ -21,11 +21,12 @@ use Rattle.fw_node.specs.Halves.{CoreOf, HalfHeard, HalfOf, answers, half_takes,
 use Rattle.fw_node.specs.Nodes.{IsHeardAgain, IsTold}
 use Rattle.fw_world.specs.Joins.{IsFor, IsHeldFor, IsWishedIn, StandsFor, cell_unless}
 use Rattle.fw_world.specs.Lanes.{replied_by, reply_in, settle_steps, take_steps}
-use Rattle.fw_world.proofs.Joins.Cells.{both_hold, bytes_are, numbers_are}
+use Rattle.fw_world.proofs.Joins.Cells.{bytes_are, numbers_are}
 use Rattle.fw_world.proofs.Joins.Goes.{Holds, holds_still, settled_cell, settles}
 use Rattle.fw_world.proofs.Joins.Learns.{HeardGoes, IsHeardAs, Others, others_still}
 use Rattle.fw_world.proofs.Joins.Rows.{IsOneDeaf}
 use Rattle.fw_world.proofs.Joins.Sides.{Leads, Notes, Place, Sided, no_step}
+use Rattle.fw_world.proofs.Links.Routes.{both_hold}
 
 -- WHO TAKES HEARS
 

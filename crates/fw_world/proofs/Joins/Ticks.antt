@@ -19,8 +19,8 @@ use Rattle.fw_world.specs.LinkLaws.{Speaks}
 use Rattle.fw_world.specs.Lanes.{called_steps, counted_steps, hearing_steps}
 use Rattle.fw_world.proofs.Joins.Asks.{after_hearing, goes_on, hears_from}
 use Rattle.fw_world.proofs.Joins.Goes.{Goes, Holds, went}
-use Rattle.fw_world.proofs.Joins.Rows.{RowWaits, deaf_before, row_waits}
-use Rattle.fw_world.proofs.Links.Ticks.{hears_then}
+use Rattle.fw_world.proofs.Joins.Rows.{RowWaits, row_waits}
+use Rattle.fw_world.proofs.Links.Ticks.{deaf_before, hears_then}
 use Rattle.fw_world.proofs.Joins.Sides.{Leads, Notes, Place, Sided, no_step}
 
 -- A half goes on, and the request that waits is the one that waited.

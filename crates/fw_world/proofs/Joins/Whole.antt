@@ -1,6 +1,5 @@
 -- Each step of a link is steps of its pair over whole messages.
-use Rattle.std.proofs.Common.{◌≡◌, ◌⊎◌, ◌≤◌, ◌^◌, ◌-◌, ◌∙◌, ℕ, ◌+◌, nat_lt, zero, suc, slice_get, Bool, true, false, if◌then◌else◌, List, [], ◌∷◌, Option, Some, None, IfSome, refl, sym, subst, inl, inr}
-use Rattle.std.specs.List.{AllByRecursion}
+use Rattle.std.proofs.Common.{◌≡◌, ◌⊎◌, ◌≤◌, ◌^◌, ◌-◌, ℕ, ◌+◌, nat_lt, Bool, true, false, if◌then◌else◌, List, [], Option, Some, None, IfSome, refl, sym, subst, inl, inr}
 use Rattle.std.proofs.lemmas.Bool.{cases_lt, lt-ltb}
 use Rattle.pldm_exch.specs.Caller.{is_quiet}
 use Rattle.exch_lane.specs.Cells.{Cell, CellRun, cells_along}
@@ -16,7 +15,7 @@ use Rattle.fw_message.specs.declared.side.Side.{Side}
 use Rattle.fw_message.specs.declared.side.Side.TheVariants as sides
 use Rattle.fw_node.specs.Cores.{TimedDevice, device_core, session_core}
 use Rattle.fw_node.specs.Halves.{HalfHeard, HalfOf, half_hears}
-use Rattle.fw_world.specs.JoinLaws.{LinksAreMessages, StepsInMessages}
+use Rattle.fw_world.specs.JoinLaws.{AreStepsOf, LinksAreMessages, StepsInMessages}
 use Rattle.fw_world.specs.Lanes.{LinkExplained, down_comes, down_lane, down_steps, is_down, is_up, up_comes, up_lane, up_steps}
 use Rattle.fw_world.specs.LinkLaws.{CanBeSaid, IsToldOn}
 use Rattle.fw_world.specs.Links.{LinkOf, LinkStep, LinkStepped, agent_heard, delivers_on, device_heard, hears_on, link_after, link_ticks, posted, unnoted}
@@ -26,7 +25,7 @@ use Rattle.fw_world.proofs.Joins.Delivers.{half_comes}
 use Rattle.fw_world.proofs.Joins.DeviceSide.{device_notes, device_place, device_side}
 use Rattle.fw_world.proofs.Joins.Learns.{HeardGoes}
 use Rattle.fw_world.proofs.Joins.Links.{BothHold, BothRest, BothWait, LinkGoes, both_joined, joined_both, joined_pair, pair_at, tick_joins}
-use Rattle.fw_world.proofs.Links.Sorted.{numbered_at}
+use Rattle.fw_world.proofs.Links.Comings.{fact_of}
 
 -- A PACKET
 
@@ -92,16 +91,6 @@ device_hears packages now l m works (HalfHeard.Took half sent command answer) t 
 device_hears packages now l m works (HalfHeard.Asks half request head body) t down_cell up_cell g e deaf = absurd (cc)
 device_hears packages now l m works (HalfHeard.Strayed half message) t down_cell up_cell g e deaf = absurd (cc)
 
--- a fact of all packets, of one of them
-fact_at : (P : Sent → Type 0) (xs : List Sent) (i : ℕ) (x : Sent) → AllByRecursion P xs → slice_get xs i ≡ Some x → P x
-fact_at P [] i x h e = absurd (cc)
-fact_at P (y ∷ ys) zero x h e = let is : y ≡ x = cc in rw is at h.0
-fact_at P (y ∷ ys) (suc i) x h e = fact_at P ys i x h.1 e
-
-fact_of : (P : Sent → Type 0) (xs : List Sent) (number : ℕ) (x : Sent) → AllByRecursion P xs → numbered xs number ≡ Some x → P x
-fact_of P xs zero x h e = absurd (cc)
-fact_of P xs (suc i) x h e = fact_at P xs i x h (sym (numbered_at xs i) ∙ e)
-
 coming : (late : Bool) (o : Option LinkStepped) (t : LinkStepped) → (if late then None else o) ≡ Some t → o ≡ Some t
 coming true o t e = absurd (cc)
 coming false o t e = e
@@ -127,14 +116,14 @@ deliver_joins : (packages : List PackageText) (now : ℕ) (l : LinkOf) (to : Sid
 deliver_joins packages now l to works number None t down up down_past up_past down_run up_run down_last up_last x both waits rests is told s e f = absurd (cc)
 deliver_joins packages now l sides.Agent works number (Some p) t down up down_past up_past down_run up_run down_last up_last x both waits rests is told s e f =
     let live = living (p.date + 8) now (hears_on now packages l sides.Agent works p.bytes) t s in
-    let way = fact_of (λ q. now ≤ q.date + 8 → (is_down l q ≡ true) ⊎ (is_up l q ≡ true)) l.packets number p x.packets is live.0 in
+    let way = fact_of {A = Sent} (λ q. now ≤ q.date + 8 → (is_down l q ≡ true) ⊎ (is_up l q ≡ true)) l.packets number p x.packets is live.0 in
     agent_hears packages now l (pair_at l down up) (is_quiet l.agent.asker.caller) true (half_hears (session_core packages) true l.agent p.bytes) t down_last.cell up_last.cell
     (half_comes (agent_side packages l.device.core.device) true now l.agent l.device l.packets down_past up_past number p down up down_run down_last up_run up_last
     x.ends.differ x.agent_peer x.device_peer is way both.agent (record { stands = both.device.stands; wished = both.device.wished; is_for = both.device.is_for }) both.agent_deaf waits.down rests.down told e f)
     live.1 both.device_deaf
 deliver_joins packages now l sides.Device works number (Some p) t down up down_past up_past down_run up_run down_last up_last x both waits rests is told s e f =
     let live = living (p.date + 8) now (hears_on now packages l sides.Device works p.bytes) t s in
-    let way = fact_of (λ q. now ≤ q.date + 8 → (is_down l q ≡ true) ⊎ (is_up l q ≡ true)) l.packets number p x.packets is live.0 in
+    let way = fact_of {A = Sent} (λ q. now ≤ q.date + 8 → (is_down l q ≡ true) ⊎ (is_up l q ≡ true)) l.packets number p x.packets is live.0 in
     device_hears packages now l (pair_at l down up) works (half_hears device_core works l.device p.bytes) t down_last.cell up_last.cell
     (half_comes (device_side packages l.agent.core.session) works now l.device l.agent l.packets up_past down_past number p up down up_run up_last down_run down_last
     (λ z. x.ends.differ (sym z)) x.device_peer x.agent_peer is (either_way way) both.device (record { stands = both.agent.stands; wished = both.agent.wished; is_for = both.agent.is_for }) both.device_deaf waits.up rests.up told f e)
@@ -148,44 +137,57 @@ ticks_if packages m true u t down_cell up_cell e g =
     subst (λ x. LinkGoes packages m x down_cell up_cell) is g
 ticks_if packages m false u t down_cell up_cell e g = absurd (cc)
 
+-- as the law says it
+in_messages : (packages : List PackageText) (l : LinkOf) (s : LinkStep) (t : LinkStepped) (down up : Option HeldOf) (down_cell up_cell : Cell) → (g : LinkGoes packages (pair_at l down up) t down_cell up_cell)
+    → AreStepsOf s g.leads.steps → StepsInMessages packages (pair_at l down up) s t down_cell up_cell
+in_messages packages l s t down up down_cell up_cell g named = record {
+  steps = g.leads.steps;
+  named = named;
+  pair = pair_at t.after g.down g.up;
+  along = g.leads.along;
+  joined = both_joined packages t.after down_cell up_cell g.down g.up g.both;
+}
+
 -- Each step of a link is steps of its pair.
 pub link_joins : (written : WritesCommands) (packages : List PackageText) (now : ℕ) (l : LinkOf) (s : LinkStep) (t : LinkStepped) (down up : Option HeldOf) (down_past up_past : List LaneEntry) (down_run up_run down_last up_last : CellRun)
     → LinkExplained now l → CanBeSaid packages l s → BothHold packages l down_run.cell up_run.cell down up → BothWait l down_run.cell up_run.cell → BothRest l down_run.cell up_run.cell
     → link_after now packages l s ≡ Some t
     → cells_along (down_lane now l down_past) (down_steps packages l s) (Some down_run) ≡ Some down_last
     → cells_along (up_lane now l up_past) (up_steps packages l s) (Some up_run) ≡ Some up_last
-    → LinkGoes packages (pair_at l down up) t down_last.cell up_last.cell
+    → StepsInMessages packages (pair_at l down up) s t down_last.cell up_last.cell
 link_joins written packages now l (LinkStep.Deliver number to works) t down up down_past up_past down_run up_run down_last up_last x said both waits rests s e f =
-    deliver_joins packages now l to works number (numbered l.packets number) t down up down_past up_past down_run up_run down_last up_last x both waits rests refl said s e f
+    let g = deliver_joins packages now l to works number (numbered l.packets number) t down up down_past up_past down_run up_run down_last up_last x both waits rests refl said s e f in
+    in_messages packages l (LinkStep.Deliver number to works) t down up down_last.cell up_last.cell g g.leads.named
 link_joins written packages now l (LinkStep.Tick agent device) t down up down_past up_past down_run up_run down_last up_last x said both waits rests s e f =
-    ticks_if packages (pair_at l down up) (nat_lt now (2 ^ 32 - 1)) (unnoted (link_ticks now packages l agent device)) t down_last.cell up_last.cell s
-    (tick_joins packages now l agent device down up down_past up_past down_run up_run down_last up_last written both waits said.0 said.1 e f)
+    let g = ticks_if packages (pair_at l down up) (nat_lt now (2 ^ 32 - 1)) (unnoted (link_ticks now packages l agent device)) t down_last.cell up_last.cell s
+    (tick_joins packages now l agent device down up down_past up_past down_run up_run down_last up_last written both waits said.0 said.1 e f) in
+    in_messages packages l (LinkStep.Tick agent device) t down up down_last.cell up_last.cell g g.leads.named
 link_joins written packages now l (LinkStep.Start number) t down up down_past up_past down_run up_run down_last up_last x said both waits rests s e f =
-    start_joins packages now l number t down up down_past down_run up_run down_last up_last both waits s e f
+    let g = start_joins packages now l number t down up down_past down_run up_run down_last up_last both waits s e f in
+    in_messages packages l (LinkStep.Start number) t down up down_last.cell up_last.cell g g.leads.named
 link_joins written packages now l LinkStep.Cancel t down up down_past up_past down_run up_run down_last up_last x said both waits rests s e f =
-    cancel_joins packages now l t down up down_past down_run up_run down_last up_last both waits s e f
+    let g = cancel_joins packages now l t down up down_past down_run up_run down_last up_last both waits s e f in
+    in_messages packages l LinkStep.Cancel t down up down_last.cell up_last.cell g g.leads.named
 link_joins written packages now l LinkStep.Activate t down up down_past up_past down_run up_run down_last up_last x said both waits rests s e f =
-    activate_joins packages now l t down up down_past down_run up_run down_last up_last both waits s e f
+    let g = activate_joins packages now l t down up down_past down_run up_run down_last up_last both waits s e f in
+    in_messages packages l LinkStep.Activate t down up down_last.cell up_last.cell g g.leads.named
 link_joins written packages now l (LinkStep.Judge verdict works) t down up down_past up_past down_run up_run down_last up_last x said both waits rests s e f =
-    judge_joins packages now l verdict works t down up up_past down_run up_run down_last up_last both waits s e f
+    let g = judge_joins packages now l verdict works t down up up_past down_run up_run down_last up_last both waits s e f in
+    in_messages packages l (LinkStep.Judge verdict works) t down up down_last.cell up_last.cell g g.leads.named
 link_joins written packages now l (LinkStep.Restart sides.Agent) t down up down_past up_past down_run up_run down_last up_last x said both waits rests s e f =
     agent_restart_joins packages now l t down up down_past up_past down_run up_run down_last up_last both waits s e f
 link_joins written packages now l (LinkStep.Restart sides.Device) t down up down_past up_past down_run up_run down_last up_last x said both waits rests s e f =
-    device_restart_joins packages now l t down up down_past up_past down_run up_run down_last up_last both waits s e f
+    let g = device_restart_joins packages now l t down up down_past up_past down_run up_run down_last up_last both waits s e f in
+    in_messages packages l (LinkStep.Restart sides.Device) t down up down_last.cell up_last.cell g g.leads.named
 
--- as the law says it
-in_messages : (packages : List PackageText) (m n : PairOf) (t : LinkStepped) (down_cell up_cell : Cell) → m ≡ n → LinkGoes packages n t down_cell up_cell → StepsInMessages packages m t down_cell up_cell
-in_messages packages m n t down_cell up_cell is g = rw is (record {
-  steps = g.leads.steps;
-  pair = pair_at t.after g.down g.up;
-  along = g.leads.along;
-  joined = both_joined packages t.after down_cell up_cell g.down g.up g.both;
-})
+-- from the pair that it is
+from_pair : (packages : List PackageText) (m n : PairOf) (s : LinkStep) (t : LinkStepped) (down_cell up_cell : Cell) → m ≡ n → StepsInMessages packages n s t down_cell up_cell → StepsInMessages packages m s t down_cell up_cell
+from_pair packages m n s t down_cell up_cell is k = subst (λ x. StepsInMessages packages x s t down_cell up_cell) (sym is) k
 
 -- Every step of a link that is explained is steps of a pair that is joined with it.
 pub links_are_messages : WritesCommands → LinksAreMessages
 links_are_messages written now packages l s before on m said j =
-    in_messages packages m (pair_at l m.down m.up) on.stepped on.explained.down.run.cell on.explained.up.run.cell
+    from_pair packages m (pair_at l m.down m.up) s on.stepped on.explained.down.run.cell on.explained.up.run.cell
     (joined_pair packages l before.down.run.cell before.up.run.cell m j)
     (link_joins written packages now l s on.stepped m.down m.up before.down.run.entries before.up.run.entries before.down.run before.up.run on.explained.down.run on.explained.up.run
     before said (joined_both packages l before.down.run.cell before.up.run.cell m j)

@@ -1,17 +1,21 @@
 -- How links and messages begin together, and what is promised wherever they went.
 use Rattle.std.proofs.Common.{◌≡◌, ◌∙◌, ◌^◌, ◌-◌, nat_lt, ℕ, Bool, true, false, if◌then◌else◌, List, [], ◌∷◌, ◌++◌, map, Some, None, IfSome, refl, sym, ap, subst}
+use Rattle.std.specs.List.{AllByRecursion}
 use Rattle.exch_lane.specs.Lanes.{AreEnds}
 use Rattle.exch_lane.specs.Laws.{LaneIsACell}
 use Rattle.fw_package.specs.Package.{PackageText}
+use Rattle.fw_message.specs.Names.{IsNamed}
 use Rattle.fw_message.specs.WorldLaws.{IsOpeningWorld, IsSafeWorld, WorldsAreSafe}
 use Rattle.fw_message.specs.Worlds.{NodeOf, NotedOf, WorldOf, WorldStepOf, world_along}
 use Rattle.fw_message.specs.declared.side.Side.TheVariants as sides
+use Rattle.fw_message.proofs.Safety.Worlds.{along_append}
 use Rattle.fw_world.specs.Links.{LinkOf, LinkStep, LinkStepped, link_ticks, unnoted}
 use Rattle.fw_world.specs.Replays.{AreDifferent}
 use Rattle.fw_world.proofs.Joins.Each.{AllAfter, AllStand, eid_of, notes_of}
 use Rattle.fw_world.proofs.Joins.Links.{pair_at}
 use Rattle.fw_world.proofs.Joins.Moves.{MovesOn, WorldStands}
-use Rattle.fw_world.proofs.Joins.Pairs.{along_append, node_of}
+use Rattle.fw_world.proofs.Joins.Pairs.{node_of}
+use Rattle.fw_world.proofs.Joins.Sides.{all_along}
 use Rattle.fw_world.proofs.Joins.Stands.{new_link_stands}
 use Rattle.fw_world.proofs.Links.Openings.{IsNewHalf}
 
@@ -53,14 +57,16 @@ new_world_stands law ls v new are apart = record {
 -- steps of messages lead from one world to another
 pub record Reaches (opening v : WorldOf) : Type 0 where
   pub steps : List WorldStepOf
+  pub named : AllByRecursion IsNamed steps
   pub along : world_along (Some opening) steps ≡ Some v
 
 pub reaches_first : (opening : WorldOf) → Reaches opening opening
-reaches_first opening = record { steps = []; along = refl }
+reaches_first opening = record { steps = []; named = tt; along = refl }
 
 pub reaches_on : (opening v : WorldOf) (now : ℕ) (ls : List LinkOf) (notes : List NotedOf) → Reaches opening v → (m : MovesOn now ls notes v) → Reaches opening m.after
 reaches_on opening v now ls notes r m = record {
   steps = r.steps ++ m.steps;
+  named = all_along IsNamed r.steps m.steps r.named m.named;
   along = along_append r.steps m.steps (Some opening) ∙ ap (λ o. world_along o m.steps) r.along ∙ m.along;
 }
 

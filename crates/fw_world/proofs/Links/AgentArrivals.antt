@@ -34,11 +34,11 @@ pub deaf_agent_at : (w : WorldOf) (bytes : List ℕ) (eid : ℕ) → w.agent.dea
 deaf_agent_at w bytes eid deaf = unmoved_at w bytes eid (rw (ne_eqb w.agent.deaf 0 deaf) refl)
 
 -- a hearing agent, by who sent the packet
-heard_from : (w : WorldOf) (bytes : List ℕ) (p : Head × List ℕ) → w.agent.deaf ≡ 0 → wire.packet_of bytes ≡ Ok p
+pub heard_from : (w : WorldOf) (bytes : List ℕ) (p : Head × List ℕ) → w.agent.deaf ≡ 0 → wire.packet_of bytes ≡ Ok p
     → agent_hears w.packages w.agent bytes w.now ≡ hears_at w.packages w.agent bytes w.now (half_place w.agent.halves p.0.source) (half_for w.agent p.0.source)
 heard_from w bytes p hears reads = rw (eq-eqb w.agent.deaf 0 hears, reads) refl
 
-unheard : (packages : List PackageText) (n : AgentOf) (bytes : List ℕ) (now : ℕ) (o : Option ℕ) (s : Option (HalfOf TimedOf)) → s ≡ None → hears_at packages n bytes now o s ≡ agent_unmoved n
+pub unheard : (packages : List PackageText) (n : AgentOf) (bytes : List ℕ) (now : ℕ) (o : Option ℕ) (s : Option (HalfOf TimedOf)) → s ≡ None → hears_at packages n bytes now o s ≡ agent_unmoved n
 unheard packages n bytes now None s e = refl
 unheard packages n bytes now (Some place) None e = refl
 unheard packages n bytes now (Some place) (Some h) e = absurd (cc)

@@ -35,7 +35,7 @@ served_row (TakerRow.TakesUp requests m head body) run after e = served_if (head
 served_row (TakerRow.Strays requests m) run after e = absurd (cc)
 
 -- the row of the half, and that of its end of the lane
-same_row : {A B : Type 0} (a : HalfOf A) (b : HalfOf B) (bytes : List ℕ) → a.peer ≡ b.own → b.peer ≡ a.own → taker_row b.peer b.own a.taker bytes ≡ taker_row a.own a.peer a.taker bytes
+pub same_row : {A B : Type 0} (a : HalfOf A) (b : HalfOf B) (bytes : List ℕ) → a.peer ≡ b.own → b.peer ≡ a.own → taker_row b.peer b.own a.taker bytes ≡ taker_row a.own a.peer a.taker bytes
 same_row a b bytes peer back = rw (peer, back) refl
 
 served_here : {A B : Type 0} (law : LaneIsACell) (now : ℕ) (a : HalfOf A) (b : HalfOf B) (ps : List Sent) (h : BothWays now a b ps) (n : ℕ) (s : Sent)

@@ -1,35 +1,18 @@
 -- A tick of the agent, all of whose halves do each part before the next begins, is a tick of each half.
-use Rattle.std.proofs.Common.{◌≡◌, ◌∙◌, ◌≤◌, ◌<◌, ◌-◌, ◌++◌, ◌∷◌, [], Bool, true, false, List, map, Option, Some, None, refl, ap, arith}
+use Rattle.std.proofs.Common.{◌≡◌, ◌∙◌, ◌≤◌, ◌<◌, ◌-◌, ◌++◌, ◌∷◌, [], true, List, map, refl, ap, arith}
 use Rattle.std.proofs.lemmas.Bool.{le-leb, lt-leb, ne_eqb}
 use Rattle.std.proofs.lemmas.Grind.{flat_map-append}
-use Rattle.std.proofs.lemmas.List.{append-nil}
-use Rattle.mctp_reasm.specs.Pieces.{MessageOf}
-use Rattle.pldm_exch.specs.Caller.{caller_tick, may_begin}
+use Rattle.pldm_exch.specs.Caller.{caller_tick}
 use Rattle.pldm_exch.specs.Sides.{asker_called}
 use Rattle.pldm_exch.specs.declared.caller.CallTick.{CallTick}
 use Rattle.pldm_exch.specs.declared.caller.CallTick.TheVariants as ticks
 use Rattle.fw_package.specs.Package.{PackageText}
-use Rattle.fwup_wire.specs.Values.{CommandOf}
 use Rattle.ua_core.specs.Session.{TimedOf}
 use Rattle.fw_node.specs.Agents.{again_packets, ended, ended_packets, grown, silent_by, waited}
 use Rattle.fw_node.specs.Cores.{session_core}
-use Rattle.fw_node.specs.Halves.{CoreOf, HalfOf, Ticked, aged, begins_if, begins_wish, called, half_ticks, idled, last_part, unwished_abandoned, with_caller}
+use Rattle.fw_node.specs.Halves.{CoreOf, HalfOf, aged, called, half_ticks, idled, last_part}
 use Rattle.fw_node.specs.Packets.{all_packets, packets_of, sent_by}
-
--- what was sent before stands before what is sent at last
-abbrev pub behind : {C : Type 0} → List MessageOf → Ticked C → Ticked C
-behind ms t = record { half = t.half; sent = ms ++ t.sent }
-
-begun_behind : {C : Type 0} (may : Bool) (h : HalfOf C) (c : CommandOf) (ms : List MessageOf) → begins_if may h c ms ≡ behind ms (begins_if may h c [])
-begun_behind true h c ms = refl
-begun_behind false h c ms = rw (append-nil ms) refl
-
-wished_behind : {C : Type 0} (wish : Option CommandOf) (h : HalfOf C) (ms : List MessageOf) → begins_wish wish h ms ≡ behind ms (begins_wish wish h [])
-wished_behind None h ms = rw (append-nil ms) refl
-wished_behind (Some c) h ms = begun_behind (may_begin h.asker.caller) h c ms
-
-last_behind : {C : Type 0} (f : CoreOf C) (h : HalfOf C) (ms : List MessageOf) → last_part f h ms ≡ behind ms (last_part f h [])
-last_behind f h ms = wished_behind (f.wish h.core) (with_caller h (unwished_abandoned (f.wish h.core) h.asker.caller)) ms
+use Rattle.fw_node.proofs.NodeTicks.{behind, last_behind}
 
 by_call : (packages : List PackageText) (h : HalfOf TimedOf) (t : CallTick)
     → called (session_core packages) (aged h) (asker_called (aged h).asker t)

@@ -141,7 +141,7 @@ hears_then (AskerTick.Resends a m) = a.deaf == 0
 hears_then (AskerTick.GivesUp a) = a.deaf == 0
 
 -- a half that hears after a tick was deaf for one tick at most
-deaf_before : (a : AskerOf) → hears_then (asker_counts a) ≡ true → nat_le a.deaf 1 ≡ true
+pub deaf_before : (a : AskerOf) → hears_then (asker_counts a) ≡ true → nat_le a.deaf 1 ≡ true
 deaf_before a e = elim (cases_lt 1 a.deaf) [
   | inl deaf ↦
       let more : nat_le a.deaf 1 ≡ false = lt-leb a.deaf 1 deaf in

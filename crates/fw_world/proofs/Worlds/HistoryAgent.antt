@@ -22,13 +22,13 @@ use Rattle.ua_core.specs.declared.planned.Recorded.{Recorded}
 use Rattle.ua_core.proofs.Lawful.{learns_no_record}
 use Rattle.fw_message.specs.History.{EntryOf}
 use Rattle.fw_message.specs.Worlds.{noted_of}
-use Rattle.fw_node.specs.Agents.{AgentOf, agent_hears, half_at, half_for, hears_at, place_of as half_place}
+use Rattle.fw_node.specs.Agents.{AgentOf, agent_hears, half_at, half_for, place_of as half_place}
 use Rattle.fw_node.specs.Cores.{package_of, session_core}
 use Rattle.fw_node.specs.Halves.{HalfHeard, HalfOf, half_hears, half_hears_by, half_takes, read_by, takes_if, takes_read}
 use Rattle.fw_node.specs.Nodes.{finished}
 use Rattle.fw_world.specs.Links.{LinkOf, agent_heard}
 use Rattle.fw_world.specs.Worlds.{WorldOf, made_by, record_behind, recorded_from, sender_of}
-use Rattle.fw_world.proofs.Links.AgentArrivals.{heard_half, heard_half_peer, hears_put}
+use Rattle.fw_world.proofs.Links.AgentArrivals.{heard_from, heard_half, heard_half_peer, hears_put, unheard}
 use Rattle.fw_world.proofs.Links.AgentTicks.{half_put}
 use Rattle.fw_world.proofs.Worlds.HistoryNoted.{noted_each, noted_in}
 
@@ -108,20 +108,11 @@ deaf_agent_records w bytes sender deaf =
     ap (λ n. recorded_from w.agent n sender) same ∙ unmoved_records w.agent sender
 
 -- a packet of a stranger
-unheard : (packages : List PackageText) (n : AgentOf) (bytes : List ℕ) (now : ℕ) (o : Option ℕ) (s : Option (HalfOf TimedOf)) → s ≡ None → (hears_at packages n bytes now o s).agent ≡ n
-unheard packages n bytes now None s e = refl
-unheard packages n bytes now (Some place) None e = refl
-unheard packages n bytes now (Some place) (Some h) e = absurd (cc)
-
-heard_by : (w : WorldOf) (bytes : List ℕ) (p : Head × List ℕ) → w.agent.deaf ≡ 0 → wire.packet_of bytes ≡ Ok p
-    → agent_hears w.packages w.agent bytes w.now ≡ hears_at w.packages w.agent bytes w.now (half_place w.agent.halves p.0.source) (half_for w.agent p.0.source)
-heard_by w bytes p hears reads = rw (eq-eqb w.agent.deaf 0 hears, reads) refl
-
 pub stranger_records : (w : WorldOf) (bytes : List ℕ) (p : Head × List ℕ) → w.agent.deaf ≡ 0 → wire.packet_of bytes ≡ Ok p → half_for w.agent p.0.source ≡ None
     → recorded_from w.agent (agent_hears w.packages w.agent bytes w.now).agent (sender_of (wire.packet_of bytes)) ≡ []
 stranger_records w bytes p hears reads none =
     let same : (agent_hears w.packages w.agent bytes w.now).agent ≡ w.agent =
-    ap (λ x. x.agent) (heard_by w bytes p hears reads) ∙ unheard w.packages w.agent bytes w.now (half_place w.agent.halves p.0.source) (half_for w.agent p.0.source) none in
+    ap (λ x. x.agent) (heard_from w bytes p hears reads ∙ unheard w.packages w.agent bytes w.now (half_place w.agent.halves p.0.source) (half_for w.agent p.0.source) none) in
     ap (λ n. recorded_from w.agent n (sender_of (wire.packet_of bytes))) same ∙ unmoved_records w.agent (sender_of (wire.packet_of bytes))
 
 -- a packet of a device
@@ -129,7 +120,7 @@ own_half : (w : WorldOf) (bytes : List ℕ) (p : Head × List ℕ) (h : HalfOf T
     → half_for (agent_hears w.packages w.agent bytes w.now).agent p.0.source ≡ Some (heard_half w bytes h)
 own_half w bytes p h hears reads there =
     let place = half_place w.agent.halves p.0.source in
-    ap (λ n. half_for n.agent p.0.source) (heard_by w bytes p hears reads)
+    ap (λ n. half_for n.agent p.0.source) (heard_from w bytes p hears reads)
     ∙ ap (λ hs. half_at hs (half_place hs p.0.source)) (hears_put w bytes place (half_for w.agent p.0.source))
     ∙ half_put (heard_half w bytes) (heard_half_peer w bytes) w.agent.halves p.0.source p.0.source
     ∙ ap (λ b. if b then option_map (heard_half w bytes) (half_for w.agent p.0.source) else half_for w.agent p.0.source) (eq-eqb p.0.source p.0.source refl)

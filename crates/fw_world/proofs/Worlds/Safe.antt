@@ -34,17 +34,17 @@ use Rattle.fw_world.proofs.Worlds.SafeSteps.{stand_on}
 
 -- ALONG A RUN
 
-stand_along : LaneIsACell → LinksAreLanes → LinksAreMessages → (opening w v : WorldOf) (ss : List Step) → Stand opening w → Run w ss v → Stand opening v
+pub stand_along : LaneIsACell → LinksAreLanes → LinksAreMessages → (opening w v : WorldOf) (ss : List Step) → Stand opening w → Run w ss v → Stand opening v
 stand_along law lanes messages opening w v [] k e = subst (Stand opening) (sym e) k
 stand_along law lanes messages opening w v (s ∷ ss) k run = stand_along law lanes messages opening run.0 v ss (stand_on law lanes messages opening w run.0 s k run.1) run.2
 
 -- A DEVICE'S PAIR
 
 -- a link's pair, whatever was asked
-abbrev pair_of : LinkOf → PairOf
+abbrev pub pair_of : LinkOf → PairOf
 pair_of l = pair_at l None None
 
-pair_linked : (o : Option (HalfOf TimedOf)) (s : Option SiteOf) → pair_with o s ≡ option_map pair_of (link_from o s)
+pub pair_linked : (o : Option (HalfOf TimedOf)) (s : Option SiteOf) → pair_with o s ≡ option_map pair_of (link_from o s)
 pair_linked None s = refl
 pair_linked (Some h) None = refl
 pair_linked (Some h) (Some x) = refl

@@ -30,13 +30,13 @@ use Rattle.fw_world.proofs.Worlds.SafeStands.{AreOwn, Stand, messages_of}
 abbrev node_eid : DeviceNodeOf → ℕ
 node_eid n = n.endpoint.eid
 
-abbrev halves_for : ℕ → List DeviceNodeOf → List (HalfOf TimedOf)
+abbrev pub halves_for : ℕ → List DeviceNodeOf → List (HalfOf TimedOf)
 halves_for agent nodes = map (new_half agent) (map node_eid nodes)
 
-abbrev sites_for : List DeviceNodeOf → List SiteOf
+abbrev pub sites_for : List DeviceNodeOf → List SiteOf
 sites_for nodes = map new_site nodes
 
-abbrev links_for : ℕ → List DeviceNodeOf → List LinkOf
+abbrev pub links_for : ℕ → List DeviceNodeOf → List LinkOf
 links_for agent nodes = links_in (halves_for agent nodes) (sites_for nodes)
 
 -- ONE NODE
@@ -75,7 +75,7 @@ opening_by agent n m e idle unapplied = record {
 
 -- ALL NODES
 
-same_peers : (agent : ℕ) (nodes : List DeviceNodeOf) → map half_peer (halves_for agent nodes) ≡ map site_eid (sites_for nodes)
+pub same_peers : (agent : ℕ) (nodes : List DeviceNodeOf) → map half_peer (halves_for agent nodes) ≡ map site_eid (sites_for nodes)
 same_peers agent [] = refl
 same_peers agent (n ∷ ns) = ap (λ xs. n.endpoint.eid ∷ xs) (same_peers agent ns)
 
@@ -83,7 +83,7 @@ same_eids : (nodes : List DeviceNodeOf) → map site_eid (sites_for nodes) ≡ m
 same_eids [] = refl
 same_eids (n ∷ ns) = ap (λ xs. n.endpoint.eid ∷ xs) (same_eids ns)
 
-same_nodes : (agent : ℕ) (nodes : List DeviceNodeOf) → AllByRecursion (IsNewNode agent) nodes → map eid_of (map opening_node (links_for agent nodes)) ≡ map site_eid (sites_for nodes)
+pub same_nodes : (agent : ℕ) (nodes : List DeviceNodeOf) → AllByRecursion (IsNewNode agent) nodes → map eid_of (map opening_node (links_for agent nodes)) ≡ map site_eid (sites_for nodes)
 same_nodes agent [] k = refl
 same_nodes agent (n ∷ ns) k = ap (λ e. e ∷ map eid_of (map opening_node (links_for agent ns))) (node_own agent n k.0) ∙ ap (λ xs. n.endpoint.eid ∷ xs) (same_nodes agent ns k.1)
 
@@ -133,6 +133,7 @@ new_stands law agent nodes packages k =
           (new_links agent.eid nodes k.agent_eid k.new (every (λ y. agent.eid ≢ y) (map node_eid nodes) k.apart.0)) refl
           (subst AreDifferent (sym (same_nodes agent.eid nodes k.new)) apart.1);
       packages = refl;
+      agent = refl;
       history = refl;
       eids = same_nodes agent.eid nodes k.new;
       reaches = reaches_first (messages_of w);

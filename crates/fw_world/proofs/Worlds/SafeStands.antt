@@ -11,7 +11,7 @@ use Rattle.fw_world.specs.Links.{LinkOf, LinkStep, LinkStepped, link_after, time
 use Rattle.fw_world.specs.Replays.{AreDifferent}
 use Rattle.fw_world.specs.Worlds.{WorldOf, site_for}
 use Rattle.fw_world.specs.declared.step.Step.{Step}
-use Rattle.fw_world.proofs.Joins.Each.{AllStand, eid_of}
+use Rattle.fw_world.proofs.Joins.Each.{AllStand, IsAlone, eid_of}
 use Rattle.fw_world.proofs.Joins.Moves.{MovesOn, WorldStands, one_moves}
 use Rattle.fw_world.proofs.Joins.Stands.{Stands}
 use Rattle.fw_world.proofs.Joins.Worlds.{Reaches, opening_node, reaches_on}
@@ -48,6 +48,7 @@ pub record Stand (opening w : WorldOf) : Type 0 where
   pub messages : MessageWorld
   pub stands : WorldStands w.now (links_of w) messages
   pub packages : messages.packages ≡ w.packages
+  pub agent : messages.agent ≡ w.agent.endpoint.eid
   pub history : messages.history ≡ w.history
   pub eids : map eid_of messages.nodes ≡ eids_of w
   pub reaches : Reaches (messages_of opening) messages
@@ -191,6 +192,7 @@ stand_moved lanes opening w v works s now ls notes k f m links time noted = reco
   messages = m.after;
   stands = subst (λ xs. WorldStands v.now xs m.after) (sym links) (subst (λ n. WorldStands n ls m.after) (sym time) m.stands);
   packages = m.packages ∙ k.packages ∙ sym f.packages;
+  agent = m.agent ∙ k.agent ∙ sym f.agent;
   history = m.history ∙ ap (λ h. h ++ notes) k.history ∙ sym noted;
   eids = m.same ∙ k.eids ∙ sym f.eids;
   reaches = reaches_on (messages_of opening) k.messages now ls notes k.reaches m;
@@ -198,7 +200,7 @@ stand_moved lanes opening w v works s now ls notes k f m links time noted = reco
 
 -- nothing went a step
 stays_put : (now : ℕ) (ls : List LinkOf) (m : MessageWorld) → WorldStands now ls m → MovesOn now ls [] m
-stays_put now ls m stands = record { steps = []; after = m; along = refl; packages = refl; history = sym (append-nil m.history); same = refl; stands = stands }
+stays_put now ls m stands = record { steps = []; named = tt; after = m; along = refl; packages = refl; agent = refl; history = sym (append-nil m.history); same = refl; stands = stands }
 
 pub stand_none : LinksAreLanes → (opening w v : WorldOf) (works : Bool) (s : Step) → Stand opening w → Follows works s w v → v.now ≡ w.now
     → ((eid : ℕ) (l : LinkOf) → link_at w eid ≡ Some l → link_step works w.agent.endpoint.eid s eid ≡ None) → Stand opening v
@@ -208,9 +210,9 @@ stand_none lanes opening w v works s k f time none =
 
 -- one link goes a step
 pub stand_one : LinksAreLanes → LinksAreMessages → (opening w v : WorldOf) (works : Bool) (s : Step) (own : ℕ) (l : LinkOf) (step : LinkStep) → Stand opening w → Follows works s w v → v.now ≡ w.now
-    → link_at w own ≡ Some l → link_step works w.agent.endpoint.eid s own ≡ Some step → time_after w.now step ≡ w.now
+    → link_at w own ≡ Some l → link_step works w.agent.endpoint.eid s own ≡ Some step → time_after w.now step ≡ w.now → IsAlone step
     → ((eid : ℕ) → eid ≢ own → link_step works w.agent.endpoint.eid s eid ≡ None) → Stand opening v
-stand_one lanes messages opening w v works s own l step k f time is mine soon others =
+stand_one lanes messages opening w v works s own l step k f time is mine soon alone others =
     let known = known_links opening w k in
     let at = site_stood w own (site_for w.sites own) refl (linked_site _ (site_for w.sites own) l is) in
     let whole : IsWhole step = subst (λ o. IfSome o IsWhole) mine (whole_step works w.agent.endpoint.eid s own) in
@@ -219,7 +221,7 @@ stand_one lanes messages opening w v works s own l step k f time is mine soon ot
     let may : MayHappen w.now w.packages l step = may_happen w.now w.packages l step g.stepped whole g.goes in
     let links = one_link_becomes w v at.place own l g.stepped.after (same_devices works s w v known f) at.at is g.is (λ eid far. link_stays works s w v eid known f (others eid far)) in
     let m = one_moves lanes messages w.now k.messages (links_of w) at.place l step g.stepped own k.stands
-    (link_by_place w at.place own k.halves k.apart.1 at.at ∙ is) (ap (λ ks. slice_get ks at.place) k.eids ∙ at.at) soon
+    (link_by_place w at.place own k.halves k.apart.1 at.at ∙ is) (ap (λ ks. slice_get ks at.place) k.eids ∙ at.at) soon alone
     (subst (λ ps. MayHappen w.now ps l step) (sym k.packages) may) (subst (λ ps. CanBeSaid ps l step) (sym k.packages) said)
     (subst (λ ps. link_after w.now ps l step ≡ Some g.stepped) (sym k.packages) g.goes) in
     stand_moved lanes opening w v works s w.now (slice_set (links_of w) at.place g.stepped.after) (map (noted_of own) g.stepped.noted) k f m links time

@@ -19,6 +19,7 @@ use Rattle.fw_world.specs.Worlds.{SiteOf, WorldOf, activates_on, asks_log, at_ag
 use Rattle.fw_world.specs.declared.step.Step.{Step}
 use Rattle.fw_world.specs.declared.step.Step.TheVariants as steps
 use Rattle.fw_world.specs.declared.step.StepFault.{StepFault}
+use Rattle.fw_world.proofs.Joins.Each.{IsAlone}
 use Rattle.fw_world.proofs.Links.Keys.{eids_stay, peers_stay}
 use Rattle.fw_world.proofs.Links.Linked.{linked_world}
 use Rattle.fw_world.proofs.Links.Projected.{before_end, comes_as, link_step, restart_as, where_mine}
@@ -28,7 +29,7 @@ use Rattle.fw_world.proofs.Worlds.HistoryGrows.{history_grows}
 use Rattle.fw_world.proofs.Worlds.KnownDeaf.{agent_stays, deaf_goes}
 use Rattle.fw_world.proofs.Worlds.KnownSaid.{links_can_say}
 use Rattle.fw_world.proofs.Worlds.SafeStands.{Follows, Stand, known_links, stand_none, stand_one}
-use Rattle.fw_world.proofs.Worlds.SafeTicks.{stand_all}
+use Rattle.fw_world.proofs.Worlds.SafeTicks.{stand_all, stand_anew}
 
 -- THE PACKAGES AND THE TIME
 
@@ -109,17 +110,17 @@ mine_itself : (own : ℕ) (o : Option LinkStep) → where_mine (own == own) o �
 mine_itself own o = ap (λ b. where_mine b o) (eq-eqb own own refl)
 
 stand_own : LinksAreLanes → LinksAreMessages → (opening w v : WorldOf) (works : Bool) (s : Step) (own : ℕ) (step : LinkStep) (o : Option LinkOf) → Stand opening w → Follows works s w v → v.now ≡ w.now
-    → link_at w own ≡ o → link_step works w.agent.endpoint.eid s own ≡ Some step → time_after w.now step ≡ w.now
+    → link_at w own ≡ o → link_step works w.agent.endpoint.eid s own ≡ Some step → time_after w.now step ≡ w.now → IsAlone step
     → ((eid : ℕ) → eid ≢ own → link_step works w.agent.endpoint.eid s eid ≡ None) → Stand opening v
-stand_own lanes messages opening w v works s own step None k f time is mine soon others =
+stand_own lanes messages opening w v works s own step None k f time is mine soon alone others =
     stand_none lanes opening w v works s k f time
     (λ eid l there. others eid (λ z. absurd (let no : Some l ≡ None = sym there ∙ ap (link_at w) z ∙ is in cc)))
-stand_own lanes messages opening w v works s own step (Some l) k f time is mine soon others = stand_one lanes messages opening w v works s own l step k f time is mine soon others
+stand_own lanes messages opening w v works s own step (Some l) k f time is mine soon alone others = stand_one lanes messages opening w v works s own l step k f time is mine soon alone others
 
 stand_mine : LinksAreLanes → LinksAreMessages → (opening w v : WorldOf) (works : Bool) (s : Step) (own : ℕ) (step : LinkStep) → Stand opening w → Follows works s w v → v.now ≡ w.now
-    → ((eid : ℕ) → link_step works w.agent.endpoint.eid s eid ≡ where_mine (own == eid) (Some step)) → time_after w.now step ≡ w.now → Stand opening v
-stand_mine lanes messages opening w v works s own step k f time is soon =
-    stand_own lanes messages opening w v works s own step (link_at w own) k f time refl (is own ∙ mine_itself own (Some step)) soon (λ eid far. is eid ∙ mine_only own (Some step) eid far)
+    → ((eid : ℕ) → link_step works w.agent.endpoint.eid s eid ≡ where_mine (own == eid) (Some step)) → time_after w.now step ≡ w.now → IsAlone step → Stand opening v
+stand_mine lanes messages opening w v works s own step k f time is soon alone =
+    stand_own lanes messages opening w v works s own step (link_at w own) k f time refl (is own ∙ mine_itself own (Some step)) soon alone (λ eid far. is eid ∙ mine_only own (Some step) eid far)
 
 -- A packet comes.
 comes_none : (works : Bool) (number : ℕ) (mine : Bool) → where_mine mine (comes_as works number false false) ≡ None
@@ -130,12 +131,12 @@ stand_comes : LinksAreLanes → LinksAreMessages → (opening w v : WorldOf) (wo
 stand_comes lanes messages opening w v works device number node k f time = elim (eqb_tells node w.agent.endpoint.eid) [
   | inl agent ↦
       stand_mine lanes messages opening w v works (steps.Deliver device number node) device (LinkStep.Deliver number sides.Agent works) k f time
-      (λ eid. ap (λ b. where_mine (device == eid) (comes_as works number b (node == eid))) agent.0) refl
+      (λ eid. ap (λ b. where_mine (device == eid) (comes_as works number b (node == eid))) agent.0) refl tt
   | inr other ↦ elim (eqb_tells node device) [
     | inl here ↦
         stand_own lanes messages opening w v works (steps.Deliver device number node) device (LinkStep.Deliver number sides.Device works) (link_at w device) k f time refl
         (mine_itself device (comes_as works number (node == w.agent.endpoint.eid) (node == device)) ∙ ap (λ b. comes_as works number b (node == device)) other.0 ∙ ap (λ b. comes_as works number false b) here.0)
-        refl (λ eid far. mine_only device (comes_as works number (node == w.agent.endpoint.eid) (node == eid)) eid far)
+        refl tt (λ eid far. mine_only device (comes_as works number (node == w.agent.endpoint.eid) (node == eid)) eid far)
     | inr elsewhere ↦
         stand_none lanes opening w v works (steps.Deliver device number node) k f time
         (λ eid l there. elim (eqb_tells device eid) [
@@ -160,11 +161,11 @@ restart_leaves false w u v h k = k
 stand_restarts : LinksAreLanes → LinksAreMessages → (opening w v : WorldOf) (works : Bool) (node : ℕ) → Stand opening w → Follows works (steps.Restart node) w v → v.now ≡ w.now → v.history ≡ w.history → Stand opening v
 stand_restarts lanes messages opening w v works node k f time noted = elim (eqb_tells node w.agent.endpoint.eid) [
   | inl agent ↦
-      stand_all lanes messages opening w v works (steps.Restart node) (LinkStep.Restart sides.Agent) (on_agent (half_restarts (session_core w.packages))) k f time
+      stand_anew lanes messages opening w v works (steps.Restart node) (on_agent (half_restarts (session_core w.packages))) k f time
       (λ eid. ap (λ b. restart_as b (node == eid)) agent.0) (λ l. refl) noted
   | inr other ↦
       stand_own lanes messages opening w v works (steps.Restart node) node (LinkStep.Restart sides.Device) (link_at w node) k f time refl
-      (ap (λ b. restart_as b (node == node)) other.0 ∙ ap (λ b. restart_as false b) (eq-eqb node node refl)) refl
+      (ap (λ b. restart_as b (node == node)) other.0 ∙ ap (λ b. restart_as false b) (eq-eqb node node refl)) refl tt
       (λ eid far. ap (λ b. restart_as b (node == eid)) other.0 ∙ restarted_only node eid far)
 ]
 
@@ -179,18 +180,18 @@ stand_by : LinksAreLanes → LinksAreMessages → (opening w : WorldOf) (works :
 stand_by lanes messages opening w works faults (steps.Deliver device number node) k may f =
     stand_comes lanes messages opening w (world_after works faults w (steps.Deliver device number node)) works device number node k f (delivered_moment works faults w node (numbered (packets_of w device) number)).now
 stand_by lanes messages opening w works faults steps.Tick k may f =
-    stand_all lanes messages opening w (world_after works faults w steps.Tick) works steps.Tick (LinkStep.Tick true true) (λ l. link_ticks w.now w.packages l true true) k f refl (λ eid. refl)
+    stand_all lanes messages opening w (world_after works faults w steps.Tick) works steps.Tick (LinkStep.Tick true true) (λ l. link_ticks w.now w.packages l true true) tt k f refl (λ eid. refl)
     (λ l. tick_goes w.now w.packages (nat_lt w.now (2 ^ 32 - 1)) l (ticks_may w _ may)) refl
 stand_by lanes messages opening w works faults (steps.Start device number) k may f =
-    stand_mine lanes messages opening w (world_after works faults w (steps.Start device number)) works (steps.Start device number) device (LinkStep.Start number) k f refl (λ eid. refl) refl
+    stand_mine lanes messages opening w (world_after works faults w (steps.Start device number)) works (steps.Start device number) device (LinkStep.Start number) k f refl (λ eid. refl) refl tt
 stand_by lanes messages opening w works faults (steps.Cancel device) k may f =
-    stand_mine lanes messages opening w (world_after works faults w (steps.Cancel device)) works (steps.Cancel device) device LinkStep.Cancel k f refl (λ eid. refl) refl
+    stand_mine lanes messages opening w (world_after works faults w (steps.Cancel device)) works (steps.Cancel device) device LinkStep.Cancel k f refl (λ eid. refl) refl tt
 stand_by lanes messages opening w works faults (steps.Activate device) k may f =
     stand_mine lanes messages opening w (world_after works faults w (steps.Activate device)) works (steps.Activate device) device LinkStep.Activate k f
-    (activated_moment w device (ready_for w.agent device)).now (λ eid. refl) refl
+    (activated_moment w device (ready_for w.agent device)).now (λ eid. refl) refl tt
 stand_by lanes messages opening w works faults (steps.Verdict device verdict) k may f =
     stand_mine lanes messages opening w (world_after works faults w (steps.Verdict device verdict)) works (steps.Verdict device verdict) device (LinkStep.Judge verdict works) k f
-    (judged_moment works faults w verdict (place_of w.sites device) (site_for w.sites device)).now (λ eid. refl) refl
+    (judged_moment works faults w verdict (place_of w.sites device) (site_for w.sites device)).now (λ eid. refl) refl tt
 stand_by lanes messages opening w works faults (steps.Restart node) k may f =
     stand_restarts lanes messages opening w (world_after works faults w (steps.Restart node)) works node k f (restart_moment works faults w node).now
     (restart_leaves (node == w.agent.endpoint.eid) w _ _ refl refl)

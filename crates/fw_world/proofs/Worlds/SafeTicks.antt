@@ -2,14 +2,16 @@
 use Rattle.std.proofs.Common.{◌≡◌, ◌∙◌, ◌++◌, ◌∷◌, [], ℕ, suc, Bool, List, map, append-nil, slice_get, Option, Some, None, IfSome, refl, sym, ap, subst}
 use Rattle.std.specs.Option.{option_map}
 use Rattle.fw_package.specs.Package.{PackageText}
+use Rattle.fw_message.specs.declared.side.Side.TheVariants as sides
 use Rattle.fw_world.specs.JoinLaws.{LinksAreMessages}
 use Rattle.fw_world.specs.LinkLaws.{CanBeSaid, LinksAreLanes, MayHappen}
 use Rattle.fw_world.specs.Links.{LinkOf, LinkStep, LinkStepped, link_after, time_after, unnoted}
 use Rattle.fw_world.specs.Worlds.{WorldOf}
 use Rattle.fw_world.specs.declared.step.Step.{Step}
-use Rattle.fw_world.proofs.Joins.Each.{AllAfter, eid_of, link_of, notes_of}
-use Rattle.fw_world.proofs.Joins.Moves.{AllMayHappen, all_move}
-use Rattle.fw_world.proofs.Joins.Worlds.{AreUnnoted, none_noted}
+use Rattle.fw_world.proofs.Joins.Each.{AllAfter, IsAlone, eid_of, link_of, notes_of}
+use Rattle.fw_world.proofs.Joins.Moves.{AllMayHappen, MovesOn, all_move}
+use Rattle.fw_world.proofs.Joins.Restarts.{all_restart_move}
+use Rattle.fw_world.proofs.Joins.Worlds.{AreUnnoted, none_noted, restarts_unnoted}
 use Rattle.fw_world.proofs.Links.Keys.{eids_of}
 use Rattle.fw_world.proofs.Links.Linked.{KnownLinks}
 use Rattle.fw_world.proofs.Links.Listed.{link_by_place, links_of}
@@ -64,18 +66,41 @@ goes_by works s w v step f eid (Some l) k h mine is e =
     let same : g.stepped ≡ unnoted (f l) = (let both : Some g.stepped ≡ Some (unnoted (f l)) = sym g.goes ∙ is l in cc) in
     g.is ∙ ap (λ t. Some t.after) same
 
--- All links take a step that notes nothing.
-pub stand_all : LinksAreLanes → LinksAreMessages → (opening w v : WorldOf) (works : Bool) (s : Step) (step : LinkStep) (f : LinkOf → LinkOf) → Stand opening w → Follows works s w v
+-- the world of messages goes along, wherever the links go
+abbrev AllGo : (opening w : WorldOf) → Stand opening w → LinkStep → Type 0
+AllGo opening w k step =
+    (ts : List LinkStepped) → AllMayHappen w.now k.messages.packages step (links_of w) → AllAfter k.messages.packages w.now step (links_of w) ts
+    → MovesOn (time_after w.now step) (map link_of ts) (notes_of (map eid_of k.messages.nodes) ts) k.messages
+
+stand_going : LinksAreLanes → (opening w v : WorldOf) (works : Bool) (s : Step) (step : LinkStep) (f : LinkOf → LinkOf) (k : Stand opening w) → AllGo opening w k step → Follows works s w v
     → v.now ≡ time_after w.now step → ((eid : ℕ) → link_step works w.agent.endpoint.eid s eid ≡ Some step) → ((l : LinkOf) → link_after w.now w.packages l step ≡ Some (unnoted (f l)))
     → v.history ≡ w.history → Stand opening v
-stand_all lanes messages opening w v works s step f k h time mine is noted =
+stand_going lanes opening w v works s step f k go h time mine is noted =
     let known = known_links opening w k in
     let ls = links_of w in
     let notes = notes_of (map eid_of k.messages.nodes) (all_gone f ls) in
     let links = all_links_become w v f (same_devices works s w v known h) (λ eid. goes_by works s w v step f eid (link_at w eid) known h (mine eid) is refl) in
     let may : AllMayHappen w.now w.packages step ls = may_each w.now w.packages step ls (λ i l e. may_in_place works s w v step i l known h mine e) in
     let after : AllAfter w.packages w.now step ls (all_gone f ls) = gone_each w.packages w.now step f ls is in
-    let m = all_move lanes messages w.now k.messages ls step (all_gone f ls) k.stands
+    let m = go (all_gone f ls)
     (subst (λ ps. AllMayHappen w.now ps step ls) (sym k.packages) may) (subst (λ ps. AllAfter ps w.now step ls (all_gone f ls)) (sym k.packages) after) in
     stand_moved lanes opening w v works s (time_after w.now step) (map link_of (all_gone f ls)) notes k h m (links ∙ sym (gone_links f ls)) time
     (noted ∙ sym (append-nil w.history) ∙ ap (λ xs. w.history ++ xs) (sym (none_noted (map eid_of k.messages.nodes) (all_gone f ls) (gone_unnoted f ls))))
+
+-- All links take a step that notes nothing and isn't a restart of the agent.
+pub stand_all : LinksAreLanes → LinksAreMessages → (opening w v : WorldOf) (works : Bool) (s : Step) (step : LinkStep) (f : LinkOf → LinkOf) → IsAlone step → Stand opening w → Follows works s w v
+    → v.now ≡ time_after w.now step → ((eid : ℕ) → link_step works w.agent.endpoint.eid s eid ≡ Some step) → ((l : LinkOf) → link_after w.now w.packages l step ≡ Some (unnoted (f l)))
+    → v.history ≡ w.history → Stand opening v
+stand_all lanes messages opening w v works s step f alone k h time mine is noted =
+    stand_going lanes opening w v works s step f k (λ ts may after. all_move lanes messages w.now k.messages (links_of w) step ts alone k.stands may after) h time mine is noted
+
+-- The agent starts anew.
+pub stand_anew : LinksAreLanes → LinksAreMessages → (opening w v : WorldOf) (works : Bool) (s : Step) (f : LinkOf → LinkOf) → Stand opening w → Follows works s w v
+    → v.now ≡ w.now → ((eid : ℕ) → link_step works w.agent.endpoint.eid s eid ≡ Some (LinkStep.Restart sides.Agent))
+    → ((l : LinkOf) → link_after w.now w.packages l (LinkStep.Restart sides.Agent) ≡ Some (unnoted (f l))) → v.history ≡ w.history → Stand opening v
+stand_anew lanes messages opening w v works s f k h time mine is noted =
+    stand_going lanes opening w v works s (LinkStep.Restart sides.Agent) f k
+    (λ ts may after. subst (λ ns. MovesOn w.now (map link_of ts) ns k.messages)
+    (sym (none_noted (map eid_of k.messages.nodes) ts (restarts_unnoted k.messages.packages w.now (links_of w) ts after)))
+    (all_restart_move lanes messages w.now k.messages (links_of w) ts k.stands may after))
+    h time mine is noted

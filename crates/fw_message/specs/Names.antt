@@ -1,0 +1,13 @@
+-- The steps of a world that a message step names: a restart of the agent is one of all its sessions.
+use Rattle.fw_message.specs.Pairs.{StepOf}
+use Rattle.fw_message.specs.Worlds.{WorldStepOf}
+use Rattle.fw_message.specs.declared.side.Side.TheVariants as sides
+
+-- any step of a pair but the restart of its session alone
+abbrev pub HasName : StepOf → Type 0
+HasName (StepOf.Restart sides.Agent) = ⊥
+HasName s = Unit {0}
+
+abbrev pub IsNamed : WorldStepOf → Type 0
+IsNamed (WorldStepOf.OfPair device s) = HasName s
+IsNamed WorldStepOf.RestartAgent = Unit {0}
