@@ -7,6 +7,8 @@ mod draft;
 mod faults;
 mod lines;
 mod schedule;
+#[cfg(test)]
+mod tests;
 mod values;
 
 pub use config::{ComponentConfig, Config, DeviceConfig};
