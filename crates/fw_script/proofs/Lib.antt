@@ -1,3 +1,4 @@
 mod Cuts
 mod Decimals
+mod Sound
 mod Steps

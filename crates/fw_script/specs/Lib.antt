@@ -3,4 +3,5 @@ pub mod Faults
 pub mod Lines
 pub mod Schedules
 pub mod Seen
+pub mod Sound
 pub mod Values

@@ -1,10 +1,11 @@
 //! Configurations, line by line.
 
-ghost use Rattle.std.specs.Prelude.{◌≡◌, IfErr, OnOk, length, map, string_bytes};
+ghost use Rattle.std.specs.Prelude.{◌≡◌, IfErr, IfOk, OnOk, length, map, string_bytes};
 ghost use Rattle.std.specs.List.{list_any};
 ghost use Rattle.fw_script.specs.Faults.{Answers, ReadsAs};
 ghost use Rattle.fw_script.specs.Configs.{after_line, agent_line, begun, component_line, config_of, descriptor_line, device_line, directive_of as directive_named, devices_of, extended, finished, in_device, is_bare, is_device as has_device, line_said, node_of, nothing_said, package_line, path_of, uses_eid};
 ghost use Rattle.fw_script.specs.Seen.{config_seen, device_of};
+ghost use Rattle.fw_script.specs.Sound.{IsConfig};
 
 use crate::config::{Config, DeviceConfig, Numbers, read_numbers};
 use crate::faults::{ScriptCause, ScriptFault, both};
@@ -357,7 +358,8 @@ impl Draft {
 /// The first line that is none, with the first of its faults; `Missing` at the line after the last where there is no agent,
 /// no device, or a device without a component; `Memory` where memory is refused.
 pub fn read_config(alloc: Global, text: &[u8]) -> Result<Config, ScriptFault>
-    ensures { ReadsAs config_seen result (config_of text.now) }
+    ensures value { ReadsAs config_seen result (config_of text.now) }
+    ensures sound { IfOk result (λ config. IsConfig (config_seen config)) }
 {
     let mut draft = Draft::new(alloc);
     let mut rest = text;
