@@ -1,4 +1,7 @@
+mod Bounds
 mod Cuts
 mod Decimals
+mod Devices
+mod Drafts
 mod Sound
 mod Steps

@@ -104,92 +104,66 @@ fn reads_each_line_in_its_order(rt: HostRuntime) -> Result<(), Fail> {
     Ok(())
 }
 
+/// Lines that are tried behind the start, each behind the fault that is told of it.
+const FAULTS: &str = "\
+Directive unit 3
+Directive miss 9
+Directive tick
+Directive  device 10 00000000000000000000000000000000
+Fields device 10
+Fields device 10 00000000000000000000000000000000 1
+Fields device 10  00000000000000000000000000000000
+Fields component 10 2 0 1 1.0
+Fields component 10 2 0 1 1.0 beta AA
+Fields component 10 2 0 1  AA
+Fields package
+Fields package a b
+Fields package a\x20
+Order agent 10 00000000000000000000000000000000
+Number device x 00000000000000000000000000000000
+Number device 10 -
+Number device 10 0000000000000000000000000000000
+Number component A 2 0 1 1.0 AA
+Number component 10 2 0 -1 1.0 AA
+Hex descriptor 00 3412
+Hex descriptor 00000 3412
+Hex descriptor 0g00 3412
+Hex descriptor - 3412
+Hex descriptor 0000 341
+Hex component 10 2 0 1 1.0 A
+Hex component 10 2 0 1 1.0 0x
+Range device 7 00000000000000000000000000000000
+Range device 255 00000000000000000000000000000000
+Range component 65536 2 0 1 1.0 AA
+Range component 10 65536 0 1 1.0 AA
+Range component 10 2 256 1 1.0 AA
+Range component 10 2 0 4294967296 1.0 AA
+Duplicate device 8 00000000000000000000000000000000
+Duplicate device 9 00000000000000000000000000000000
+Duplicate component 10 1 7 9 2.0 -
+Directive unit 3\x20
+Fields agent 10
+Order agent x -
+Order agent 7 00000000000000000000000000000000
+Number device 7 -
+Number component A 2 0 1 1.0 0x
+Number component 10 65536 A 1 1.0 AA
+Hex component 65536 2 0 1 1.0 0x
+Hex component 10 1 0 1 1.0 A
+Hex descriptor 0 A
+Range component 10 1 256 1 1.0 AA
+";
+
 #[test]
 fn tells_the_first_fault_of_the_line_behind_a_start(rt: HostRuntime) -> Result<(), Fail> {
-    let table: [(&str, ScriptCause); 46] = [
-        ("unit 3", ScriptCause::Directive),
-        ("miss 9", ScriptCause::Directive),
-        ("tick", ScriptCause::Directive),
-        (
-            " device 10 00000000000000000000000000000000",
-            ScriptCause::Directive,
-        ),
-        ("device 10", ScriptCause::Fields),
-        (
-            "device 10 00000000000000000000000000000000 1",
-            ScriptCause::Fields,
-        ),
-        (
-            "device 10  00000000000000000000000000000000",
-            ScriptCause::Fields,
-        ),
-        ("component 10 2 0 1 1.0", ScriptCause::Fields),
-        ("component 10 2 0 1 1.0 beta AA", ScriptCause::Fields),
-        ("component 10 2 0 1  AA", ScriptCause::Fields),
-        ("package", ScriptCause::Fields),
-        ("package a b", ScriptCause::Fields),
-        ("package a ", ScriptCause::Fields),
-        (
-            "agent 10 00000000000000000000000000000000",
-            ScriptCause::Order,
-        ),
-        (
-            "device x 00000000000000000000000000000000",
-            ScriptCause::Number,
-        ),
-        ("device 10 -", ScriptCause::Number),
-        (
-            "device 10 0000000000000000000000000000000",
-            ScriptCause::Number,
-        ),
-        ("component A 2 0 1 1.0 AA", ScriptCause::Number),
-        ("component 10 2 0 -1 1.0 AA", ScriptCause::Number),
-        ("descriptor 00 3412", ScriptCause::Hex),
-        ("descriptor 00000 3412", ScriptCause::Hex),
-        ("descriptor 0g00 3412", ScriptCause::Hex),
-        ("descriptor - 3412", ScriptCause::Hex),
-        ("descriptor 0000 341", ScriptCause::Hex),
-        ("component 10 2 0 1 1.0 A", ScriptCause::Hex),
-        ("component 10 2 0 1 1.0 0x", ScriptCause::Hex),
-        (
-            "device 7 00000000000000000000000000000000",
-            ScriptCause::Range,
-        ),
-        (
-            "device 255 00000000000000000000000000000000",
-            ScriptCause::Range,
-        ),
-        ("component 65536 2 0 1 1.0 AA", ScriptCause::Range),
-        ("component 10 65536 0 1 1.0 AA", ScriptCause::Range),
-        ("component 10 2 256 1 1.0 AA", ScriptCause::Range),
-        ("component 10 2 0 4294967296 1.0 AA", ScriptCause::Range),
-        (
-            "device 8 00000000000000000000000000000000",
-            ScriptCause::Duplicate,
-        ),
-        (
-            "device 9 00000000000000000000000000000000",
-            ScriptCause::Duplicate,
-        ),
-        ("component 10 1 7 9 2.0 -", ScriptCause::Duplicate),
-        ("unit 3 ", ScriptCause::Directive),
-        ("agent 10", ScriptCause::Fields),
-        ("agent x -", ScriptCause::Order),
-        (
-            "agent 7 00000000000000000000000000000000",
-            ScriptCause::Order,
-        ),
-        ("device 7 -", ScriptCause::Number),
-        ("component A 2 0 1 1.0 0x", ScriptCause::Number),
-        ("component 10 65536 A 1 1.0 AA", ScriptCause::Number),
-        ("component 65536 2 0 1 1.0 0x", ScriptCause::Hex),
-        ("component 10 1 0 1 1.0 A", ScriptCause::Hex),
-        ("descriptor 0 A", ScriptCause::Hex),
-        ("component 10 1 256 1 1.0 AA", ScriptCause::Range),
-    ];
-    for (lines, cause) in table {
-        let text = started(&rt, lines)?;
-        assert_eq!(rt; fault_of(&rt, text.as_bytes()), Some((4, cause)), "{lines}");
+    for row in FAULTS.lines() {
+        let (name, line) = row.split_once(' ').unwrap_or(("", row));
+        let text = started(&rt, line)?;
+        let told = match read_config(rt.alloc(), text.as_bytes()) {
+            Ok(_) => (0, ""),
+            Err(fault) => (fault.line, fault.cause.name()),
+        };
+        assert_eq!(rt; told, (4, name), "{row}");
     }
     Ok(())
 }

@@ -22,8 +22,8 @@ fn refused_memory_is_told_of_configurations(rt: HostRuntime) {
 /// Holds whichever single allocation is refused.
 #[test]
 fn refused_memory_is_told_of_schedules(rt: HostRuntime) {
-    match read_schedule(rt.alloc(), b"tick 20\nsel 4000\nrestart 9\n") {
-        Ok(steps) => assert_eq!(rt; steps.len(), 22),
+    match read_schedule(rt.alloc(), b"tick 4\nsel 4000\nrestart 9\n") {
+        Ok(steps) => assert_eq!(rt; steps.len(), 6),
         Err(fault) => assert_eq!(rt; fault.cause, ScriptCause::Memory),
     }
 }

@@ -77,54 +77,62 @@ fn reads_texts_of_few_lines_and_of_many_steps(rt: HostRuntime) -> Result<(), Fai
     Ok(())
 }
 
+/// Lines, each behind the fault that is told of it.
+const FAULTS: &str = "\
+Directive move 9
+Directive  tick
+Directive \x20
+Directive Tick
+Directive agent 8 00112233445566778899aabbccddeeff
+Fields tick 1 2
+Fields cancel
+Fields cancel 9 9
+Fields cancel  9
+Fields cancel 9\x20
+Fields tick\x20
+Fields deliver 9 1 8 1 1 1 1 1 1
+Fields sel
+Number tick x
+Number tick -
+Number cancel +9
+Number start 9 1a
+Number verdict 9 maybe
+Hex sel 460
+Hex sel 4G
+Hex sel --
+Range tick 0
+Range tick 1001
+Range cancel 7
+Range cancel 255
+Range deliver 9 1 255
+Range start 9 18446744073709551616
+Range start 9 184467440737095516150
+Directive move 9 9
+Fields cancel 7 x
+Number start 7 x
+Number start x 18446744073709551616
+Number deliver 7 18446744073709551616x 255
+Number verdict 7 maybe
+";
+
 #[test]
-fn tells_the_first_fault_of_the_first_line_with_one(rt: HostRuntime) {
-    let table: [(&[u8], usize, ScriptCause); 40] = [
-        (b"move 9\n", 1, ScriptCause::Directive),
-        (b" tick\n", 1, ScriptCause::Directive),
-        (b" \n", 1, ScriptCause::Directive),
+fn tells_the_first_fault_of_a_line(rt: HostRuntime) {
+    for row in FAULTS.lines() {
+        let (name, line) = row.split_once(' ').unwrap_or(("", row));
+        let told = match read_schedule(rt.alloc(), line.as_bytes()) {
+            Ok(_) => (0, ""),
+            Err(fault) => (fault.line, fault.cause.name()),
+        };
+        assert_eq!(rt; told, (1, name), "{row}");
+    }
+}
+
+#[test]
+fn tells_the_first_line_with_a_fault(rt: HostRuntime) {
+    let table: [(&[u8], usize, ScriptCause); 6] = [
         (b"\ttick\n", 1, ScriptCause::Directive),
         (b"tick\r\n", 1, ScriptCause::Directive),
-        (b"Tick\n", 1, ScriptCause::Directive),
-        (
-            b"agent 8 00112233445566778899aabbccddeeff\n",
-            1,
-            ScriptCause::Directive,
-        ),
-        (b"tick 1 2\n", 1, ScriptCause::Fields),
-        (b"cancel\n", 1, ScriptCause::Fields),
-        (b"cancel 9 9\n", 1, ScriptCause::Fields),
-        (b"cancel  9\n", 1, ScriptCause::Fields),
-        (b"cancel 9 \n", 1, ScriptCause::Fields),
-        (b"tick \n", 1, ScriptCause::Fields),
-        (b"deliver 9 1 8 1 1 1 1 1 1\n", 1, ScriptCause::Fields),
-        (b"sel\n", 1, ScriptCause::Fields),
-        (b"tick x\n", 1, ScriptCause::Number),
-        (b"tick -\n", 1, ScriptCause::Number),
-        (b"cancel +9\n", 1, ScriptCause::Number),
         (b"cancel 9\r\n", 1, ScriptCause::Number),
-        (b"start 9 1a\n", 1, ScriptCause::Number),
-        (b"verdict 9 maybe\n", 1, ScriptCause::Number),
-        (b"sel 460\n", 1, ScriptCause::Hex),
-        (b"sel 4G\n", 1, ScriptCause::Hex),
-        (b"sel --\n", 1, ScriptCause::Hex),
-        (b"tick 0\n", 1, ScriptCause::Range),
-        (b"tick 1001\n", 1, ScriptCause::Range),
-        (b"cancel 7\n", 1, ScriptCause::Range),
-        (b"cancel 255\n", 1, ScriptCause::Range),
-        (b"deliver 9 1 255\n", 1, ScriptCause::Range),
-        (b"start 9 18446744073709551616\n", 1, ScriptCause::Range),
-        (b"start 9 184467440737095516150\n", 1, ScriptCause::Range),
-        (b"move 9 9\n", 1, ScriptCause::Directive),
-        (b"cancel 7 x\n", 1, ScriptCause::Fields),
-        (b"start 7 x\n", 1, ScriptCause::Number),
-        (b"start x 18446744073709551616\n", 1, ScriptCause::Number),
-        (
-            b"deliver 7 18446744073709551616x 255\n",
-            1,
-            ScriptCause::Number,
-        ),
-        (b"verdict 7 maybe\n", 1, ScriptCause::Number),
         (b"tick\n\n# two\nsel 4\nmove\n", 4, ScriptCause::Hex),
         (b"tick 1000\nmove\nsel 4", 2, ScriptCause::Directive),
         (b"tick\ncancel 7", 2, ScriptCause::Range),
