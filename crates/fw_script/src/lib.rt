@@ -11,6 +11,8 @@ mod names;
 pub mod printing;
 mod reports;
 mod schedule;
+#[cfg(test)]
+mod tests;
 mod values;
 
 pub use config::{ComponentConfig, Config, DeviceConfig};

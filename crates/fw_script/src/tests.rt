@@ -1,0 +1,3 @@
+mod configs;
+mod memory;
+mod schedules;
