@@ -1,0 +1,3 @@
+//! Frames, links and runs, worked.
+
+mod frames;
