@@ -1,1 +1,4 @@
+pub mod Drives
 pub mod Frames
+pub mod Hearing
+pub mod Links

@@ -1,0 +1,37 @@
+//! Which packet of a pair a frame is.
+
+ghost use Rattle.std.specs.Prelude.{◌≡◌, map};
+ghost use Rattle.exch_lane.specs.Journals.{sent_of};
+ghost use Rattle.fw_edge.specs.Hearing.{IsHeard, IsLastLiving};
+
+use exch_lane::SentPacket;
+use fd_core::Bank;
+use fw_world::World;
+use mctp_wire::RawPacket;
+use pldm_exch::LIFE;
+
+/// The number of the last packet of a pair, named by its device, that has these bytes and may still come: what a Deliver
+/// names. None exactly where there is no such packet.
+pub fn heard<B: Bank + Drop>(world: &World<'_, B>, pair: u8, packet: &RawPacket) -> Option<usize>
+    ensures { IsHeard world.now pair packet.now.items result }
+{
+    let Some(packets) = world.packets(pair) else {
+        return None;
+    };
+    last_living(packets, world.now(), packet)
+}
+
+/// The number of the last of these packets that has these bytes and may still come at this time.
+fn last_living(packets: &[SentPacket], now: u32, packet: &RawPacket) -> Option<usize>
+    ensures { IsLastLiving now (map sent_of packets.now) packet.now.items result }
+{
+    let mut number = packets.len();
+    while number > 0 {
+        let sent = &packets[number - 1];
+        if now <= sent.date.saturating_add(LIFE) && sent.bytes.as_slice() == packet.as_slice() {
+            return Some(number);
+        }
+        number -= 1;
+    }
+    None
+}
