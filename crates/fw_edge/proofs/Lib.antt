@@ -1,2 +1,7 @@
+mod Arriving
+mod Failing
 mod Frames
+mod Going
+mod Latest
+mod Overs
 mod Pieces

@@ -1,5 +1,5 @@
 -- What a run over links does.
-use Rattle.std.specs.Prelude.{ℕ, ◌≡◌, ◌≤◌, ◌<◌, ◌+◌, ◌-◌, ◌^◌, ◌⊎◌, ◌++◌, Bool, true, false, IsSomeAnd, List, [], ◌∷◌, length, map, slice_get, sum, Option, Some, None}
+use Rattle.std.specs.Prelude.{ℕ, ◌≡◌, ◌≤◌, ◌<◌, ◌+◌, ◌-◌, ◌^◌, ◌⊎◌, ◌++◌, ◌&&◌, Bool, true, false, IsSomeAnd, List, [], ◌∷◌, length, map, slice_get, sum, Option, Some, None}
 use Rattle.std.specs.List.{AllByRecursion}
 use Rattle.exch_lane.specs.Lanes.{numbered}
 use Rattle.fw_node.specs.Agents.{AgentOf, half_for}
@@ -22,17 +22,6 @@ abbrev pub AreLiving : (w : WorldOf) (ss : List Step) (v : WorldOf) → Run w ss
 AreLiving w [] v h = Unit {0}
 AreLiving w (s ∷ ss) v h = NamesLiving w s × AreLiving h.0 ss v h.2
 
--- Steps were taken from one world to another, and put behind a list of steps.
-pub record Drives (w : WorldOf) (before : List Step) (v : WorldOf) (after : List Step) : Type 0 where
-  pub steps : List Step
-  pub appended : after ≡ before ++ steps
-  pub run : Run w steps v
-
--- with packets that live
-pub record DrivesLiving (w : WorldOf) (before : List Step) (v : WorldOf) (after : List Step) : Type 0 where
-  pub drives : Drives w before v after
-  pub living : AreLiving w drives.steps v drives.run
-
 -- how many ticks and deliveries stand in a list
 abbrev pub tick_in : Step → ℕ
 tick_in steps.Tick = 1
@@ -48,6 +37,23 @@ deliver_in s = 0
 abbrev pub delivers_in : List Step → ℕ
 delivers_in ss = sum (map deliver_in ss)
 
+-- Steps were taken from one world to another, and put behind a list of steps.
+pub record Drives (w : WorldOf) (before : List Step) (v : WorldOf) (after : List Step) : Type 0 where
+  pub steps : List Step
+  pub appended : after ≡ before ++ steps
+  pub run : Run w steps v
+
+-- so many ticks and deliveries among them
+pub record Goes (w : WorldOf) (before : List Step) (v : WorldOf) (after : List Step) (ticks delivers : ℕ) : Type 0 where
+  pub drives : Drives w before v after
+  pub ticks_rise : ticks_in after ≡ ticks_in before + ticks
+  pub delivers_rise : delivers_in after ≡ delivers_in before + delivers
+
+-- with packets that live
+pub record DrivesLiving (w : WorldOf) (before : List Step) (v : WorldOf) (after : List Step) : Type 0 where
+  pub drives : Drives w before v after
+  pub living : AreLiving w drives.steps v drives.run
+
 -- the session with a device is Done or Failed, if there is one
 abbrev pub is_over_state : SessionState → Bool
 is_over_state states.Done = true
@@ -59,5 +65,9 @@ is_over None = true
 is_over (Some h) = is_over_state (state_of h.core.session.stage)
 
 -- each session is
-abbrev pub IsOver : WorldOf → Type 0
-IsOver w = AllByRecursion (λ x. is_over (half_for w.agent x.node.endpoint.eid) ≡ true) w.sites
+abbrev pub are_over : AgentOf → List SiteOf → Bool
+are_over n [] = true
+are_over n (x ∷ xs) = is_over (half_for n x.node.endpoint.eid) && are_over n xs
+
+abbrev pub all_over : WorldOf → Bool
+all_over w = are_over w.agent w.sites

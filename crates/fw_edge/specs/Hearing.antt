@@ -3,9 +3,13 @@ use Rattle.std.specs.Prelude.{ℕ, ◌≡◌, ◌≤◌, ◌+◌, IsSomeAnd, Lis
 use Rattle.exch_lane.specs.Lanes.{Sent, numbered}
 use Rattle.fw_world.specs.Worlds.{WorldOf, packets_of}
 
--- there is a packet of this number, counted from 1, which was sent at most 8 ticks ago and has these bytes
+-- a packet was sent at most 8 ticks ago, and has these bytes
+abbrev pub LivesWith : (now : ℕ) → List ℕ → Sent → Type 0
+LivesWith now bytes p = (now ≤ p.date + 8) × (p.bytes ≡ bytes)
+
+-- there is such a packet of this number, counted from 1
 abbrev pub IsLiving : (now : ℕ) → List Sent → List ℕ → (number : ℕ) → Type 0
-IsLiving now packets bytes number = IsSomeAnd (numbered packets number) (λ p. (now ≤ p.date + 8) × (p.bytes ≡ bytes))
+IsLiving now packets bytes number = IsSomeAnd (numbered packets number) (LivesWith now bytes)
 
 -- it is the last such packet; or there is none
 abbrev pub IsLastLiving : (now : ℕ) → List Sent → List ℕ → Option ℕ → Type 0

@@ -1,9 +1,13 @@
 //! The run of a world over links.
 
+ghost use Rattle.std.specs.Prelude.{◌≡◌, ◌≤◌, ◌<◌, ◌+◌, ◌-◌, ◌^◌, IfErr, IfOk, OnErr, OnOk, length, map, true};
+ghost use Rattle.fw_edge.specs.Drives.{Drives, Goes, all_over, ticks_in};
+ghost use Rattle.fw_edge.specs.Ledgers.{OneFailed};
+
 use crate::link::Link;
 use crate::outgoing::sent_at;
-use crate::rounds::exchange;
-use crate::steps::{all_over, close_turn, tick};
+use crate::rounds::{Frames, exchange};
+use crate::steps::{activate_all, all_over, judge_all, tick};
 use arrayvec::ArrayVec;
 use fd_core::Bank;
 use fw_world::{Step, World};
@@ -33,7 +37,10 @@ pub enum EdgeFault {
 }
 
 /// How many packets each pair of so many has sent.
-fn all_sent<B: Bank + Drop>(world: &World<'_, B>, count: usize) -> ArrayVec<usize, 16> {
+fn all_sent<B: Bank + Drop>(world: &World<'_, B>, count: usize) -> ArrayVec<usize, 16>
+    requires { count ≤ 16 }
+    ensures { length result.items ≡ count }
+{
     let mut sent = ArrayVec::new();
     for place in 0..count {
         sent.push(sent_at(world, place));
@@ -42,13 +49,24 @@ fn all_sent<B: Bank + Drop>(world: &World<'_, B>, count: usize) -> ArrayVec<usiz
 }
 
 /// A turn: a tick passes, packets go out and frames come in, and then the devices have their verdicts, and the sessions that
-/// are ready activate. How many foreign frames came.
+/// are ready activate. The frames that came.
 fn turn<B: Bank + Drop, L: Link>(
     world: &mut World<'_, B>,
     links: &mut [L],
     written: &mut [usize],
     steps: &mut Vec<Step>,
-) -> Result<usize, EdgeFault> {
+) -> Result<Frames, EdgeFault>
+    requires few { length links.old ≤ 16 }
+    requires written { length written.old ≡ length links.old }
+    ensures goes { IfOk result (λ f. Goes world.old steps.old.items world.new steps.new.items 1 f.known) }
+    ensures few { IfOk result (λ f. f.known + f.foreign ≤ 1055) }
+    ensures kept { IfOk result (λ f. map (λ l. (L.tally l).failures) links.new ≡ map (λ l. (L.tally l).failures) links.old) }
+    ensures drives { OnErr result (Drives world.old steps.old.items world.new steps.new.items) }
+    ensures failed { IfErr result (λ e. e ≡ EdgeFault.Frame → OneFailed (map (λ l. (L.tally l).failures) links.old) (map (λ l. (L.tally l).failures) links.new)) }
+    ensures end { IfErr result (λ e. e ≡ EdgeFault.Step → world.new.now ≡ 2 ^ 32 - 1) }
+    ensures links { length links.new ≡ length links.old }
+    ensures written { length written.new ≡ length written.old }
+{
     match tick(world, steps) {
         Ok(()) => {}
         Err(fault) => return Err(fault),
@@ -57,14 +75,28 @@ fn turn<B: Bank + Drop, L: Link>(
         Ok(frames) => frames,
         Err(fault) => return Err(fault),
     };
-    match close_turn(world, steps) {
-        Ok(()) => Ok(frames.foreign),
-        Err(fault) => Err(fault),
+    match judge_all(world, steps) {
+        Ok(()) => {}
+        Err(fault) => return Err(fault),
     }
+    match activate_all(world, steps) {
+        Ok(()) => {}
+        Err(fault) => return Err(fault),
+    }
+    Ok(frames)
 }
 
 /// Runs a world over links, one for each device, in configured order, for so many turns, or until each session is Done or
-/// Failed. The steps that are taken are put behind those of the list.
+/// Failed, which is tested before each turn. The steps that are taken are put behind those of the list, whatever the outcome.
+///
+/// A turn is a tick; then rounds, in which what was sent since the run began and isn't written goes out, and a frame is read
+/// at each end of each link, the device's first; then the verdicts that devices wait for, and the activations that sessions
+/// wait for. The last round reads no frame, or is the one after which the turn has read 1,024 frames or more; what is then
+/// unwritten goes out. A frame that is a living packet of its pair comes to the node at that end, and another to nobody.
+///
+/// # Errors
+/// `Frame` where a link failed, `Step` where the clock stands at its last tick, and `Memory`. The world is then the one after
+/// the steps that are listed.
 pub fn drive<B: Bank + Drop, L: Link>(
     world: &mut World<'_, B>,
     links: &mut [L],
@@ -72,6 +104,14 @@ pub fn drive<B: Bank + Drop, L: Link>(
     steps: &mut Vec<Step>,
 ) -> Result<Driven, EdgeFault>
     requires few { length links.old ≤ 16 }
+    ensures ok { OnOk result (Drives world.old steps.old.items world.new steps.new.items) }
+    ensures stopped { OnErr result (Drives world.old steps.old.items world.new steps.new.items) }
+    ensures ticks { IfOk result (λ d. ticks_in steps.new.items ≡ ticks_in steps.old.items + d.turns) }
+    ensures within { IfOk result (λ d. d.turns ≤ turns) }
+    ensures ended { IfOk result (λ d. d.turns < turns → all_over world.new ≡ true) }
+    ensures kept { OnOk result (map (λ l. (L.tally l).failures) links.new ≡ map (λ l. (L.tally l).failures) links.old) }
+    ensures frame { IfErr result (λ e. e ≡ EdgeFault.Frame → OneFailed (map (λ l. (L.tally l).failures) links.old) (map (λ l. (L.tally l).failures) links.new)) }
+    ensures step { IfErr result (λ e. e ≡ EdgeFault.Step → world.new.now ≡ 2 ^ 32 - 1) }
 {
     let mut written = all_sent(world, links.len());
     let mut foreign = 0;
@@ -83,7 +123,7 @@ pub fn drive<B: Bank + Drop, L: Link>(
             });
         }
         match turn(world, links, written.as_mut_slice(), steps) {
-            Ok(more) => foreign += more as u64,
+            Ok(frames) => foreign += frames.foreign as u64,
             Err(fault) => return Err(fault),
         }
     }

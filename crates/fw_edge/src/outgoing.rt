@@ -1,5 +1,9 @@
 //! Packets of a world, written to its links.
 
+ghost use Rattle.std.specs.Prelude.{◌≡◌, ◌≤◌, IfErr, OnErr, OnOk, length, map, slice_get};
+ghost use Rattle.fw_edge.specs.Ledgers.{HasFailed, OneFailed, Writes};
+ghost use Rattle.fw_world.specs.Worlds.{packets_at};
+
 use crate::driving::EdgeFault;
 use crate::link::Link;
 use exch_lane::SentPacket;
@@ -17,7 +21,8 @@ fn end_of(packet: &SentPacket, device: u8) -> Side {
 /// Writes these packets of a pair to its link, each at its sender's end.
 fn write_each<L: Link>(link: &mut L, packets: &[SentPacket], device: u8) -> Result<(), EdgeFault>
     ensures ok { OnOk result (Writes (length packets.now) (L.tally link.old) (L.tally link.new)) }
-    ensures err { IfErr result (λ e. (e ≡ EdgeFault.Frame) × HasFailed (L.tally link.old).failures (L.tally link.new).failures) }
+    ensures fault { IfErr result (λ e. e ≡ EdgeFault.Frame) }
+    ensures failed { OnErr result (HasFailed (L.tally link.old).failures (L.tally link.new).failures) }
 {
     for packet in packets {
         match link.send(end_of(packet, device), &packet.bytes) {
@@ -44,7 +49,11 @@ fn write_at<B: Bank + Drop, L: Link>(
     place: usize,
     link: &mut L,
     written: usize,
-) -> Result<(), EdgeFault> {
+) -> Result<(), EdgeFault>
+    ensures kept { OnOk result ((L.tally link.new).failures ≡ (L.tally link.old).failures) }
+    ensures fault { IfErr result (λ e. e ≡ EdgeFault.Frame) }
+    ensures failed { OnErr result (HasFailed (L.tally link.old).failures (L.tally link.new).failures) }
+{
     let (Some(node), Some(packets)) = (world.device_at(place), world.packets_at(place)) else {
         return Ok(());
     };
@@ -62,6 +71,11 @@ pub(crate) fn write_out<B: Bank + Drop, L: Link>(
     written: &mut [usize],
 ) -> Result<(), EdgeFault>
     requires { length written.old ≡ length links.old }
+    ensures kept { OnOk result (map (λ l. (L.tally l).failures) links.new ≡ map (λ l. (L.tally l).failures) links.old) }
+    ensures fault { IfErr result (λ e. e ≡ EdgeFault.Frame) }
+    ensures failed { OnErr result (OneFailed (map (λ l. (L.tally l).failures) links.old) (map (λ l. (L.tally l).failures) links.new)) }
+    ensures links { length links.new ≡ length links.old }
+    ensures written { length written.new ≡ length written.old }
 {
     for place in 0..links.len() {
         match write_at(world, place, &mut links[place], written[place]) {

@@ -1,7 +1,8 @@
 //! Steps of a run, each taken and listed.
 
-ghost use Rattle.std.specs.Prelude.{[], ◌≡◌, ◌++◌, ◌∷◌, IfErr, IfSome, None, OnErr, OnOk, true};
-ghost use Rattle.fw_edge.specs.Drives.{Drives};
+ghost use Rattle.std.specs.Prelude.{[], ◌≡◌, ◌≢◌, ◌-◌, ◌^◌, ◌++◌, ◌∷◌, IfErr, IfSome, None, OnErr, OnOk, true};
+ghost use Rattle.fw_edge.specs.Drives.{Drives, Goes, all_over, deliver_in, is_over, tick_in};
+ghost use Rattle.fw_node.specs.Agents.{half_for};
 ghost use Rattle.fw_world.specs.Replays.{Leads, may_step};
 ghost use Rattle.fw_world.specs.declared.step.Step.{Step};
 
@@ -23,6 +24,7 @@ pub(crate) fn take<B: Bank + Drop>(
     requires { may_step world.old step ≡ None }
     ensures leads { OnOk result (Leads world.old step world.new) }
     ensures listed { OnOk result (steps.new.items ≡ steps.old.items ++ step ∷ []) }
+    ensures goes { OnOk result (Goes world.old steps.old.items world.new steps.new.items (tick_in step) (deliver_in step)) }
     ensures same { OnErr result (world.new ≡ world.old) }
     ensures unlisted { OnErr result (steps.new.items ≡ steps.old.items) }
     ensures fault { IfErr result (λ e. e ≡ EdgeFault.Memory) }
@@ -46,8 +48,7 @@ pub(crate) fn tick<B: Bank + Drop>(
     world: &mut World<'_, B>,
     steps: &mut Vec<Step>,
 ) -> Result<(), EdgeFault>
-    ensures leads { OnOk result (Leads world.old Step.Tick world.new) }
-    ensures listed { OnOk result (steps.new.items ≡ steps.old.items ++ Step.Tick ∷ []) }
+    ensures goes { OnOk result (Goes world.old steps.old.items world.new steps.new.items 1 0) }
     ensures same { OnErr result (world.new ≡ world.old) }
     ensures unlisted { OnErr result (steps.new.items ≡ steps.old.items) }
     ensures fault { IfErr result (λ e. e ≢ EdgeFault.Frame) }
@@ -91,7 +92,8 @@ fn judge<B: Bank + Drop>(
     place: usize,
     steps: &mut Vec<Step>,
 ) -> Result<(), EdgeFault>
-    ensures drives { Drives world.old steps.old.items world.new steps.new.items }
+    ensures goes { OnOk result (Goes world.old steps.old.items world.new steps.new.items 0 0) }
+    ensures drives { OnErr result (Drives world.old steps.old.items world.new steps.new.items) }
     ensures fault { IfErr result (λ e. e ≡ EdgeFault.Memory) }
 {
     let Some(node) = world.device_at(place) else {
@@ -110,7 +112,8 @@ fn activate<B: Bank + Drop>(
     place: usize,
     steps: &mut Vec<Step>,
 ) -> Result<(), EdgeFault>
-    ensures drives { Drives world.old steps.old.items world.new steps.new.items }
+    ensures goes { OnOk result (Goes world.old steps.old.items world.new steps.new.items 0 0) }
+    ensures drives { OnErr result (Drives world.old steps.old.items world.new steps.new.items) }
     ensures fault { IfErr result (λ e. e ≡ EdgeFault.Memory) }
 {
     let Some(node) = world.device_at(place) else {
@@ -123,22 +126,34 @@ fn activate<B: Bank + Drop>(
     take(world, steps, Step::Activate(device))
 }
 
-/// Each device that waits for a verdict has it, and then each session that waits for that activates, in configured order.
-pub(crate) fn close_turn<B: Bank + Drop>(
+/// Each device that waits for a verdict has it, in configured order.
+pub(crate) fn judge_all<B: Bank + Drop>(
     world: &mut World<'_, B>,
     steps: &mut Vec<Step>,
 ) -> Result<(), EdgeFault>
-    ensures drives { Drives world.old steps.old.items world.new steps.new.items }
+    ensures goes { OnOk result (Goes world.old steps.old.items world.new steps.new.items 0 0) }
+    ensures drives { OnErr result (Drives world.old steps.old.items world.new steps.new.items) }
     ensures fault { IfErr result (λ e. e ≡ EdgeFault.Memory) }
 {
-    let count = world.device_count();
-    for place in 0..count {
+    for place in 0..world.device_count() {
         match judge(world, place, steps) {
             Ok(()) => {}
             Err(fault) => return Err(fault),
         }
     }
-    for place in 0..count {
+    Ok(())
+}
+
+/// Each session that waits for that activates, in configured order.
+pub(crate) fn activate_all<B: Bank + Drop>(
+    world: &mut World<'_, B>,
+    steps: &mut Vec<Step>,
+) -> Result<(), EdgeFault>
+    ensures goes { OnOk result (Goes world.old steps.old.items world.new steps.new.items 0 0) }
+    ensures drives { OnErr result (Drives world.old steps.old.items world.new steps.new.items) }
+    ensures fault { IfErr result (λ e. e ≡ EdgeFault.Memory) }
+{
+    for place in 0..world.device_count() {
         match activate(world, place, steps) {
             Ok(()) => {}
             Err(fault) => return Err(fault),
