@@ -1,18 +1,10 @@
 -- Steps that follow steps.
-use Rattle.std.proofs.Common.{◌≡◌, ◌≤◌, ◌+◌, ◌++◌, ◌∙◌, ℕ, List, [], ◌∷◌, length, map, append_assoc, append-nil, refl, sym, ap, subst, arith}
-use Rattle.std.specs.Prelude.{sum}
+use Rattle.std.proofs.Common.{◌≡◌, ◌≤◌, ◌+◌, ◌++◌, ◌∙◌, ℕ, List, [], ◌∷◌, append_assoc, append-nil, refl, sym, ap, subst, arith}
+use Rattle.std.proofs.lemmas.List.Sums.{sum_by-append}
 use Rattle.fw_world.specs.Replays.{Leads, Run}
 use Rattle.fw_world.specs.Worlds.{WorldOf}
 use Rattle.fw_world.specs.declared.step.Step.{Step}
 use Rattle.fw_edge.specs.Drives.{Drives, Goes, deliver_in, delivers_in, tick_in, ticks_in}
-
--- sums of lists that are put behind one another
-sums : (f : Step → ℕ) (ss ts : List Step) → sum (map f (ss ++ ts)) ≡ sum (map f ss) + sum (map f ts)
-sums f [] ts = omega arith
-sums f (s ∷ ss) ts = add_to (f s) (sum (map f (ss ++ ts))) (sum (map f ss)) (sum (map f ts)) (sums f ss ts)
-  where
-  add_to : (a x b c : ℕ) → x ≡ b + c → a + x ≡ (a + b) + c
-  add_to a x b c e = omega arith
 
 -- a run followed by a run is a run
 run_append : (w v u : WorldOf) (ss ts : List Step) → Run w ss v → Run v ts u → Run w (ss ++ ts) u
@@ -33,8 +25,8 @@ drives_step w v s before after h e = record { steps = s ∷ []; appended = e; ru
 pub goes_step : (w v : WorldOf) (s : Step) (before after : List Step) → Leads w s v → after ≡ before ++ s ∷ [] → Goes w before v after (tick_in s) (deliver_in s)
 goes_step w v s before after h e = record {
   drives = drives_step w v s before after h e;
-  ticks_rise = ap ticks_in e ∙ sums tick_in before (s ∷ []) ∙ ap (λ n. ticks_in before + n) (omega arith);
-  delivers_rise = ap delivers_in e ∙ sums deliver_in before (s ∷ []) ∙ ap (λ n. delivers_in before + n) (omega arith);
+  ticks_rise = ap ticks_in e ∙ sum_by-append tick_in before (s ∷ []) ∙ ap (λ n. ticks_in before + n) (omega arith);
+  delivers_rise = ap delivers_in e ∙ sum_by-append deliver_in before (s ∷ []) ∙ ap (λ n. delivers_in before + n) (omega arith);
 }
 
 -- more steps are taken
@@ -55,7 +47,6 @@ goes_on w v u before mid after t d t1 d1 h k = record {
 -- and then others, as far as they were taken
 pub goes_off : (w v u : WorldOf) (before mid after : List Step) (t d : ℕ) → Goes w before v mid t d → Drives v mid u after → Drives w before u after
 goes_off w v u before mid after t d h k = drives_on w v u before mid after h.drives k
-
 
 -- with the sums of both
 pub goes_sum : (w v u : WorldOf) (before mid after : List Step) (t d t1 d1 t2 d2 : ℕ) → Goes w before v mid t d → Goes v mid u after t1 d1 → t2 ≡ t + t1 → d2 ≡ d + d1 → Goes w before u after t2 d2

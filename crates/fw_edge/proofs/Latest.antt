@@ -62,15 +62,17 @@ none_behind_less now packets bytes number p some is dead h = record {
   none = less;
 }
   where
-  there : numbered (map sent_of packets) number ≡ Some (sent_of p)
-  there = lives_there now packets bytes number p some is h
-  dead_there : IsLiving now (map sent_of packets) bytes number → ⊥
-  dead_there l = dead (subst (λ o. IsSomeAnd o (LivesWith now bytes)) there l)
-  less : (other : ℕ) → IsLiving now (map sent_of packets) bytes other → other ≤ number - 1
-  less other l = elim (eqb_tells other number) [
-    | inl same ↦ absurd (dead_there (subst (λ n. IsLiving now (map sent_of packets) bytes n) same.1 l))
-    | inr differ ↦ (let le : other ≤ number = h.none other l in let ne = differ.1 in omega arith)
-  ]
+    there : numbered (map sent_of packets) number ≡ Some (sent_of p)
+    there = lives_there now packets bytes number p some is h
+
+    dead_there : IsLiving now (map sent_of packets) bytes number → ⊥
+    dead_there l = dead (subst (λ o. IsSomeAnd o (LivesWith now bytes)) there l)
+
+    less : (other : ℕ) → IsLiving now (map sent_of packets) bytes other → other ≤ number - 1
+    less other l = elim (eqb_tells other number) [
+      | inl same ↦ absurd (dead_there (subst (λ n. IsLiving now (map sent_of packets) bytes n) same.1 l))
+      | inr differ ↦ (let le : other ≤ number = h.none other l in let ne = differ.1 in omega arith)
+    ]
 
 -- it does
 pub last_lives : (now : ℕ) (packets : List SentPacket) (bytes : List ℕ) (number : ℕ) (p : SentPacket) → 0 < number → p ≡ get_or packets (number - 1) p
@@ -82,6 +84,6 @@ last_lives now packets bytes number p some is lives h =
 pub none_lives : (now : ℕ) (packets : List Sent) (bytes : List ℕ) (number : ℕ) → number ≤ 0 → LivesNoneBehind now packets bytes number → IsLastLiving now packets bytes None
 none_lives now packets bytes number none h = λ other lives. no_zero other (h.none other lives) lives
   where
-  no_zero : (other : ℕ) → other ≤ number → IsLiving now packets bytes other → ⊥
-  no_zero zero le lives = lives
-  no_zero (suc other) le lives = absurd (omega arith)
+    no_zero : (other : ℕ) → other ≤ number → IsLiving now packets bytes other → ⊥
+    no_zero zero le lives = lives
+    no_zero (suc other) le lives = absurd (omega arith)

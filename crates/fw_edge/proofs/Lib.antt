@@ -1,3 +1,4 @@
+mod Alive
 mod Arriving
 mod Failing
 mod Frames

@@ -1,6 +1,6 @@
 -- What a run over links does.
 use Rattle.std.specs.Prelude.{ℕ, ◌≡◌, ◌≤◌, ◌<◌, ◌+◌, ◌-◌, ◌^◌, ◌⊎◌, ◌++◌, ◌&&◌, Bool, true, false, IsSomeAnd, List, [], ◌∷◌, length, map, slice_get, sum, Option, Some, None}
-use Rattle.std.specs.List.{AllByRecursion}
+use Rattle.std.specs.List.{sum_by}
 use Rattle.exch_lane.specs.Lanes.{numbered}
 use Rattle.fw_node.specs.Agents.{AgentOf, half_for}
 use Rattle.fw_node.specs.Halves.{HalfOf}
@@ -28,14 +28,14 @@ tick_in steps.Tick = 1
 tick_in s = 0
 
 abbrev pub ticks_in : List Step → ℕ
-ticks_in ss = sum (map tick_in ss)
+ticks_in ss = sum_by tick_in ss
 
 abbrev pub deliver_in : Step → ℕ
 deliver_in (steps.Deliver device number node) = 1
 deliver_in s = 0
 
 abbrev pub delivers_in : List Step → ℕ
-delivers_in ss = sum (map deliver_in ss)
+delivers_in ss = sum_by deliver_in ss
 
 -- Steps were taken from one world to another, and put behind a list of steps.
 pub record Drives (w : WorldOf) (before : List Step) (v : WorldOf) (after : List Step) : Type 0 where

@@ -1,7 +1,7 @@
 //! The run of a world over links.
 
 ghost use Rattle.std.specs.Prelude.{◌≡◌, ◌≤◌, ◌<◌, ◌+◌, ◌-◌, ◌^◌, IfErr, IfOk, OnErr, OnOk, length, map, true};
-ghost use Rattle.fw_edge.specs.Drives.{Drives, Goes, all_over, ticks_in};
+ghost use Rattle.fw_edge.specs.Drives.{Drives, DrivesLiving, Goes, all_over, ticks_in};
 ghost use Rattle.fw_edge.specs.Ledgers.{OneFailed};
 
 use crate::link::Link;
@@ -86,8 +86,43 @@ fn turn<B: Bank + Drop, L: Link>(
     Ok(frames)
 }
 
+/// Takes so many turns, or fewer where each session is Done or Failed before.
+fn take_turns<B: Bank + Drop, L: Link>(
+    world: &mut World<'_, B>,
+    links: &mut [L],
+    written: &mut [usize],
+    turns: u32,
+    steps: &mut Vec<Step>,
+) -> Result<Driven, EdgeFault>
+    requires few { length links.old ≤ 16 }
+    requires written { length written.old ≡ length links.old }
+    ensures drives { Drives world.old steps.old.items world.new steps.new.items }
+    ensures ticks { IfOk result (λ d. ticks_in steps.new.items ≡ ticks_in steps.old.items + d.turns) }
+    ensures within { IfOk result (λ d. d.turns ≤ turns) }
+    ensures ended { IfOk result (λ d. d.turns < turns → all_over world.new ≡ true) }
+    ensures kept { OnOk result (map (λ l. (L.tally l).failures) links.new ≡ map (λ l. (L.tally l).failures) links.old) }
+    ensures frame { IfErr result (λ e. e ≡ EdgeFault.Frame → OneFailed (map (λ l. (L.tally l).failures) links.old) (map (λ l. (L.tally l).failures) links.new)) }
+    ensures step { IfErr result (λ e. e ≡ EdgeFault.Step → world.new.now ≡ 2 ^ 32 - 1) }
+{
+    let mut foreign = 0;
+    for count in 0..turns {
+        if all_over(world) {
+            return Ok(Driven {
+                turns: count,
+                foreign,
+            });
+        }
+        match turn(world, links, written, steps) {
+            Ok(frames) => foreign += frames.foreign as u64,
+            Err(fault) => return Err(fault),
+        }
+    }
+    Ok(Driven { turns, foreign })
+}
+
 /// Runs a world over links, one for each device, in configured order, for so many turns, or until each session is Done or
-/// Failed, which is tested before each turn. The steps that are taken are put behind those of the list, whatever the outcome.
+/// Failed, which is tested before each turn. The steps that are taken are put behind those of the list, whatever the outcome;
+/// the room for each is made before it is taken.
 ///
 /// A turn is a tick; then rounds, in which what was sent since the run began and isn't written goes out, and a frame is read
 /// at each end of each link, the device's first; then the verdicts that devices wait for, and the activations that sessions
@@ -104,8 +139,7 @@ pub fn drive<B: Bank + Drop, L: Link>(
     steps: &mut Vec<Step>,
 ) -> Result<Driven, EdgeFault>
     requires few { length links.old ≤ 16 }
-    ensures ok { OnOk result (Drives world.old steps.old.items world.new steps.new.items) }
-    ensures stopped { OnErr result (Drives world.old steps.old.items world.new steps.new.items) }
+    ensures drives { DrivesLiving world.old steps.old.items world.new steps.new.items }
     ensures ticks { IfOk result (λ d. ticks_in steps.new.items ≡ ticks_in steps.old.items + d.turns) }
     ensures within { IfOk result (λ d. d.turns ≤ turns) }
     ensures ended { IfOk result (λ d. d.turns < turns → all_over world.new ≡ true) }
@@ -114,18 +148,5 @@ pub fn drive<B: Bank + Drop, L: Link>(
     ensures step { IfErr result (λ e. e ≡ EdgeFault.Step → world.new.now ≡ 2 ^ 32 - 1) }
 {
     let mut written = all_sent(world, links.len());
-    let mut foreign = 0;
-    for count in 0..turns {
-        if all_over(world) {
-            return Ok(Driven {
-                turns: count,
-                foreign,
-            });
-        }
-        match turn(world, links, written.as_mut_slice(), steps) {
-            Ok(frames) => foreign += frames.foreign as u64,
-            Err(fault) => return Err(fault),
-        }
-    }
-    Ok(Driven { turns, foreign })
+    take_turns(world, links, written.as_mut_slice(), turns, steps)
 }

@@ -1,6 +1,6 @@
 use Rattle.std.proofs.Common.{◌≡◌, ◌≤◌, ◌+◌, ◌*◌, length, map}
 use Rattle.fw_edge.specs.Drives.{Drives, ticks_in}
-use Rattle.fw_edge.proofs.driving.drive.Given as goal
+use Rattle.fw_edge.proofs.driving.take_turns.Given as goal
 
 -- so many turns were taken
 abbrev pub invariant-loop-count : goal.invariant-loop-count
@@ -9,6 +9,6 @@ invariant-loop-count g l = record {
   ticks : ticks_in l.steps.items ≡ ticks_in l.fn.steps.items + l.count;
   kept : map (λ k. (g.L.Link.tally k).failures) l.links ≡ map (λ k. (g.L.Link.tally k).failures) l.fn.links;
   same : length l.links ≡ length l.fn.links;
-  written : length l.written.items ≡ length l.links;
+  written : length l.written ≡ length l.links;
   few : l.foreign ≤ 1055 * l.count;
 }
