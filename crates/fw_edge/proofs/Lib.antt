@@ -4,5 +4,7 @@ mod Failing
 mod Frames
 mod Going
 mod Latest
+mod Opening
 mod Overs
 mod Pieces
+mod Rising

@@ -1,8 +1,8 @@
 //! The run of a world over links.
 
-ghost use Rattle.std.specs.Prelude.{◌≡◌, ◌≤◌, ◌<◌, ◌+◌, ◌-◌, ◌^◌, IfErr, IfOk, OnErr, OnOk, length, map, true};
-ghost use Rattle.fw_edge.specs.Drives.{Drives, DrivesLiving, Goes, all_over, ticks_in};
-ghost use Rattle.fw_edge.specs.Ledgers.{OneFailed};
+ghost use Rattle.std.specs.Prelude.{◌≡◌, ◌≤◌, ◌<◌, ◌+◌, ◌-◌, ◌*◌, ◌^◌, IfErr, IfOk, OnErr, OnOk, length, map, true};
+ghost use Rattle.fw_edge.specs.Drives.{Drives, DrivesLiving, Goes, all_over, delivers_in, ticks_in};
+ghost use Rattle.fw_edge.specs.Ledgers.{AllRose, AreGiven, OneFailed, RoseTogether};
 
 use crate::link::Link;
 use crate::outgoing::sent_at;
@@ -61,6 +61,8 @@ fn turn<B: Bank + Drop, L: Link>(
     ensures goes { IfOk result (λ f. Goes world.old steps.old.items world.new steps.new.items 1 f.known) }
     ensures few { IfOk result (λ f. f.known + f.foreign ≤ 1055) }
     ensures kept { IfOk result (λ f. map (λ l. (L.tally l).failures) links.new ≡ map (λ l. (L.tally l).failures) links.old) }
+    ensures asked { IfOk result (λ f. AllRose 2 (map (λ l. (L.tally l).asked) links.old) (map (λ l. (L.tally l).asked) links.new)) }
+    ensures given { IfOk result (λ f. RoseTogether (f.known + f.foreign) (map (λ l. (L.tally l).given) links.old) (map (λ l. (L.tally l).given) links.new)) }
     ensures drives { OnErr result (Drives world.old steps.old.items world.new steps.new.items) }
     ensures failed { IfErr result (λ e. e ≡ EdgeFault.Frame → OneFailed (map (λ l. (L.tally l).failures) links.old) (map (λ l. (L.tally l).failures) links.new)) }
     ensures end { IfErr result (λ e. e ≡ EdgeFault.Step → world.new.now ≡ 2 ^ 32 - 1) }
@@ -101,6 +103,8 @@ fn take_turns<B: Bank + Drop, L: Link>(
     ensures within { IfOk result (λ d. d.turns ≤ turns) }
     ensures ended { IfOk result (λ d. d.turns < turns → all_over world.new ≡ true) }
     ensures kept { OnOk result (map (λ l. (L.tally l).failures) links.new ≡ map (λ l. (L.tally l).failures) links.old) }
+    ensures asked { IfOk result (λ d. AllRose (2 * d.turns) (map (λ l. (L.tally l).asked) links.old) (map (λ l. (L.tally l).asked) links.new)) }
+    ensures given { IfOk result (λ d. AreGiven (delivers_in steps.old.items) (delivers_in steps.new.items) d.foreign (map (λ l. (L.tally l).given) links.old) (map (λ l. (L.tally l).given) links.new)) }
     ensures frame { IfErr result (λ e. e ≡ EdgeFault.Frame → OneFailed (map (λ l. (L.tally l).failures) links.old) (map (λ l. (L.tally l).failures) links.new)) }
     ensures step { IfErr result (λ e. e ≡ EdgeFault.Step → world.new.now ≡ 2 ^ 32 - 1) }
 {
@@ -144,6 +148,8 @@ pub fn drive<B: Bank + Drop, L: Link>(
     ensures within { IfOk result (λ d. d.turns ≤ turns) }
     ensures ended { IfOk result (λ d. d.turns < turns → all_over world.new ≡ true) }
     ensures kept { OnOk result (map (λ l. (L.tally l).failures) links.new ≡ map (λ l. (L.tally l).failures) links.old) }
+    ensures asked { IfOk result (λ d. AllRose (2 * d.turns) (map (λ l. (L.tally l).asked) links.old) (map (λ l. (L.tally l).asked) links.new)) }
+    ensures given { IfOk result (λ d. AreGiven (delivers_in steps.old.items) (delivers_in steps.new.items) d.foreign (map (λ l. (L.tally l).given) links.old) (map (λ l. (L.tally l).given) links.new)) }
     ensures frame { IfErr result (λ e. e ≡ EdgeFault.Frame → OneFailed (map (λ l. (L.tally l).failures) links.old) (map (λ l. (L.tally l).failures) links.new)) }
     ensures step { IfErr result (λ e. e ≡ EdgeFault.Step → world.new.now ≡ 2 ^ 32 - 1) }
 {

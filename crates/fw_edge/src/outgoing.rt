@@ -51,6 +51,8 @@ fn write_at<B: Bank + Drop, L: Link>(
     written: usize,
 ) -> Result<(), EdgeFault>
     ensures kept { OnOk result ((L.tally link.new).failures ≡ (L.tally link.old).failures) }
+    ensures asked { OnOk result ((L.tally link.new).asked ≡ (L.tally link.old).asked) }
+    ensures given { OnOk result ((L.tally link.new).given ≡ (L.tally link.old).given) }
     ensures fault { IfErr result (λ e. e ≡ EdgeFault.Frame) }
     ensures failed { OnErr result (HasFailed (L.tally link.old).failures (L.tally link.new).failures) }
 {
@@ -72,6 +74,8 @@ pub(crate) fn write_out<B: Bank + Drop, L: Link>(
 ) -> Result<(), EdgeFault>
     requires { length written.old ≡ length links.old }
     ensures kept { OnOk result (map (λ l. (L.tally l).failures) links.new ≡ map (λ l. (L.tally l).failures) links.old) }
+    ensures asked { OnOk result (map (λ l. (L.tally l).asked) links.new ≡ map (λ l. (L.tally l).asked) links.old) }
+    ensures given { OnOk result (map (λ l. (L.tally l).given) links.new ≡ map (λ l. (L.tally l).given) links.old) }
     ensures fault { IfErr result (λ e. e ≡ EdgeFault.Frame) }
     ensures failed { OnErr result (OneFailed (map (λ l. (L.tally l).failures) links.old) (map (λ l. (L.tally l).failures) links.new)) }
     ensures links { length links.new ≡ length links.old }

@@ -3,7 +3,7 @@
 ghost use Rattle.std.specs.Prelude.{◌≡◌, ◌≢◌, ◌≤◌, ◌<◌, ◌+◌, ◌⊎◌, IfErr, IfOk, IfSome, None, OnErr, length, map};
 ghost use Rattle.fw_edge.specs.Drives.{Drives, Goes};
 ghost use Rattle.fw_edge.specs.Hearing.{IsHeard};
-ghost use Rattle.fw_edge.specs.Ledgers.{HasFailed, OneFailed, Reads};
+ghost use Rattle.fw_edge.specs.Ledgers.{AllRose, HasFailed, OneFailed, Reads, RoseTogether};
 ghost use Rattle.fw_world.specs.Replays.{may_step};
 ghost use Rattle.fw_world.specs.declared.step.Step.{Step};
 
@@ -176,6 +176,8 @@ fn read_round<B: Bank + Drop, L: Link>(
     ensures goes { IfOk result (λ f. Goes world.old steps.old.items world.new steps.new.items 0 f.known) }
     ensures few { IfOk result (λ f. f.known + f.foreign ≤ 32) }
     ensures kept { IfOk result (λ f. map (λ l. (L.tally l).failures) links.new ≡ map (λ l. (L.tally l).failures) links.old) }
+    ensures asked { IfOk result (λ f. AllRose 2 (map (λ l. (L.tally l).asked) links.old) (map (λ l. (L.tally l).asked) links.new)) }
+    ensures given { IfOk result (λ f. RoseTogether (f.known + f.foreign) (map (λ l. (L.tally l).given) links.old) (map (λ l. (L.tally l).given) links.new)) }
     ensures drives { OnErr result (Drives world.old steps.old.items world.new steps.new.items) }
     ensures fault { IfErr result (λ e. e ≢ EdgeFault.Step) }
     ensures failed { IfErr result (λ e. e ≡ EdgeFault.Frame → OneFailed (map (λ l. (L.tally l).failures) links.old) (map (λ l. (L.tally l).failures) links.new)) }
@@ -205,6 +207,8 @@ fn round<B: Bank + Drop, L: Link>(
     ensures goes { IfOk result (λ f. Goes world.old steps.old.items world.new steps.new.items 0 f.known) }
     ensures few { IfOk result (λ f. f.known + f.foreign ≤ 32) }
     ensures kept { IfOk result (λ f. map (λ l. (L.tally l).failures) links.new ≡ map (λ l. (L.tally l).failures) links.old) }
+    ensures asked { IfOk result (λ f. AllRose 2 (map (λ l. (L.tally l).asked) links.old) (map (λ l. (L.tally l).asked) links.new)) }
+    ensures given { IfOk result (λ f. RoseTogether (f.known + f.foreign) (map (λ l. (L.tally l).given) links.old) (map (λ l. (L.tally l).given) links.new)) }
     ensures drives { OnErr result (Drives world.old steps.old.items world.new steps.new.items) }
     ensures fault { IfErr result (λ e. e ≢ EdgeFault.Step) }
     ensures failed { IfErr result (λ e. e ≡ EdgeFault.Frame → OneFailed (map (λ l. (L.tally l).failures) links.old) (map (λ l. (L.tally l).failures) links.new)) }
@@ -215,10 +219,11 @@ fn round<B: Bank + Drop, L: Link>(
         Ok(()) => {}
         Err(fault) => return Err(fault),
     }
-    match read_round(world, links, steps) {
-        Ok(frames) => Ok(frames),
-        Err(fault) => Err(fault),
-    }
+    let frames = match read_round(world, links, steps) {
+        Ok(frames) => frames,
+        Err(fault) => return Err(fault),
+    };
+    Ok(frames)
 }
 
 /// The rounds of a turn. The last one reads no frame, or is the one in which the turn has read enough.
@@ -233,6 +238,8 @@ fn rounds<B: Bank + Drop, L: Link>(
     ensures goes { IfOk result (λ f. Goes world.old steps.old.items world.new steps.new.items 0 f.known) }
     ensures few { IfOk result (λ f. f.known + f.foreign ≤ 1055) }
     ensures kept { IfOk result (λ f. map (λ l. (L.tally l).failures) links.new ≡ map (λ l. (L.tally l).failures) links.old) }
+    ensures asked { IfOk result (λ f. AllRose 2 (map (λ l. (L.tally l).asked) links.old) (map (λ l. (L.tally l).asked) links.new)) }
+    ensures given { IfOk result (λ f. RoseTogether (f.known + f.foreign) (map (λ l. (L.tally l).given) links.old) (map (λ l. (L.tally l).given) links.new)) }
     ensures drives { OnErr result (Drives world.old steps.old.items world.new steps.new.items) }
     ensures fault { IfErr result (λ e. e ≢ EdgeFault.Step) }
     ensures failed { IfErr result (λ e. e ≡ EdgeFault.Frame → OneFailed (map (λ l. (L.tally l).failures) links.old) (map (λ l. (L.tally l).failures) links.new)) }
@@ -265,6 +272,8 @@ pub(crate) fn exchange<B: Bank + Drop, L: Link>(
     ensures goes { IfOk result (λ f. Goes world.old steps.old.items world.new steps.new.items 0 f.known) }
     ensures few { IfOk result (λ f. f.known + f.foreign ≤ 1055) }
     ensures kept { IfOk result (λ f. map (λ l. (L.tally l).failures) links.new ≡ map (λ l. (L.tally l).failures) links.old) }
+    ensures asked { IfOk result (λ f. AllRose 2 (map (λ l. (L.tally l).asked) links.old) (map (λ l. (L.tally l).asked) links.new)) }
+    ensures given { IfOk result (λ f. RoseTogether (f.known + f.foreign) (map (λ l. (L.tally l).given) links.old) (map (λ l. (L.tally l).given) links.new)) }
     ensures drives { OnErr result (Drives world.old steps.old.items world.new steps.new.items) }
     ensures fault { IfErr result (λ e. e ≢ EdgeFault.Step) }
     ensures failed { IfErr result (λ e. e ≡ EdgeFault.Frame → OneFailed (map (λ l. (L.tally l).failures) links.old) (map (λ l. (L.tally l).failures) links.new)) }

@@ -77,7 +77,7 @@ fn device(alloc: Global) -> Result<Device<MemBank>, AllocError>
 }
 
 /// The node of such a device.
-#[tactic(auto, using(fw_world::proofs::Opening::new_node))]
+#[tactic(auto, using(crate::proofs::Opening::new_node))]
 fn node(alloc: Global, eid: u8) -> Result<DeviceNode<MemBank>, AllocError>
     requires { IsEid eid }
     ensures new { IfOk result (IsNewNode 8) }

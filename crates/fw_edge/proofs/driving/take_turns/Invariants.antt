@@ -1,5 +1,6 @@
 use Rattle.std.proofs.Common.{◌≡◌, ◌≤◌, ◌+◌, ◌*◌, length, map}
-use Rattle.fw_edge.specs.Drives.{Drives, ticks_in}
+use Rattle.fw_edge.specs.Drives.{Drives, delivers_in, ticks_in}
+use Rattle.fw_edge.specs.Ledgers.{AllRose, AreGiven}
 use Rattle.fw_edge.proofs.driving.take_turns.Given as goal
 
 -- so many turns were taken
@@ -11,4 +12,6 @@ invariant-loop-count g l = record {
   same : length l.links ≡ length l.fn.links;
   written : length l.written ≡ length l.links;
   few : l.foreign ≤ 1055 * l.count;
+  asked : AllRose (2 * l.count) (map (λ k. (g.L.Link.tally k).asked) l.fn.links) (map (λ k. (g.L.Link.tally k).asked) l.links);
+  given : AreGiven (delivers_in l.fn.steps.items) (delivers_in l.steps.items) l.foreign (map (λ k. (g.L.Link.tally k).given) l.fn.links) (map (λ k. (g.L.Link.tally k).given) l.links);
 }
