@@ -1,0 +1,18 @@
+-- Links of which one failed, or none.
+use Rattle.std.proofs.Common.{◌≡◌, ◌<◌, ◌∙◌, ℕ, zero, suc, List, [], ◌∷◌, get_or, inl, inr, length, map, slice_set, subst, arith}
+use Rattle.std.proofs.Math.Seq.{map-set_same}
+use Rattle.fw_edge.specs.Ledgers.{HasFailed, OneFailed}
+
+-- one is replaced by another that failed
+failed_put : {A : Type 0} (f : A → ℕ) (xs : List A) (i : ℕ) (d y : A) → i < length xs → HasFailed (f (get_or xs i d)) (f y) → OneFailed (map f xs) (map f (slice_set xs i y))
+failed_put f [] i d y lt h = absurd (omega arith)
+failed_put f (x ∷ xs) zero d y lt h = inl h
+failed_put f (x ∷ xs) (suc i) d y lt h = inr (failed_put f xs i d y (omega arith) h)
+
+-- where all counted this first
+pub failed_from : {A : Type 0} (f : A → ℕ) (os : List ℕ) (xs : List A) (i : ℕ) (d y : A) → map f xs ≡ os → i < length xs → HasFailed (f (get_or xs i d)) (f y) → OneFailed os (map f (slice_set xs i y))
+failed_from f os xs i d y e lt h = subst (λ o. OneFailed o (map f (slice_set xs i y))) e (failed_put f xs i d y lt h)
+
+-- by another that counts the same
+pub same_from : {A : Type 0} (f : A → ℕ) (os : List ℕ) (xs : List A) (i : ℕ) (d y : A) → map f xs ≡ os → f y ≡ f (get_or xs i d) → map f (slice_set xs i y) ≡ os
+same_from f os xs i d y e same = map-set_same f xs i y d same ∙ e

@@ -1,0 +1,10 @@
+mod Alive
+mod Arriving
+mod Failing
+mod Frames
+mod Going
+mod Latest
+mod Opening
+mod Overs
+mod Pieces
+mod Rising

@@ -1,0 +1,17 @@
+use Rattle.std.proofs.Common.{◌≡◌, ◌≤◌, ◌+◌, ◌*◌, length, map}
+use Rattle.fw_edge.specs.Drives.{Drives, delivers_in, ticks_in}
+use Rattle.fw_edge.specs.Ledgers.{AllRose, AreGiven}
+use Rattle.fw_edge.proofs.driving.take_turns.Given as goal
+
+-- so many turns were taken
+abbrev pub invariant-loop-count : goal.invariant-loop-count
+invariant-loop-count g l = record {
+  drives : Drives l.fn.world l.fn.steps.items l.world l.steps.items;
+  ticks : ticks_in l.steps.items ≡ ticks_in l.fn.steps.items + l.count;
+  kept : map (λ k. (g.L.Link.tally k).failures) l.links ≡ map (λ k. (g.L.Link.tally k).failures) l.fn.links;
+  same : length l.links ≡ length l.fn.links;
+  written : length l.written ≡ length l.links;
+  few : l.foreign ≤ 1055 * l.count;
+  asked : AllRose (2 * l.count) (map (λ k. (g.L.Link.tally k).asked) l.fn.links) (map (λ k. (g.L.Link.tally k).asked) l.links);
+  given : AreGiven (delivers_in l.fn.steps.items) (delivers_in l.steps.items) l.foreign (map (λ k. (g.L.Link.tally k).given) l.fn.links) (map (λ k. (g.L.Link.tally k).given) l.links);
+}

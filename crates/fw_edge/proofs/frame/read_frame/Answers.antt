@@ -1,0 +1,17 @@
+use Rattle.std.proofs.Common.{◌≡◌, ◌<◌, ◌∙◌, ap, arith, length}
+use Rattle.byteorder.specs.Endian.{little_number}
+use Rattle.fw_edge.proofs.Frames.{ends_after, part_after}
+use Rattle.fw_edge.proofs.frame.read_frame.Goals as goal
+
+pub returns-in-Err-read_up_to-clause-fault : goal.returns-in-Err-read_up_to-clause-fault
+returns-in-Err-read_up_to-clause-fault g c =
+    let two : length c.in-Ok.head.items ≡ 2 = omega (arith, c.in-Ok.ensures.within, c.len.ensures.value) in
+    let is : c.from-size.result ≡ little_number 2 c.in-Ok.head.items = c.from-size.ensures ∙ c.read_u16.ensures ∙ ap (little_number 2) c.as_slice.ensures.value in
+    rw c.in-Err-read_up_to.ensures.fault.0 (part_after _ _ _ c.in-Ok.head.items c.from-size.result two is c.in-Ok.ensures.bytes c.in-Err-read_up_to.ensures.fault.1)
+
+pub returns-then-len-size-clause-fault : goal.returns-then-len-size-clause-fault
+returns-then-len-size-clause-fault g c =
+    let two : length c.in-Ok.head.items ≡ 2 = omega (arith, c.in-Ok.ensures.within, c.len.ensures.value) in
+    let is : c.from-size.result ≡ little_number 2 c.in-Ok.head.items = c.from-size.ensures ∙ c.read_u16.ensures ∙ ap (little_number 2) c.as_slice.ensures.value in
+    let less : length c.in-Ok-read_up_to.packet.items < c.from-size.result = omega (arith, c.len-2.ensures.value) in
+    ends_after _ _ _ c.in-Ok.head.items c.in-Ok-read_up_to.packet.items c.from-size.result two is c.in-Ok.ensures.bytes c.in-Ok-read_up_to.ensures.bytes less (c.in-Ok-read_up_to.ensures.end less)

@@ -1,0 +1,10 @@
+use Rattle.std.proofs.Common.{◌≡◌, map}
+use Rattle.fw_edge.proofs.outgoing.write_out.Given as goal
+
+-- none failed, was asked, or gave
+abbrev pub invariant-loop-place : goal.invariant-loop-place
+invariant-loop-place g l = record {
+  kept : map (λ k. (g.L.Link.tally k).failures) l.links ≡ map (λ k. (g.L.Link.tally k).failures) l.fn.links;
+  asked : map (λ k. (g.L.Link.tally k).asked) l.links ≡ map (λ k. (g.L.Link.tally k).asked) l.fn.links;
+  given : map (λ k. (g.L.Link.tally k).given) l.links ≡ map (λ k. (g.L.Link.tally k).given) l.fn.links;
+}

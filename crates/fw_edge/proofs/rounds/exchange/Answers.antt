@@ -1,0 +1,12 @@
+use Rattle.std.proofs.Common.{◌+◌, map}
+use Rattle.fw_edge.proofs.Rising.{rose_to, together_to}
+use Rattle.fw_edge.proofs.rounds.exchange.Goals as goal
+
+pub returns-clause-asked : goal.returns-clause-asked
+returns-clause-asked g c =
+    rose_to 2 (map (λ k. (g.L.Link.tally k).asked) c.args.links.now) (map (λ k. (g.L.Link.tally k).asked) c.rounds.new.links) (map (λ k. (g.L.Link.tally k).asked) c.write_out.new.links) c.in-Ok-write_out.ensures.asked c.in-Ok.ensures.asked
+
+pub returns-clause-given : goal.returns-clause-given
+returns-clause-given g c =
+    together_to (c.in-Ok.frames.known + c.in-Ok.frames.foreign) (map (λ k. (g.L.Link.tally k).given) c.args.links.now) (map (λ k. (g.L.Link.tally k).given) c.rounds.new.links) (map (λ k. (g.L.Link.tally k).given) c.write_out.new.links)
+    c.in-Ok-write_out.ensures.given c.in-Ok.ensures.given

@@ -1,0 +1,13 @@
+use Rattle.std.proofs.Common.{refl}
+use Rattle.fw_edge.proofs.Going.{goes_off, goes_sum}
+use Rattle.fw_edge.proofs.rounds.read_both.Goals as goal
+
+pub returns-in-Err-read_end-clause-drives : goal.returns-in-Err-read_end-clause-drives
+returns-in-Err-read_end-clause-drives g c =
+    goes_off c.args.world.now c.read_end.new.world c.read_end-2.new.world c.args.steps.now.items c.read_end.new.steps.items c.read_end-2.new.steps.items
+    0 c.in-Ok.frames.known c.in-Ok.ensures.goes c.in-Err-read_end.ensures.drives
+
+pub returns-clause-goes : goal.returns-clause-goes
+returns-clause-goes g c =
+    goes_sum c.args.world.now c.read_end.new.world c.read_end-2.new.world c.args.steps.now.items c.read_end.new.steps.items c.read_end-2.new.steps.items
+    0 c.in-Ok.frames.known 0 c.in-Ok-read_end.frames.known 0 c.and.result.known c.in-Ok.ensures.goes c.in-Ok-read_end.ensures.goes refl c.and.ensures.known

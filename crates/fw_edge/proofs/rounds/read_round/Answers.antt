@@ -1,0 +1,48 @@
+use Rattle.std.proofs.Common.{◌+◌, arith, map, refl}
+use Rattle.fw_edge.proofs.Failing.{failed_from, same_from}
+use Rattle.fw_edge.proofs.Going.{goes_none, goes_off, goes_sum}
+use Rattle.fw_edge.proofs.Rising.{map_length, rose_all, rose_next, together_next, together_none}
+use Rattle.fw_edge.proofs.rounds.read_round.Goals as goal
+
+pub returns-in-Err-clause-drives : goal.returns-in-Err-clause-drives
+returns-in-Err-clause-drives g c =
+    goes_off c.args.world.now c.loop-place.world c.read_both.new.world c.args.steps.now.items c.loop-place.steps.items c.read_both.new.steps.items
+    0 c.loop-place.frames.known c.loop-place.invariant.goes c.in-Err.ensures.drives
+
+pub returns-in-Err-clause-failed : goal.returns-in-Err-clause-failed
+returns-in-Err-clause-failed g c =
+    λ is. failed_from (λ k. (g.L.Link.tally k).failures) (map (λ k. (g.L.Link.tally k).failures) c.args.links.now) c.loop-place.links c.loop-place.place c.index-links-place.result c.read_both.new.link
+    c.loop-place.invariant.kept (omega arith) (c.in-Err.ensures.failed is)
+
+pub loop-place-preserved : goal.loop-place-preserved
+loop-place-preserved g c = record {
+  goes =
+      goes_sum c.args.world.now c.loop-place.world c.read_both.new.world c.args.steps.now.items c.loop-place.steps.items c.read_both.new.steps.items
+      0 c.loop-place.frames.known 0 c.in-Ok.more.known 0 c.and-frames.result.known c.loop-place.invariant.goes c.in-Ok.ensures.goes refl c.and-frames.ensures.known;
+  few = omega (arith, c.in-Ok.ensures.few, c.and-frames.ensures.known, c.and-frames.ensures.foreign);
+  kept =
+      same_from (λ k. (g.L.Link.tally k).failures) (map (λ k. (g.L.Link.tally k).failures) c.args.links.now) c.loop-place.links c.loop-place.place c.index-links-place.result c.read_both.new.link
+      c.loop-place.invariant.kept c.in-Ok.ensures.reads.failures;
+  asked =
+      rose_next (λ k. (g.L.Link.tally k).asked) 2 (map (λ k. (g.L.Link.tally k).asked) c.args.links.now) c.loop-place.links c.loop-place.place c.index-links-place.result c.read_both.new.link
+      (omega arith) c.in-Ok.ensures.reads.asked_rise c.loop-place.invariant.asked;
+  given =
+      together_next (λ k. (g.L.Link.tally k).given) (c.loop-place.frames.known + c.loop-place.frames.foreign) (c.in-Ok.more.known + c.in-Ok.more.foreign)
+      (c.and-frames.result.known + c.and-frames.result.foreign) (map (λ k. (g.L.Link.tally k).given) c.args.links.now) c.loop-place.links c.loop-place.place
+      c.index-links-place.result c.read_both.new.link (omega arith) c.in-Ok.ensures.reads.given_rise (omega (arith, c.and-frames.ensures.known, c.and-frames.ensures.foreign))
+      c.loop-place.invariant.given;
+}
+
+pub loop-place-init : goal.loop-place-init
+loop-place-init g c = record {
+  goes = rw c.none-frames.ensures.known (goes_none c.args.world.now c.args.steps.now.items);
+  few = omega (arith, c.none-frames.ensures.known, c.none-frames.ensures.foreign);
+  kept = refl;
+  asked = refl;
+  given = rw (c.none-frames.ensures.known, c.none-frames.ensures.foreign) (together_none (map (λ k. (g.L.Link.tally k).given) c.args.links.now) (map (λ k. (g.L.Link.tally k).given) c.args.links.now) refl);
+}
+
+pub returns-clause-asked : goal.returns-clause-asked
+returns-clause-asked g c =
+    rose_all 2 c.loop-place.place (map (λ k. (g.L.Link.tally k).asked) c.args.links.now) (map (λ k. (g.L.Link.tally k).asked) c.loop-place.links)
+    (rw (map_length (λ k. (g.L.Link.tally k).asked) c.args.links.now) (omega arith)) c.loop-place.invariant.asked

@@ -1,0 +1,12 @@
+use Rattle.std.proofs.Common.{◌+◌, map}
+use Rattle.fw_edge.proofs.Rising.{rose_from, together_from}
+use Rattle.fw_edge.proofs.rounds.round.Goals as goal
+
+pub returns-clause-asked : goal.returns-clause-asked
+returns-clause-asked g c =
+    rose_from 2 (map (λ k. (g.L.Link.tally k).asked) c.args.links.now) (map (λ k. (g.L.Link.tally k).asked) c.write_out.new.links) (map (λ k. (g.L.Link.tally k).asked) c.read_round.new.links) c.in-Ok.ensures.asked c.in-Ok-read_round.ensures.asked
+
+pub returns-clause-given : goal.returns-clause-given
+returns-clause-given g c =
+    together_from (c.in-Ok-read_round.frames.known + c.in-Ok-read_round.frames.foreign) (map (λ k. (g.L.Link.tally k).given) c.args.links.now) (map (λ k. (g.L.Link.tally k).given) c.write_out.new.links) (map (λ k. (g.L.Link.tally k).given) c.read_round.new.links)
+    c.in-Ok.ensures.given c.in-Ok-read_round.ensures.given

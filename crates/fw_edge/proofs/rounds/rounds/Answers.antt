@@ -1,0 +1,54 @@
+use Rattle.std.proofs.Common.{◌∙◌, ◌+◌, ◌*◌, arith, map, refl}
+use Rattle.fw_edge.proofs.Going.{goes_none, goes_off, goes_sum}
+use Rattle.fw_edge.proofs.Rising.{rose_less, rose_none, rose_on, together_none, together_sum}
+use Rattle.fw_edge.proofs.rounds.rounds.Goals as goal
+
+pub returns-in-Err-clause-drives : goal.returns-in-Err-clause-drives
+returns-in-Err-clause-drives g c =
+    goes_off c.args.world.now c.loop.world c.round.new.world c.args.steps.now.items c.loop.steps.items c.round.new.steps.items
+    0 c.loop.frames.known c.loop.invariant.goes c.in-Err.ensures.drives
+
+pub returns-then-count-eq0-clause-goes : goal.returns-then-count-eq0-clause-goes
+returns-then-count-eq0-clause-goes g c =
+    goes_sum c.args.world.now c.loop.world c.round.new.world c.args.steps.now.items c.loop.steps.items c.round.new.steps.items
+    0 c.loop.frames.known 0 c.in-Ok.more.known 0 c.and-frames.result.known c.loop.invariant.goes c.in-Ok.ensures.goes refl c.and-frames.ensures.known
+
+pub loop-preserved : goal.loop-preserved
+loop-preserved g c = record {
+  goes =
+      goes_sum c.args.world.now c.loop.world c.round.new.world c.args.steps.now.items c.loop.steps.items c.round.new.steps.items
+      0 c.loop.frames.known 0 c.in-Ok.more.known 0 c.and-frames.result.known c.loop.invariant.goes c.in-Ok.ensures.goes refl c.and-frames.ensures.known;
+  few = omega (arith, c.count-else-count-eq0.ensures);
+  kept = c.in-Ok.ensures.kept ∙ c.loop.invariant.kept;
+  asked =
+      rose_less (2 * (c.loop.counter + 1)) (2 * c.loop.counter + 2) (map (λ k. (g.L.Link.tally k).asked) c.args.links.now) (map (λ k. (g.L.Link.tally k).asked) c.round.new.links) (omega arith)
+      (rose_on (2 * c.loop.counter) 2 (map (λ k. (g.L.Link.tally k).asked) c.args.links.now) (map (λ k. (g.L.Link.tally k).asked) c.loop.links) (map (λ k. (g.L.Link.tally k).asked) c.round.new.links) c.loop.invariant.asked c.in-Ok.ensures.asked);
+  given =
+      together_sum (c.loop.frames.known + c.loop.frames.foreign) (c.in-Ok.more.known + c.in-Ok.more.foreign) (c.and-frames.result.known + c.and-frames.result.foreign)
+      (map (λ k. (g.L.Link.tally k).given) c.args.links.now) (map (λ k. (g.L.Link.tally k).given) c.loop.links) (map (λ k. (g.L.Link.tally k).given) c.round.new.links)
+      (omega (arith, c.and-frames.ensures.known, c.and-frames.ensures.foreign)) c.loop.invariant.given c.in-Ok.ensures.given;
+}
+
+pub loop-init : goal.loop-init
+loop-init g c = record {
+  goes = rw c.none-frames.ensures.known (goes_none c.args.world.now c.args.steps.now.items);
+  few = omega (arith, c.none-frames.ensures.known, c.none-frames.ensures.foreign);
+  kept = refl;
+  asked = rose_none (map (λ k. (g.L.Link.tally k).asked) c.args.links.now);
+  given = rw (c.none-frames.ensures.known, c.none-frames.ensures.foreign) (together_none (map (λ k. (g.L.Link.tally k).given) c.args.links.now) (map (λ k. (g.L.Link.tally k).given) c.args.links.now) refl);
+}
+
+pub returns-then-count-eq0-clause-asked : goal.returns-then-count-eq0-clause-asked
+returns-then-count-eq0-clause-asked g c =
+    rose_less 2 (2 * c.loop.counter + 2) (map (λ k. (g.L.Link.tally k).asked) c.args.links.now) (map (λ k. (g.L.Link.tally k).asked) c.round.new.links) (omega arith)
+    (rose_on (2 * c.loop.counter) 2 (map (λ k. (g.L.Link.tally k).asked) c.args.links.now) (map (λ k. (g.L.Link.tally k).asked) c.loop.links) (map (λ k. (g.L.Link.tally k).asked) c.round.new.links) c.loop.invariant.asked c.in-Ok.ensures.asked)
+
+pub returns-then-count-eq0-clause-given : goal.returns-then-count-eq0-clause-given
+returns-then-count-eq0-clause-given g c =
+    together_sum (c.loop.frames.known + c.loop.frames.foreign) (c.in-Ok.more.known + c.in-Ok.more.foreign) (c.and-frames.result.known + c.and-frames.result.foreign)
+    (map (λ k. (g.L.Link.tally k).given) c.args.links.now) (map (λ k. (g.L.Link.tally k).given) c.loop.links) (map (λ k. (g.L.Link.tally k).given) c.round.new.links)
+    (omega (arith, c.and-frames.ensures.known, c.and-frames.ensures.foreign)) c.loop.invariant.given c.in-Ok.ensures.given
+
+pub returns-clause-asked : goal.returns-clause-asked
+returns-clause-asked g c =
+    rose_less 2 (2 * c.loop.counter) (map (λ k. (g.L.Link.tally k).asked) c.args.links.now) (map (λ k. (g.L.Link.tally k).asked) c.loop.links) (omega arith) c.loop.invariant.asked

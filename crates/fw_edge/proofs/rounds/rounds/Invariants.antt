@@ -1,0 +1,14 @@
+use Rattle.std.proofs.Common.{◌≡◌, ◌<◌, ◌+◌, ◌*◌, map}
+use Rattle.fw_edge.specs.Drives.{Goes}
+use Rattle.fw_edge.specs.Ledgers.{AllRose, RoseTogether}
+use Rattle.fw_edge.proofs.rounds.rounds.Given as goal
+
+-- none failed, and few frames came
+abbrev pub invariant-loop : goal.invariant-loop
+invariant-loop g l = record {
+  goes : Goes l.fn.world l.fn.steps.items l.world l.steps.items 0 l.frames.known;
+  few : l.frames.known + l.frames.foreign < 1024;
+  kept : map (λ k. (g.L.Link.tally k).failures) l.links ≡ map (λ k. (g.L.Link.tally k).failures) l.fn.links;
+  asked : AllRose (2 * l.counter) (map (λ k. (g.L.Link.tally k).asked) l.fn.links) (map (λ k. (g.L.Link.tally k).asked) l.links);
+  given : RoseTogether (l.frames.known + l.frames.foreign) (map (λ k. (g.L.Link.tally k).given) l.fn.links) (map (λ k. (g.L.Link.tally k).given) l.links);
+}

@@ -1,0 +1,73 @@
+-- What a run over links does.
+use Rattle.std.specs.Prelude.{ℕ, ◌≡◌, ◌≤◌, ◌<◌, ◌+◌, ◌-◌, ◌^◌, ◌⊎◌, ◌++◌, ◌&&◌, Bool, true, false, IsSomeAnd, List, [], ◌∷◌, length, map, slice_get, sum, Option, Some, None}
+use Rattle.std.specs.List.{sum_by}
+use Rattle.exch_lane.specs.Lanes.{numbered}
+use Rattle.fw_node.specs.Agents.{AgentOf, half_for}
+use Rattle.fw_node.specs.Halves.{HalfOf}
+use Rattle.ua_core.specs.Session.{TimedOf, state_of}
+use Rattle.ua_core.specs.declared.state.SessionState.{SessionState}
+use Rattle.ua_core.specs.declared.state.SessionState.TheVariants as states
+use Rattle.fw_world.specs.Replays.{Leads, Run}
+use Rattle.fw_world.specs.Worlds.{SiteOf, WorldOf, packets_at, packets_of}
+use Rattle.fw_world.specs.declared.step.Step.{Step}
+use Rattle.fw_world.specs.declared.step.Step.TheVariants as steps
+
+-- a packet that is delivered was sent in its pair, at most 8 ticks ago
+abbrev pub NamesLiving : WorldOf → Step → Type 0
+NamesLiving w (steps.Deliver device number node) = IsSomeAnd (numbered (packets_of w device) number) (λ p. w.now ≤ p.date + 8)
+NamesLiving w s = Unit {0}
+
+-- so at every step of a run
+abbrev pub AreLiving : (w : WorldOf) (ss : List Step) (v : WorldOf) → Run w ss v → Type 0
+AreLiving w [] v h = Unit {0}
+AreLiving w (s ∷ ss) v h = NamesLiving w s × AreLiving h.0 ss v h.2
+
+-- how many ticks and deliveries stand in a list
+abbrev pub tick_in : Step → ℕ
+tick_in steps.Tick = 1
+tick_in s = 0
+
+abbrev pub ticks_in : List Step → ℕ
+ticks_in ss = sum_by tick_in ss
+
+abbrev pub deliver_in : Step → ℕ
+deliver_in (steps.Deliver device number node) = 1
+deliver_in s = 0
+
+abbrev pub delivers_in : List Step → ℕ
+delivers_in ss = sum_by deliver_in ss
+
+-- Steps were taken from one world to another, and put behind a list of steps.
+pub record Drives (w : WorldOf) (before : List Step) (v : WorldOf) (after : List Step) : Type 0 where
+  pub steps : List Step
+  pub appended : after ≡ before ++ steps
+  pub run : Run w steps v
+
+-- so many ticks and deliveries among them
+pub record Goes (w : WorldOf) (before : List Step) (v : WorldOf) (after : List Step) (ticks delivers : ℕ) : Type 0 where
+  pub drives : Drives w before v after
+  pub ticks_rise : ticks_in after ≡ ticks_in before + ticks
+  pub delivers_rise : delivers_in after ≡ delivers_in before + delivers
+
+-- with packets that live
+pub record DrivesLiving (w : WorldOf) (before : List Step) (v : WorldOf) (after : List Step) : Type 0 where
+  pub drives : Drives w before v after
+  pub living : AreLiving w drives.steps v drives.run
+
+-- the session with a device is Done or Failed, if there is one
+abbrev pub is_over_state : SessionState → Bool
+is_over_state states.Done = true
+is_over_state (states.Failed cause) = true
+is_over_state state = false
+
+abbrev pub is_over : Option (HalfOf TimedOf) → Bool
+is_over None = true
+is_over (Some h) = is_over_state (state_of h.core.session.stage)
+
+-- each session is
+abbrev pub are_over : AgentOf → List SiteOf → Bool
+are_over n [] = true
+are_over n (x ∷ xs) = is_over (half_for n x.node.endpoint.eid) && are_over n xs
+
+abbrev pub all_over : WorldOf → Bool
+all_over w = are_over w.agent w.sites

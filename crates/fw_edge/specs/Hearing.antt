@@ -1,0 +1,22 @@
+-- Which packet of a pair comes where a frame comes.
+use Rattle.std.specs.Prelude.{ℕ, ◌≡◌, ◌≤◌, ◌+◌, IsSomeAnd, List, Option, None, Some}
+use Rattle.exch_lane.specs.Lanes.{Sent, numbered}
+use Rattle.fw_world.specs.Worlds.{WorldOf, packets_of}
+
+-- a packet was sent at most 8 ticks ago, and has these bytes
+abbrev pub LivesWith : (now : ℕ) → List ℕ → Sent → Type 0
+LivesWith now bytes p = (now ≤ p.date + 8) × (p.bytes ≡ bytes)
+
+-- there is such a packet of this number, counted from 1
+abbrev pub IsLiving : (now : ℕ) → List Sent → List ℕ → (number : ℕ) → Type 0
+IsLiving now packets bytes number = IsSomeAnd (numbered packets number) (LivesWith now bytes)
+
+-- it is the last such packet; or there is none
+abbrev pub IsLastLiving : (now : ℕ) → List Sent → List ℕ → Option ℕ → Type 0
+IsLastLiving now packets bytes None = (other : ℕ) → IsLiving now packets bytes other → ⊥
+IsLastLiving now packets bytes (Some number) =
+    IsLiving now packets bytes number × ((other : ℕ) → IsLiving now packets bytes other → other ≤ number)
+
+-- with the packets of a pair
+abbrev pub IsHeard : WorldOf → (pair : ℕ) → List ℕ → Option ℕ → Type 0
+IsHeard w pair bytes number = IsLastLiving w.now (packets_of w pair) bytes number

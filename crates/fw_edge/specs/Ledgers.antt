@@ -1,0 +1,50 @@
+-- What links count in a run.
+use Rattle.std.specs.Prelude.{ℕ, ◌≡◌, ◌≤◌, ◌<◌, ◌+◌, ◌-◌, ◌^◌, ◌⊎◌, List, [], ◌∷◌}
+use Rattle.fw_edge.specs.declared.tally.Tally.{Tally}
+
+-- a count of failures rose, or stands at its last value
+abbrev pub HasFailed : ℕ → ℕ → Type 0
+HasFailed old new = (old < new) ⊎ (new ≡ 2 ^ 64 - 1)
+
+-- one of these did
+abbrev pub OneFailed : List ℕ → List ℕ → Type 0
+OneFailed (o ∷ os) (n ∷ ns) = HasFailed o n ⊎ OneFailed os ns
+OneFailed os ns = ⊥
+
+-- So many packets were taken.
+pub record Writes (packets : ℕ) (old new : Tally) : Type 0 where
+  pub failures : new.failures ≡ old.failures
+  pub sent_rise : new.sent < 2 ^ 64 - 1 → new.sent ≡ old.sent + packets
+  pub asked : new.asked ≡ old.asked
+  pub given : new.given ≡ old.given
+
+-- Frames were asked for so often, and so many given.
+pub record Reads (asked given : ℕ) (old new : Tally) : Type 0 where
+  pub failures : new.failures ≡ old.failures
+  pub sent : new.sent ≡ old.sent
+  pub asked_rise : new.asked < 2 ^ 64 - 1 → new.asked ≡ old.asked + asked
+  pub given_rise : new.given < 2 ^ 64 - 1 → new.given ≡ old.given + given
+
+-- Each count rose by so much or more, unless it stands at its last value.
+abbrev pub AllRose : ℕ → List ℕ → List ℕ → Type 0
+AllRose most [] [] = Unit {0}
+AllRose most (o ∷ os) (n ∷ ns) = (n < 2 ^ 64 - 1 → o + most ≤ n) × AllRose most os ns
+AllRose most os ns = ⊥
+
+-- no count stands at its last value
+abbrev pub AreBelow : List ℕ → Type 0
+AreBelow [] = Unit {0}
+AreBelow (n ∷ ns) = (n < 2 ^ 64 - 1) × AreBelow ns
+
+abbrev pub total : List ℕ → ℕ
+total [] = 0
+total (n ∷ ns) = n + total ns
+
+-- All counts rose by so much together, unless one stands at its last value; and where none does, none did.
+abbrev pub RoseTogether : ℕ → List ℕ → List ℕ → Type 0
+RoseTogether most os ns = AreBelow ns → AreBelow os × (total ns ≡ total os + most)
+
+-- What links gave since a list had so many deliveries is what was delivered and what was foreign, unless a count of them
+-- stands at its last value.
+abbrev pub AreGiven : (before after foreign : ℕ) → List ℕ → List ℕ → Type 0
+AreGiven before after foreign os ns = AreBelow ns → AreBelow os × (total ns + before ≡ total os + (after + foreign))

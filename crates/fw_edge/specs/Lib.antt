@@ -1,0 +1,5 @@
+pub mod Drives
+pub mod Frames
+pub mod Hearing
+pub mod Ledgers
+pub mod Links

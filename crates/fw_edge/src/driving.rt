@@ -1,0 +1,158 @@
+//! The run of a world over links.
+
+ghost use Rattle.std.specs.Prelude.{◌≡◌, ◌≤◌, ◌<◌, ◌+◌, ◌-◌, ◌*◌, ◌^◌, IfErr, IfOk, OnErr, OnOk, length, map, true};
+ghost use Rattle.fw_edge.specs.Drives.{Drives, DrivesLiving, Goes, all_over, delivers_in, ticks_in};
+ghost use Rattle.fw_edge.specs.Ledgers.{AllRose, AreGiven, OneFailed, RoseTogether};
+
+use crate::link::Link;
+use crate::outgoing::sent_at;
+use crate::rounds::{Frames, exchange};
+use crate::steps::{activate_all, all_over, judge_all, tick};
+use arrayvec::ArrayVec;
+use fd_core::Bank;
+use fw_world::{Step, World};
+use thiserror::Error;
+
+/// What a run did.
+#[derive(Clone, Copy, Debug, PartialEq, Eq)]
+pub struct Driven {
+    /// The turns that it took.
+    pub turns: u32,
+    /// The frames that came and were no living packet of their pair.
+    pub foreign: u64,
+}
+
+/// Why a run ended early.
+#[derive(Clone, Copy, Debug, PartialEq, Eq, Error)]
+pub enum EdgeFault {
+    /// A link failed.
+    #[error("Frame")]
+    Frame,
+    /// A step was refused: the clock stands at its last tick.
+    #[error("Step")]
+    Step,
+    /// Memory was refused.
+    #[error("Memory")]
+    Memory,
+}
+
+/// How many packets each pair of so many has sent.
+fn all_sent<B: Bank + Drop>(world: &World<'_, B>, count: usize) -> ArrayVec<usize, 16>
+    requires { count ≤ 16 }
+    ensures { length result.items ≡ count }
+{
+    let mut sent = ArrayVec::new();
+    for place in 0..count {
+        sent.push(sent_at(world, place));
+    }
+    sent
+}
+
+/// A turn: a tick passes, packets go out and frames come in, and then the devices have their verdicts, and the sessions that
+/// are ready activate. The frames that came.
+fn turn<B: Bank + Drop, L: Link>(
+    world: &mut World<'_, B>,
+    links: &mut [L],
+    written: &mut [usize],
+    steps: &mut Vec<Step>,
+) -> Result<Frames, EdgeFault>
+    requires few { length links.old ≤ 16 }
+    requires written { length written.old ≡ length links.old }
+    ensures goes { IfOk result (λ f. Goes world.old steps.old.items world.new steps.new.items 1 f.known) }
+    ensures few { IfOk result (λ f. f.known + f.foreign ≤ 1055) }
+    ensures kept { IfOk result (λ f. map (λ l. (L.tally l).failures) links.new ≡ map (λ l. (L.tally l).failures) links.old) }
+    ensures asked { IfOk result (λ f. AllRose 2 (map (λ l. (L.tally l).asked) links.old) (map (λ l. (L.tally l).asked) links.new)) }
+    ensures given { IfOk result (λ f. RoseTogether (f.known + f.foreign) (map (λ l. (L.tally l).given) links.old) (map (λ l. (L.tally l).given) links.new)) }
+    ensures drives { OnErr result (Drives world.old steps.old.items world.new steps.new.items) }
+    ensures failed { IfErr result (λ e. e ≡ EdgeFault.Frame → OneFailed (map (λ l. (L.tally l).failures) links.old) (map (λ l. (L.tally l).failures) links.new)) }
+    ensures end { IfErr result (λ e. e ≡ EdgeFault.Step → world.new.now ≡ 2 ^ 32 - 1) }
+    ensures links { length links.new ≡ length links.old }
+    ensures written { length written.new ≡ length written.old }
+{
+    match tick(world, steps) {
+        Ok(()) => {}
+        Err(fault) => return Err(fault),
+    }
+    let frames = match exchange(world, links, written, steps) {
+        Ok(frames) => frames,
+        Err(fault) => return Err(fault),
+    };
+    match judge_all(world, steps) {
+        Ok(()) => {}
+        Err(fault) => return Err(fault),
+    }
+    match activate_all(world, steps) {
+        Ok(()) => {}
+        Err(fault) => return Err(fault),
+    }
+    Ok(frames)
+}
+
+/// Takes so many turns, or fewer where each session is Done or Failed before.
+fn take_turns<B: Bank + Drop, L: Link>(
+    world: &mut World<'_, B>,
+    links: &mut [L],
+    written: &mut [usize],
+    turns: u32,
+    steps: &mut Vec<Step>,
+) -> Result<Driven, EdgeFault>
+    requires few { length links.old ≤ 16 }
+    requires written { length written.old ≡ length links.old }
+    ensures drives { Drives world.old steps.old.items world.new steps.new.items }
+    ensures ticks { IfOk result (λ d. ticks_in steps.new.items ≡ ticks_in steps.old.items + d.turns) }
+    ensures within { IfOk result (λ d. d.turns ≤ turns) }
+    ensures ended { IfOk result (λ d. d.turns < turns → all_over world.new ≡ true) }
+    ensures kept { OnOk result (map (λ l. (L.tally l).failures) links.new ≡ map (λ l. (L.tally l).failures) links.old) }
+    ensures asked { IfOk result (λ d. AllRose (2 * d.turns) (map (λ l. (L.tally l).asked) links.old) (map (λ l. (L.tally l).asked) links.new)) }
+    ensures given { IfOk result (λ d. AreGiven (delivers_in steps.old.items) (delivers_in steps.new.items) d.foreign (map (λ l. (L.tally l).given) links.old) (map (λ l. (L.tally l).given) links.new)) }
+    ensures frame { IfErr result (λ e. e ≡ EdgeFault.Frame → OneFailed (map (λ l. (L.tally l).failures) links.old) (map (λ l. (L.tally l).failures) links.new)) }
+    ensures step { IfErr result (λ e. e ≡ EdgeFault.Step → world.new.now ≡ 2 ^ 32 - 1) }
+{
+    let mut foreign = 0;
+    for count in 0..turns {
+        if all_over(world) {
+            return Ok(Driven {
+                turns: count,
+                foreign,
+            });
+        }
+        match turn(world, links, written, steps) {
+            Ok(frames) => foreign += frames.foreign as u64,
+            Err(fault) => return Err(fault),
+        }
+    }
+    Ok(Driven { turns, foreign })
+}
+
+/// Runs a world over links, one for each device, in configured order, for so many turns, or until each session is Done or
+/// Failed, which is tested before each turn. The steps that are taken are put behind those of the list, whatever the outcome;
+/// the room for each is made before it is taken.
+///
+/// A turn is a tick; then rounds, in which what was sent since the run began and isn't written goes out, and a frame is read
+/// at each end of each link, the device's first; then the verdicts that devices wait for, and the activations that sessions
+/// wait for. The last round reads no frame, or is the one after which the turn has read 1,024 frames or more; what is then
+/// unwritten goes out. A frame that is a living packet of its pair comes to the node at that end, and another to nobody.
+///
+/// # Errors
+/// `Frame` where a link failed, `Step` where the clock stands at its last tick, and `Memory`. The world is then the one after
+/// the steps that are listed.
+pub fn drive<B: Bank + Drop, L: Link>(
+    world: &mut World<'_, B>,
+    links: &mut [L],
+    turns: u32,
+    steps: &mut Vec<Step>,
+) -> Result<Driven, EdgeFault>
+    requires few { length links.old ≤ 16 }
+    ensures drives { DrivesLiving world.old steps.old.items world.new steps.new.items }
+    ensures ticks { IfOk result (λ d. ticks_in steps.new.items ≡ ticks_in steps.old.items + d.turns) }
+    ensures within { IfOk result (λ d. d.turns ≤ turns) }
+    ensures ended { IfOk result (λ d. d.turns < turns → all_over world.new ≡ true) }
+    ensures kept { OnOk result (map (λ l. (L.tally l).failures) links.new ≡ map (λ l. (L.tally l).failures) links.old) }
+    ensures asked { IfOk result (λ d. AllRose (2 * d.turns) (map (λ l. (L.tally l).asked) links.old) (map (λ l. (L.tally l).asked) links.new)) }
+    ensures given { IfOk result (λ d. AreGiven (delivers_in steps.old.items) (delivers_in steps.new.items) d.foreign (map (λ l. (L.tally l).given) links.old) (map (λ l. (L.tally l).given) links.new)) }
+    ensures frame { IfErr result (λ e. e ≡ EdgeFault.Frame → OneFailed (map (λ l. (L.tally l).failures) links.old) (map (λ l. (L.tally l).failures) links.new)) }
+    ensures step { IfErr result (λ e. e ≡ EdgeFault.Step → world.new.now ≡ 2 ^ 32 - 1) }
+{
+    let mut written = all_sent(world, links.len());
+    take_turns(world, links, written.as_mut_slice(), turns, steps)
+}

@@ -1,0 +1,108 @@
+//! Packets as frames in a stream of bytes.
+
+ghost use Rattle.std.specs.Prelude.{[], ◌≡◌, ◌≤◌, ◌∷◌, ◌++◌, IfErr, IfOk, OnOk, length};
+ghost use Rattle.std.specs.Io.KnownBytes.{Appends, Consumes};
+ghost use Rattle.byteorder.specs.Endian.{little_bytes};
+ghost use Rattle.fw_edge.specs.Frames.{ReadStops, WriteStops, frame_of, frames_of};
+
+use crate::retries::{read_up_to, write_whole};
+use arrayvec::ArrayVec;
+use byteorder::{ByteOrder, LittleEndian};
+use mctp_wire::RawPacket;
+use std::io::{Read, Write};
+use thiserror::Error;
+
+/// The bytes of a frame's length.
+const LENGTH_SIZE: usize = 2;
+
+/// The most bytes of a packet: a head of 4, and a body of the baseline transmission unit (DSP0236).
+const MAX_PACKET: usize = 68;
+
+/// The bytes of a frame.
+type Frame = ArrayVec<u8, 70>;
+
+/// Why a frame isn't read or written, or a link gives or takes none.
+#[derive(Clone, Copy, Debug, PartialEq, Eq, Error)]
+pub enum FrameFault {
+    /// No byte came: the stream is at its end.
+    #[error("End")]
+    End,
+    /// The stream ends within a frame.
+    #[error("Cut")]
+    Cut,
+    /// A length that no packet has: 0, or more than 68.
+    #[error("Size")]
+    Size,
+    /// The stream failed.
+    #[error("Io")]
+    Io,
+}
+
+/// Reads a frame: the length of a packet in two bytes, the low byte first, and the packet, 1 to 68 bytes. Reads that are
+/// interrupted are tried again.
+///
+/// # Errors
+/// - `End` where the reader is at its end, and nothing is read;
+/// - `Cut` where it ends before the frame does, and all that it had is read;
+/// - `Size` for a length of 0 or more than 68, which alone is read;
+/// - `Io` where the reader fails, after a part of a frame.
+pub fn read_frame<R: Read>(reader: &mut R) -> Result<RawPacket, FrameFault>
+    ensures ok { IfOk result (λ p. Consumes (R.remaining reader.old) (R.remaining reader.new) (frames_of (p.items ∷ []))) }
+    ensures size { IfOk result (λ p. 1 ≤ length p.items) }
+    ensures fault { IfErr result (λ e. ReadStops e (R.remaining reader.old) (R.remaining reader.new)) }
+{
+    let head = match read_up_to(reader, LENGTH_SIZE) {
+        Ok(head) => head,
+        Err(fault) => return Err(fault),
+    };
+    if head.is_empty() {
+        return Err(FrameFault::End);
+    }
+    if head.len() < LENGTH_SIZE {
+        return Err(FrameFault::Cut);
+    }
+    let size = usize::from(LittleEndian::read_u16(head.as_slice()));
+    if size == 0 || MAX_PACKET < size {
+        return Err(FrameFault::Size);
+    }
+    let packet = match read_up_to(reader, size) {
+        Ok(packet) => packet,
+        Err(fault) => return Err(fault),
+    };
+    if packet.len() < size {
+        return Err(FrameFault::Cut);
+    }
+    Ok(packet)
+}
+
+/// The bytes of a packet's frame.
+fn frame(packet: &RawPacket) -> Frame
+    ensures { result.items ≡ frame_of packet.now.items }
+{
+    let mut length = [0; LENGTH_SIZE];
+    LittleEndian::write_u16(&mut length, packet.len() as u16);
+    let mut frame = Frame::new();
+    let _ = frame.try_extend_from_slice(&length);
+    let _ = frame.try_extend_from_slice(packet.as_slice());
+    frame
+}
+
+/// Writes the frame of a packet. Writes that are interrupted are tried again.
+///
+/// # Errors
+/// - `Size` for a packet without a byte, of which nothing is written;
+/// - `Io` where the writer fails, or takes no more bytes: a beginning of the frame may be written.
+pub fn write_frame<W: Write>(writer: &mut W, packet: &RawPacket) -> Result<(), FrameFault>
+    ensures ok { OnOk result (Appends (W.contents writer.old) (W.contents writer.new) (frames_of (packet.now.items ∷ []))) }
+    ensures size { OnOk result (1 ≤ length packet.now.items) }
+    ensures fault { IfErr result (λ e. WriteStops e (W.contents writer.old) (W.contents writer.new) packet.now.items) }
+{
+    if packet.is_empty() {
+        return Err(FrameFault::Size);
+    }
+    let frame = frame(packet);
+    match write_whole(writer, frame.as_slice()) {
+        Ok(()) => Ok(()),
+        Err(fault) => Err(fault),
+    }
+}

@@ -1,0 +1,44 @@
+//! Which packet of a pair a frame is.
+
+ghost use Rattle.std.specs.Prelude.{◌≡◌, false, map, true};
+ghost use Rattle.exch_lane.specs.Journals.{sent_of};
+ghost use Rattle.fw_edge.specs.Hearing.{IsHeard, IsLastLiving, LivesWith};
+
+use exch_lane::SentPacket;
+use fd_core::Bank;
+use fw_world::World;
+use mctp_wire::RawPacket;
+use pldm_exch::LIFE;
+
+/// The number of the last packet of a pair, named by its device, that has these bytes and may still come: what a Deliver
+/// names. None exactly where there is no such packet.
+pub fn heard<B: Bank + Drop>(world: &World<'_, B>, pair: u8, packet: &RawPacket) -> Option<usize>
+    ensures { IsHeard world.now pair packet.now.items result }
+{
+    let Some(packets) = world.packets(pair) else {
+        return None;
+    };
+    last_living(packets, world.now(), packet)
+}
+
+/// Whether a packet may still come at this time, and has these bytes.
+fn is_living(sent: &SentPacket, now: u32, packet: &RawPacket) -> bool
+    ensures yes { result ≡ true → LivesWith now packet.now.items (sent_of sent.now) }
+    ensures no { result ≡ false → LivesWith now packet.now.items (sent_of sent.now) → ⊥ }
+{
+    now <= sent.date.saturating_add(LIFE) && sent.bytes.as_slice() == packet.as_slice()
+}
+
+/// The number of the last of these packets that has these bytes and may still come at this time.
+fn last_living(packets: &[SentPacket], now: u32, packet: &RawPacket) -> Option<usize>
+    ensures { IsLastLiving now (map sent_of packets.now) packet.now.items result }
+{
+    let mut number = packets.len();
+    while number > 0 {
+        if is_living(&packets[number - 1], now, packet) {
+            return Some(number);
+        }
+        number -= 1;
+    }
+    None
+}

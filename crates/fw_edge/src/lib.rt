@@ -1,0 +1,23 @@
+//! The edge of a firmware update agent: packets (DSP0236) as frames over byte streams, links to devices, and the run of a
+//! world over them, every step of which is one that the world allows.
+#![tactic(auto)]
+
+mod driving;
+mod frame;
+mod hearing;
+mod link;
+mod memory;
+mod outgoing;
+mod retries;
+mod rounds;
+mod steps;
+mod tally;
+#[cfg(test)]
+mod tests;
+
+pub use driving::{Driven, EdgeFault, drive};
+pub use frame::{FrameFault, read_frame, write_frame};
+pub use hearing::heard;
+pub use link::Link;
+pub use memory::MemLink;
+pub use tally::Tally;

@@ -1,0 +1,92 @@
+//! Packets of a world, written to its links.
+
+ghost use Rattle.std.specs.Prelude.{◌≡◌, ◌≤◌, IfErr, OnErr, OnOk, length, map, slice_get};
+ghost use Rattle.fw_edge.specs.Ledgers.{HasFailed, OneFailed, Writes};
+ghost use Rattle.fw_world.specs.Worlds.{packets_at};
+
+use crate::driving::EdgeFault;
+use crate::link::Link;
+use exch_lane::SentPacket;
+use fd_core::Bank;
+use fw_world::{Side, World};
+
+/// The end of a link at which a packet goes out: that of its sender, whom its third byte names (DSP0236).
+fn end_of(packet: &SentPacket, device: u8) -> Side {
+    match packet.bytes.as_slice() {
+        [_, _, source, ..] if *source == device => Side::Device,
+        _ => Side::Agent,
+    }
+}
+
+/// Writes these packets of a pair to its link, each at its sender's end.
+fn write_each<L: Link>(link: &mut L, packets: &[SentPacket], device: u8) -> Result<(), EdgeFault>
+    ensures ok { OnOk result (Writes (length packets.now) (L.tally link.old) (L.tally link.new)) }
+    ensures fault { IfErr result (λ e. e ≡ EdgeFault.Frame) }
+    ensures failed { OnErr result (HasFailed (L.tally link.old).failures (L.tally link.new).failures) }
+{
+    for packet in packets {
+        match link.send(end_of(packet, device), &packet.bytes) {
+            Ok(()) => {}
+            Err(_) => return Err(EdgeFault::Frame),
+        }
+    }
+    Ok(())
+}
+
+/// How many packets were sent in the pair of the device at a place.
+pub(crate) fn sent_at<B: Bank + Drop>(world: &World<'_, B>, place: usize) -> usize
+    ensures { result ≡ length (packets_at (slice_get world.now.sites place)) }
+{
+    match world.packets_at(place) {
+        Some(packets) => packets.len(),
+        None => 0,
+    }
+}
+
+/// Writes the packets of the pair of the device at a place that stand behind so many to its link.
+fn write_at<B: Bank + Drop, L: Link>(
+    world: &World<'_, B>,
+    place: usize,
+    link: &mut L,
+    written: usize,
+) -> Result<(), EdgeFault>
+    ensures kept { OnOk result ((L.tally link.new).failures ≡ (L.tally link.old).failures) }
+    ensures asked { OnOk result ((L.tally link.new).asked ≡ (L.tally link.old).asked) }
+    ensures given { OnOk result ((L.tally link.new).given ≡ (L.tally link.old).given) }
+    ensures fault { IfErr result (λ e. e ≡ EdgeFault.Frame) }
+    ensures failed { OnErr result (HasFailed (L.tally link.old).failures (L.tally link.new).failures) }
+{
+    let (Some(node), Some(packets)) = (world.device_at(place), world.packets_at(place)) else {
+        return Ok(());
+    };
+    let Some(unwritten) = packets.get(written..) else {
+        return Ok(());
+    };
+    write_each(link, unwritten, node.eid())
+}
+
+/// Writes each packet that isn't written yet to the link of its pair, in configured order, by rising number. So many of each
+/// pair are written, and then all are.
+pub(crate) fn write_out<B: Bank + Drop, L: Link>(
+    world: &World<'_, B>,
+    links: &mut [L],
+    written: &mut [usize],
+) -> Result<(), EdgeFault>
+    requires { length written.old ≡ length links.old }
+    ensures kept { OnOk result (map (λ l. (L.tally l).failures) links.new ≡ map (λ l. (L.tally l).failures) links.old) }
+    ensures asked { OnOk result (map (λ l. (L.tally l).asked) links.new ≡ map (λ l. (L.tally l).asked) links.old) }
+    ensures given { OnOk result (map (λ l. (L.tally l).given) links.new ≡ map (λ l. (L.tally l).given) links.old) }
+    ensures fault { IfErr result (λ e. e ≡ EdgeFault.Frame) }
+    ensures failed { OnErr result (OneFailed (map (λ l. (L.tally l).failures) links.old) (map (λ l. (L.tally l).failures) links.new)) }
+    ensures links { length links.new ≡ length links.old }
+    ensures written { length written.new ≡ length written.old }
+{
+    for place in 0..links.len() {
+        match write_at(world, place, &mut links[place], written[place]) {
+            Ok(()) => {}
+            Err(fault) => return Err(fault),
+        }
+        written[place] = sent_at(world, place);
+    }
+    Ok(())
+}

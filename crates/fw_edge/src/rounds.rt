@@ -1,0 +1,292 @@
+//! Rounds of a turn: what was sent goes out, and a frame is read at each end.
+
+ghost use Rattle.std.specs.Prelude.{◌≡◌, ◌≢◌, ◌≤◌, ◌<◌, ◌+◌, ◌⊎◌, IfErr, IfOk, IfSome, None, OnErr, length, map};
+ghost use Rattle.fw_edge.specs.Drives.{Drives, Goes};
+ghost use Rattle.fw_edge.specs.Hearing.{IsHeard};
+ghost use Rattle.fw_edge.specs.Ledgers.{AllRose, HasFailed, OneFailed, Reads, RoseTogether};
+ghost use Rattle.fw_world.specs.Replays.{may_step};
+ghost use Rattle.fw_world.specs.declared.step.Step.{Step};
+
+use crate::driving::EdgeFault;
+use crate::hearing::heard;
+use crate::link::Link;
+use crate::outgoing::write_out;
+use crate::steps::take;
+use fd_core::Bank;
+use fw_world::{Side, Step, World};
+use mctp_wire::RawPacket;
+
+/// A turn reads no more frames once it has read so many; the round that reaches it is finished.
+const MAX_FRAMES: usize = 1_024;
+
+/// Frames that were read.
+#[derive(Clone, Copy)]
+pub(crate) struct Frames {
+    /// Packets of their pairs.
+    pub(crate) known: usize,
+    /// The others.
+    pub(crate) foreign: usize,
+}
+
+impl Frames {
+    /// None.
+    fn none() -> Frames
+        ensures known { result.known ≡ 0 }
+        ensures foreign { result.foreign ≡ 0 }
+    {
+        Frames {
+            known: 0,
+            foreign: 0,
+        }
+    }
+
+    /// How many they are.
+    fn count(self) -> usize
+        requires { self.known + self.foreign ≤ 4096 }
+        ensures { result ≡ self.known + self.foreign }
+    {
+        self.known + self.foreign
+    }
+
+    /// These and others.
+    fn and(self, others: Frames) -> Frames
+        requires { (self.known + self.foreign) + (others.known + others.foreign) ≤ 4096 }
+        ensures known { result.known ≡ self.known + others.known }
+        ensures foreign { result.foreign ≡ self.foreign + others.foreign }
+    {
+        Frames {
+            known: self.known + others.known,
+            foreign: self.foreign + others.foreign,
+        }
+    }
+}
+
+/// The node at an end of a device's link.
+fn node_at<B: Bank + Drop>(world: &World<'_, B>, device: u8, end: Side) -> u8
+    ensures node { (result ≡ world.now.agent.endpoint.eid) ⊎ (result ≡ device) }
+    ensures agent { end ≡ Side.Agent → result ≡ world.now.agent.endpoint.eid }
+    ensures device { end ≡ Side.Device → result ≡ device }
+{
+    match end {
+        Side::Agent => world.agent().eid(),
+        Side::Device => device,
+    }
+}
+
+/// The packet that a frame is comes to the node at an end of a device's link; a frame that is no living packet of the pair
+/// comes to nobody.
+#[tactic(auto, using(crate::proofs::Arriving::may_deliver))]
+fn hand_over<B: Bank + Drop>(
+    world: &mut World<'_, B>,
+    device: u8,
+    end: Side,
+    packet: &RawPacket,
+    steps: &mut Vec<Step>,
+) -> Result<Frames, EdgeFault>
+    ensures goes { IfOk result (λ f. Goes world.old steps.old.items world.new steps.new.items 0 f.known) }
+    ensures one { IfOk result (λ f. f.known + f.foreign ≡ 1) }
+    ensures drives { OnErr result (Drives world.old steps.old.items world.new steps.new.items) }
+    ensures fault { IfErr result (λ e. e ≡ EdgeFault.Memory) }
+{
+    let Some(number) = heard(world, device, packet) else {
+        return Ok(Frames {
+            known: 0,
+            foreign: 1,
+        });
+    };
+    let node = node_at(world, device, end);
+    match take(world, steps, Step::Deliver(device, number, node)) {
+        Ok(()) => {}
+        Err(fault) => return Err(fault),
+    }
+    Ok(Frames {
+        known: 1,
+        foreign: 0,
+    })
+}
+
+/// Reads a frame at an end of a device's link, if there is one, and hands it over.
+fn read_end<B: Bank + Drop, L: Link>(
+    world: &mut World<'_, B>,
+    device: u8,
+    end: Side,
+    link: &mut L,
+    steps: &mut Vec<Step>,
+) -> Result<Frames, EdgeFault>
+    ensures goes { IfOk result (λ f. Goes world.old steps.old.items world.new steps.new.items 0 f.known) }
+    ensures few { IfOk result (λ f. f.known + f.foreign ≤ 1) }
+    ensures reads { IfOk result (λ f. Reads 1 (f.known + f.foreign) (L.tally link.old) (L.tally link.new)) }
+    ensures drives { OnErr result (Drives world.old steps.old.items world.new steps.new.items) }
+    ensures fault { IfErr result (λ e. e ≢ EdgeFault.Step) }
+    ensures failed { IfErr result (λ e. e ≡ EdgeFault.Frame → HasFailed (L.tally link.old).failures (L.tally link.new).failures) }
+{
+    let frame = match link.receive(end) {
+        Ok(frame) => frame,
+        Err(_) => return Err(EdgeFault::Frame),
+    };
+    let Some(packet) = frame else {
+        return Ok(Frames::none());
+    };
+    match hand_over(world, device, end, &packet, steps) {
+        Ok(frames) => Ok(frames),
+        Err(fault) => Err(fault),
+    }
+}
+
+/// Reads a frame at each end of a device's link, the device's first.
+fn read_both<B: Bank + Drop, L: Link>(
+    world: &mut World<'_, B>,
+    device: u8,
+    link: &mut L,
+    steps: &mut Vec<Step>,
+) -> Result<Frames, EdgeFault>
+    ensures goes { IfOk result (λ f. Goes world.old steps.old.items world.new steps.new.items 0 f.known) }
+    ensures few { IfOk result (λ f. f.known + f.foreign ≤ 2) }
+    ensures reads { IfOk result (λ f. Reads 2 (f.known + f.foreign) (L.tally link.old) (L.tally link.new)) }
+    ensures drives { OnErr result (Drives world.old steps.old.items world.new steps.new.items) }
+    ensures fault { IfErr result (λ e. e ≢ EdgeFault.Step) }
+    ensures failed { IfErr result (λ e. e ≡ EdgeFault.Frame → HasFailed (L.tally link.old).failures (L.tally link.new).failures) }
+{
+    let first = match read_end(world, device, Side::Device, link, steps) {
+        Ok(frames) => frames,
+        Err(fault) => return Err(fault),
+    };
+    let second = match read_end(world, device, Side::Agent, link, steps) {
+        Ok(frames) => frames,
+        Err(fault) => return Err(fault),
+    };
+    Ok(first.and(second))
+}
+
+/// The device at a place.
+fn eid_at<B: Bank + Drop>(world: &World<'_, B>, place: usize) -> u8 {
+    match world.device_at(place) {
+        Some(node) => node.eid(),
+        None => 0,
+    }
+}
+
+/// Reads a frame at each end of each link, in configured order.
+fn read_round<B: Bank + Drop, L: Link>(
+    world: &mut World<'_, B>,
+    links: &mut [L],
+    steps: &mut Vec<Step>,
+) -> Result<Frames, EdgeFault>
+    requires { length links.old ≤ 16 }
+    ensures goes { IfOk result (λ f. Goes world.old steps.old.items world.new steps.new.items 0 f.known) }
+    ensures few { IfOk result (λ f. f.known + f.foreign ≤ 32) }
+    ensures kept { IfOk result (λ f. map (λ l. (L.tally l).failures) links.new ≡ map (λ l. (L.tally l).failures) links.old) }
+    ensures asked { IfOk result (λ f. AllRose 2 (map (λ l. (L.tally l).asked) links.old) (map (λ l. (L.tally l).asked) links.new)) }
+    ensures given { IfOk result (λ f. RoseTogether (f.known + f.foreign) (map (λ l. (L.tally l).given) links.old) (map (λ l. (L.tally l).given) links.new)) }
+    ensures drives { OnErr result (Drives world.old steps.old.items world.new steps.new.items) }
+    ensures fault { IfErr result (λ e. e ≢ EdgeFault.Step) }
+    ensures failed { IfErr result (λ e. e ≡ EdgeFault.Frame → OneFailed (map (λ l. (L.tally l).failures) links.old) (map (λ l. (L.tally l).failures) links.new)) }
+    ensures links { length links.new ≡ length links.old }
+{
+    let mut frames = Frames::none();
+    for place in 0..links.len() {
+        let device = eid_at(world, place);
+        let more = match read_both(world, device, &mut links[place], steps) {
+            Ok(more) => more,
+            Err(fault) => return Err(fault),
+        };
+        frames = frames.and(more);
+    }
+    Ok(frames)
+}
+
+/// A round: what isn't written goes out, and a frame is read at each end.
+fn round<B: Bank + Drop, L: Link>(
+    world: &mut World<'_, B>,
+    links: &mut [L],
+    written: &mut [usize],
+    steps: &mut Vec<Step>,
+) -> Result<Frames, EdgeFault>
+    requires few { length links.old ≤ 16 }
+    requires written { length written.old ≡ length links.old }
+    ensures goes { IfOk result (λ f. Goes world.old steps.old.items world.new steps.new.items 0 f.known) }
+    ensures few { IfOk result (λ f. f.known + f.foreign ≤ 32) }
+    ensures kept { IfOk result (λ f. map (λ l. (L.tally l).failures) links.new ≡ map (λ l. (L.tally l).failures) links.old) }
+    ensures asked { IfOk result (λ f. AllRose 2 (map (λ l. (L.tally l).asked) links.old) (map (λ l. (L.tally l).asked) links.new)) }
+    ensures given { IfOk result (λ f. RoseTogether (f.known + f.foreign) (map (λ l. (L.tally l).given) links.old) (map (λ l. (L.tally l).given) links.new)) }
+    ensures drives { OnErr result (Drives world.old steps.old.items world.new steps.new.items) }
+    ensures fault { IfErr result (λ e. e ≢ EdgeFault.Step) }
+    ensures failed { IfErr result (λ e. e ≡ EdgeFault.Frame → OneFailed (map (λ l. (L.tally l).failures) links.old) (map (λ l. (L.tally l).failures) links.new)) }
+    ensures links { length links.new ≡ length links.old }
+    ensures written { length written.new ≡ length written.old }
+{
+    match write_out(world, links, written) {
+        Ok(()) => {}
+        Err(fault) => return Err(fault),
+    }
+    let frames = match read_round(world, links, steps) {
+        Ok(frames) => frames,
+        Err(fault) => return Err(fault),
+    };
+    Ok(frames)
+}
+
+/// The rounds of a turn. The last one reads no frame, or is the one in which the turn has read enough.
+fn rounds<B: Bank + Drop, L: Link>(
+    world: &mut World<'_, B>,
+    links: &mut [L],
+    written: &mut [usize],
+    steps: &mut Vec<Step>,
+) -> Result<Frames, EdgeFault>
+    requires few { length links.old ≤ 16 }
+    requires written { length written.old ≡ length links.old }
+    ensures goes { IfOk result (λ f. Goes world.old steps.old.items world.new steps.new.items 0 f.known) }
+    ensures few { IfOk result (λ f. f.known + f.foreign ≤ 1055) }
+    ensures kept { IfOk result (λ f. map (λ l. (L.tally l).failures) links.new ≡ map (λ l. (L.tally l).failures) links.old) }
+    ensures asked { IfOk result (λ f. AllRose 2 (map (λ l. (L.tally l).asked) links.old) (map (λ l. (L.tally l).asked) links.new)) }
+    ensures given { IfOk result (λ f. RoseTogether (f.known + f.foreign) (map (λ l. (L.tally l).given) links.old) (map (λ l. (L.tally l).given) links.new)) }
+    ensures drives { OnErr result (Drives world.old steps.old.items world.new steps.new.items) }
+    ensures fault { IfErr result (λ e. e ≢ EdgeFault.Step) }
+    ensures failed { IfErr result (λ e. e ≡ EdgeFault.Frame → OneFailed (map (λ l. (L.tally l).failures) links.old) (map (λ l. (L.tally l).failures) links.new)) }
+    ensures links { length links.new ≡ length links.old }
+    ensures written { length written.new ≡ length written.old }
+{
+    let mut frames = Frames::none();
+    for _ in 0..MAX_FRAMES {
+        let more = match round(world, links, written, steps) {
+            Ok(more) => more,
+            Err(fault) => return Err(fault),
+        };
+        frames = frames.and(more);
+        if more.count() == 0 || MAX_FRAMES <= frames.count() {
+            return Ok(frames);
+        }
+    }
+    Ok(frames)
+}
+
+/// The rounds of a turn; what is unwritten then goes out.
+pub(crate) fn exchange<B: Bank + Drop, L: Link>(
+    world: &mut World<'_, B>,
+    links: &mut [L],
+    written: &mut [usize],
+    steps: &mut Vec<Step>,
+) -> Result<Frames, EdgeFault>
+    requires few { length links.old ≤ 16 }
+    requires written { length written.old ≡ length links.old }
+    ensures goes { IfOk result (λ f. Goes world.old steps.old.items world.new steps.new.items 0 f.known) }
+    ensures few { IfOk result (λ f. f.known + f.foreign ≤ 1055) }
+    ensures kept { IfOk result (λ f. map (λ l. (L.tally l).failures) links.new ≡ map (λ l. (L.tally l).failures) links.old) }
+    ensures asked { IfOk result (λ f. AllRose 2 (map (λ l. (L.tally l).asked) links.old) (map (λ l. (L.tally l).asked) links.new)) }
+    ensures given { IfOk result (λ f. RoseTogether (f.known + f.foreign) (map (λ l. (L.tally l).given) links.old) (map (λ l. (L.tally l).given) links.new)) }
+    ensures drives { OnErr result (Drives world.old steps.old.items world.new steps.new.items) }
+    ensures fault { IfErr result (λ e. e ≢ EdgeFault.Step) }
+    ensures failed { IfErr result (λ e. e ≡ EdgeFault.Frame → OneFailed (map (λ l. (L.tally l).failures) links.old) (map (λ l. (L.tally l).failures) links.new)) }
+    ensures links { length links.new ≡ length links.old }
+    ensures written { length written.new ≡ length written.old }
+{
+    let frames = match rounds(world, links, written, steps) {
+        Ok(frames) => frames,
+        Err(fault) => return Err(fault),
+    };
+    match write_out(world, links, written) {
+        Ok(()) => {}
+        Err(fault) => return Err(fault),
+    }
+    Ok(frames)
+}

@@ -1,0 +1,191 @@
+//! Steps of a run, each taken and listed.
+
+ghost use Rattle.std.specs.Prelude.{[], ◌≡◌, ◌≢◌, ◌-◌, ◌^◌, ◌++◌, ◌∷◌, IfErr, IfSome, None, OnErr, OnOk, true};
+ghost use Rattle.fw_edge.specs.Drives.{Drives, Goes, all_over, deliver_in, is_over, tick_in};
+ghost use Rattle.fw_node.specs.Agents.{half_for};
+ghost use Rattle.fw_world.specs.Replays.{Leads, may_step};
+ghost use Rattle.fw_world.specs.declared.step.Step.{Step};
+
+use crate::driving::EdgeFault;
+use fd_core::{Bank, Verdict};
+use fw_message::awaits;
+use fw_world::{Step, World};
+use ua_core::SessionState;
+
+/// Takes a step that may be taken, and puts it behind the others. The room for it is made first.
+///
+/// # Errors
+/// `Memory` where memory is refused. Nothing has changed then.
+pub(crate) fn take<B: Bank + Drop>(
+    world: &mut World<'_, B>,
+    steps: &mut Vec<Step>,
+    step: Step,
+) -> Result<(), EdgeFault>
+    requires { may_step world.old step ≡ None }
+    ensures leads { OnOk result (Leads world.old step world.new) }
+    ensures listed { OnOk result (steps.new.items ≡ steps.old.items ++ step ∷ []) }
+    ensures goes { OnOk result (Goes world.old steps.old.items world.new steps.new.items (tick_in step) (deliver_in step)) }
+    ensures same { OnErr result (world.new ≡ world.old) }
+    ensures unlisted { OnErr result (steps.new.items ≡ steps.old.items) }
+    ensures fault { IfErr result (λ e. e ≡ EdgeFault.Memory) }
+{
+    let Ok(()) = steps.reserve(1) else {
+        return Err(EdgeFault::Memory);
+    };
+    match world.step(&step) {
+        Ok(()) => {}
+        Err(_) => return Err(EdgeFault::Memory),
+    }
+    let _ = steps.push(step);
+    Ok(())
+}
+
+/// A tick passes.
+///
+/// # Errors
+/// `Step` where the clock stands at its last tick, and `Memory`. Nothing has changed then.
+pub(crate) fn tick<B: Bank + Drop>(
+    world: &mut World<'_, B>,
+    steps: &mut Vec<Step>,
+) -> Result<(), EdgeFault>
+    ensures goes { OnOk result (Goes world.old steps.old.items world.new steps.new.items 1 0) }
+    ensures same { OnErr result (world.new ≡ world.old) }
+    ensures unlisted { OnErr result (steps.new.items ≡ steps.old.items) }
+    ensures fault { IfErr result (λ e. e ≢ EdgeFault.Frame) }
+    ensures end { IfErr result (λ e. e ≡ EdgeFault.Step → world.new.now ≡ 2 ^ 32 - 1) }
+{
+    if world.now() == u32::MAX {
+        return Err(EdgeFault::Step);
+    }
+    take(world, steps, Step::Tick)
+}
+
+/// The verdict that a device waits for: that all is well.
+fn awaited<B: Bank + Drop>(world: &World<'_, B>, device: u8) -> Option<Verdict>
+    ensures { IfSome result (λ v. may_step world.now (Step.Verdict device v) ≡ None) }
+{
+    let Some(node) = world.device(device) else {
+        return None;
+    };
+    if awaits(node.device(), Verdict::VerifyOk) {
+        return Some(Verdict::VerifyOk);
+    }
+    if awaits(node.device(), Verdict::ApplyOk) {
+        return Some(Verdict::ApplyOk);
+    }
+    None
+}
+
+/// Whether the session with a device waits for the operator to activate what was applied.
+fn is_ready<B: Bank + Drop>(world: &World<'_, B>, device: u8) -> bool
+    ensures { result ≡ true → may_step world.now (Step.Activate device) ≡ None }
+{
+    match world.agent().session(device) {
+        Some(session) => session.state() == SessionState::AllApplied,
+        None => false,
+    }
+}
+
+/// The device at a place has the verdict that it waits for, if it waits for one.
+fn judge<B: Bank + Drop>(
+    world: &mut World<'_, B>,
+    place: usize,
+    steps: &mut Vec<Step>,
+) -> Result<(), EdgeFault>
+    ensures goes { OnOk result (Goes world.old steps.old.items world.new steps.new.items 0 0) }
+    ensures drives { OnErr result (Drives world.old steps.old.items world.new steps.new.items) }
+    ensures fault { IfErr result (λ e. e ≡ EdgeFault.Memory) }
+{
+    let Some(node) = world.device_at(place) else {
+        return Ok(());
+    };
+    let device = node.eid();
+    let Some(verdict) = awaited(world, device) else {
+        return Ok(());
+    };
+    take(world, steps, Step::Verdict(device, verdict))
+}
+
+/// The operator has the device at a place activate, if its session waits for that.
+fn activate<B: Bank + Drop>(
+    world: &mut World<'_, B>,
+    place: usize,
+    steps: &mut Vec<Step>,
+) -> Result<(), EdgeFault>
+    ensures goes { OnOk result (Goes world.old steps.old.items world.new steps.new.items 0 0) }
+    ensures drives { OnErr result (Drives world.old steps.old.items world.new steps.new.items) }
+    ensures fault { IfErr result (λ e. e ≡ EdgeFault.Memory) }
+{
+    let Some(node) = world.device_at(place) else {
+        return Ok(());
+    };
+    let device = node.eid();
+    if !is_ready(world, device) {
+        return Ok(());
+    }
+    take(world, steps, Step::Activate(device))
+}
+
+/// Each device that waits for a verdict has it, in configured order.
+pub(crate) fn judge_all<B: Bank + Drop>(
+    world: &mut World<'_, B>,
+    steps: &mut Vec<Step>,
+) -> Result<(), EdgeFault>
+    ensures goes { OnOk result (Goes world.old steps.old.items world.new steps.new.items 0 0) }
+    ensures drives { OnErr result (Drives world.old steps.old.items world.new steps.new.items) }
+    ensures fault { IfErr result (λ e. e ≡ EdgeFault.Memory) }
+{
+    for place in 0..world.device_count() {
+        match judge(world, place, steps) {
+            Ok(()) => {}
+            Err(fault) => return Err(fault),
+        }
+    }
+    Ok(())
+}
+
+/// Each session that waits for that activates, in configured order.
+pub(crate) fn activate_all<B: Bank + Drop>(
+    world: &mut World<'_, B>,
+    steps: &mut Vec<Step>,
+) -> Result<(), EdgeFault>
+    ensures goes { OnOk result (Goes world.old steps.old.items world.new steps.new.items 0 0) }
+    ensures drives { OnErr result (Drives world.old steps.old.items world.new steps.new.items) }
+    ensures fault { IfErr result (λ e. e ≡ EdgeFault.Memory) }
+{
+    for place in 0..world.device_count() {
+        match activate(world, place, steps) {
+            Ok(()) => {}
+            Err(fault) => return Err(fault),
+        }
+    }
+    Ok(())
+}
+
+/// Whether the session with the device at a place is Done or Failed.
+fn is_over<B: Bank + Drop>(world: &World<'_, B>, device: u8) -> bool
+    ensures { result ≡ is_over (half_for world.now.agent device) }
+{
+    match world.agent().session(device) {
+        Some(session) => matches!(
+            session.state(),
+            SessionState::Done | SessionState::Failed(_)
+        ),
+        None => true,
+    }
+}
+
+/// Whether each session is Done or Failed.
+pub(crate) fn all_over<B: Bank + Drop>(world: &World<'_, B>) -> bool
+    ensures { result ≡ all_over world.now }
+{
+    for place in 0..world.device_count() {
+        let Some(node) = world.device_at(place) else {
+            return true;
+        };
+        if !is_over(world, node.eid()) {
+            return false;
+        }
+    }
+    true
+}

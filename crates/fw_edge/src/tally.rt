@@ -1,0 +1,58 @@
+//! What a link counts.
+
+ghost use Rattle.std.specs.Prelude.{◌≡◌, false, true};
+ghost use Rattle.fw_edge.specs.Links.{Asks, Fails, Sends};
+
+/// What a link has done so far. Each count stops at its last value.
+#[derive(Clone, Copy, Debug, PartialEq, Eq)]
+pub struct Tally {
+    /// Calls that failed.
+    pub failures: u64,
+    /// Packets that it took.
+    pub sent: u64,
+    /// How often it was asked for a frame, and didn't fail.
+    pub asked: u64,
+    /// Frames that it gave.
+    pub given: u64,
+}
+
+impl Tally {
+    /// Nothing yet.
+    pub fn new() -> Tally
+        ensures failures { result.failures ≡ 0 }
+        ensures sent { result.sent ≡ 0 }
+        ensures asked { result.asked ≡ 0 }
+        ensures given { result.given ≡ 0 }
+    {
+        Tally {
+            failures: 0,
+            sent: 0,
+            asked: 0,
+            given: 0,
+        }
+    }
+
+    /// Counts a call that failed.
+    pub fn fail(&mut self)
+        ensures { Fails self.old self.new }
+    {
+        self.failures = self.failures.saturating_add(1);
+    }
+
+    /// Counts a packet that was taken.
+    pub fn send(&mut self)
+        ensures { Sends self.old self.new }
+    {
+        self.sent = self.sent.saturating_add(1);
+    }
+
+    /// Counts that a frame was asked for, and whether one was given.
+    pub fn ask(&mut self, gave: bool)
+        ensures { Asks gave self.old self.new }
+    {
+        self.asked = self.asked.saturating_add(1);
+        if gave {
+            self.given = self.given.saturating_add(1);
+        }
+    }
+}

@@ -1,0 +1,131 @@
+//! Links of the tests.
+
+ghost use Rattle.std.specs.Prelude.{◌≡◌};
+
+use crate::{FrameFault, Link, MemLink, Tally};
+use fw_world::Side;
+use mctp_wire::RawPacket;
+use std::alloc::Global;
+
+/// What a link does that isn't right.
+#[derive(Clone, Copy, PartialEq, Eq)]
+pub enum Trouble {
+    /// Loses the packet of this number, counted from 1.
+    Loses(u64),
+    /// Loses every packet.
+    LosesAll,
+    /// Puts a forged packet before its first.
+    ForgesFirst,
+    /// Gives a forged packet whenever it is asked, and passes nothing on.
+    ForgesAlways,
+    /// Fails in its call of this number, counted from 1, and in no other.
+    Fails(u64),
+}
+
+/// A link in memory with a trouble.
+#[derive(Drop)]
+pub struct BadLink {
+    link: MemLink,
+    trouble: Trouble,
+    /// The calls, and the packets, so far.
+    calls: u64,
+    packets: u64,
+    tally: Tally,
+}
+
+/// RequestUpdate's command code made 0xFF, from 8 to 9: no packet of a run.
+fn forged() -> RawPacket {
+    let mut packet = RawPacket::new();
+    let _ = packet.try_extend_from_slice(&[0x01, 0x09, 0x08, 0xC8, 0x01, 0x80, 0x05, 0xFF]);
+    packet
+}
+
+impl BadLink {
+    /// A link on which nothing was sent.
+    pub fn new(alloc: Global, trouble: Trouble) -> BadLink {
+        BadLink {
+            link: MemLink::new(alloc),
+            trouble,
+            calls: 0,
+            packets: 0,
+            tally: Tally::new(),
+        }
+    }
+
+    /// Whether the call that is made now fails.
+    fn fails(&mut self) -> bool
+        ensures { self.new.tally ≡ self.old.tally }
+    {
+        self.calls = self.calls.saturating_add(1);
+        self.trouble == Trouble::Fails(self.calls)
+    }
+
+    /// Passes a packet on, or not.
+    fn pass(&mut self, side: Side, packet: &RawPacket)
+        ensures { self.new.tally ≡ self.old.tally }
+    {
+        self.packets = self.packets.saturating_add(1);
+        match self.trouble {
+            Trouble::LosesAll | Trouble::ForgesAlways => return,
+            Trouble::Loses(number) if number == self.packets => return,
+            Trouble::ForgesFirst if self.packets == 1 => {
+                let _ = self.link.send(side, &forged());
+            }
+            _ => {}
+        }
+        let _ = self.link.send(side, packet);
+    }
+
+    /// The next packet at an end.
+    fn next(&mut self, side: Side) -> Option<RawPacket>
+        ensures { self.new.tally ≡ self.old.tally }
+    {
+        if self.trouble == Trouble::ForgesAlways {
+            return Some(forged());
+        }
+        match self.link.receive(side) {
+            Ok(packet) => packet,
+            Err(_) => None,
+        }
+    }
+}
+
+impl Link for BadLink {
+    ghost tally = { λ l. l.tally };
+
+    fn send(&mut self, side: Side, packet: &RawPacket) -> Result<(), FrameFault> {
+        if self.fails() {
+            self.tally.fail();
+            return Err(FrameFault::Io);
+        }
+        self.pass(side, packet);
+        self.tally.send();
+        Ok(())
+    }
+
+    fn receive(&mut self, side: Side) -> Result<Option<RawPacket>, FrameFault> {
+        if self.fails() {
+            self.tally.fail();
+            return Err(FrameFault::Io);
+        }
+        let packet = self.next(side);
+        self.tally.ask(packet.is_some());
+        Ok(packet)
+    }
+
+    fn failures(&self) -> u64 {
+        self.tally.failures
+    }
+
+    fn sent(&self) -> u64 {
+        self.tally.sent
+    }
+
+    fn asked(&self) -> u64 {
+        self.tally.asked
+    }
+
+    fn given(&self) -> u64 {
+        self.tally.given
+    }
+}

@@ -1,0 +1,208 @@
+//! Runs over links.
+
+use crate::tests::links::{BadLink, Trouble};
+use crate::tests::packages::{ONE, file, image, package};
+use crate::tests::setup::{DEVICE, KEY, Small, three, world};
+use crate::{Driven, EdgeFault, Link, MemLink, drive};
+use fd_core::{Bank, State};
+use fw_package::Package;
+use fw_world::{Event, Step, replay};
+use std::alloc::{AllocError, Global};
+use std::test::Fail;
+use ua_core::{Cause, SessionState};
+
+/// Whether a device and its session stand so, and so many packets were sent between it and the agent.
+fn stands(world: &Small<'_>, device: u8, session: SessionState, state: State, sent: usize) -> bool {
+    match (
+        world.agent().session(device),
+        world.device(device),
+        world.packets(device),
+    ) {
+        (Some(s), Some(d), Some(packets)) => {
+            s.state() == session && d.device().state() == state && packets.len() == sent
+        }
+        _ => false,
+    }
+}
+
+/// Whether a device runs these bytes.
+fn runs(world: &Small<'_>, device: u8, bytes: &[u8]) -> bool {
+    match world.device(device) {
+        Some(node) => match node.device().bank().active(KEY) {
+            Some((_, image)) => image == bytes,
+            None => false,
+        },
+        None => false,
+    }
+}
+
+/// Whether the device applied an image, the agent recorded that, the device activated it, and nothing else happened.
+fn told(world: &Small<'_>) -> bool {
+    let [applied, recorded, activated] = world.history() else {
+        return false;
+    };
+    matches!(
+        (&applied.event, &recorded.event, &activated.event),
+        (Event::Applied(_), Event::Recorded(_), Event::Activated(_))
+    )
+}
+
+/// The worked world with its update started.
+fn started<'a>(alloc: Global, packages: &'a [Package<'a>]) -> Result<Small<'a>, AllocError> {
+    let mut world = world(alloc, packages)?;
+    let _ = world.step(&Step::Start(DEVICE, 1));
+    Ok(world)
+}
+
+/// Whether the worked world, driven so over this link, ends updated after so many turns, with so many foreign frames and
+/// packets.
+fn updates<L: Link + Drop>(
+    alloc: Global,
+    link: L,
+    turns: u32,
+    foreign: u64,
+    sent: usize,
+) -> Result<bool, Fail> {
+    let bytes = file(alloc, ONE)?;
+    let packages = [package(&bytes)?];
+    let mut world = started(alloc, &packages)?;
+    let mut steps = Vec::new(alloc);
+    let mut links = [link];
+    let driven = drive(&mut world, &mut links, 100, &mut steps);
+    let image = image(alloc)?;
+    Ok(
+        driven == Ok(Driven { turns, foreign })
+            && world.now() == turns
+            && told(&world)
+            && runs(&world, DEVICE, &image)
+            && stands(&world, DEVICE, SessionState::Done, State::Activate, sent),
+    )
+}
+
+#[test]
+fn over_a_perfect_link_an_update_takes_12_turns(rt: HostRuntime) -> Result<(), Fail> {
+    assert!(rt; updates(rt.alloc(), MemLink::new(rt.alloc()), 12, 0, 27)?);
+    Ok(())
+}
+
+#[test]
+fn over_a_link_that_loses_the_first_answer_an_update_takes_18_turns(
+    rt: HostRuntime,
+) -> Result<(), Fail> {
+    let link = BadLink::new(rt.alloc(), Trouble::Loses(2));
+    assert!(rt; updates(rt.alloc(), link, 18, 0, 29)?);
+    Ok(())
+}
+
+#[test]
+fn a_forged_frame_changes_nothing(rt: HostRuntime) -> Result<(), Fail> {
+    let link = BadLink::new(rt.alloc(), Trouble::ForgesFirst);
+    assert!(rt; updates(rt.alloc(), link, 12, 1, 27)?);
+    Ok(())
+}
+
+#[test]
+fn a_link_that_gives_forged_frames_without_end_stops_no_turn(rt: HostRuntime) -> Result<(), Fail> {
+    let bytes = file(rt.alloc(), ONE)?;
+    let packages = [package(&bytes)?];
+    let mut world = started(rt.alloc(), &packages)?;
+    let mut steps = Vec::new(rt.alloc());
+    let mut links = [BadLink::new(rt.alloc(), Trouble::ForgesAlways)];
+    let driven = drive(&mut world, &mut links, 3, &mut steps);
+    assert!(rt;
+        driven
+            == Ok(Driven {
+                turns: 3,
+                foreign: 3_072
+            })
+    );
+    assert!(rt; steps.as_slice() == [Step::Tick, Step::Tick, Step::Tick].as_slice());
+    Ok(())
+}
+
+/// Whether a fresh world that takes these steps is this world, as far as it shows.
+fn is_replay<'a>(
+    alloc: Global,
+    packages: &'a [Package<'a>],
+    world: &Small<'_>,
+    steps: &[Step],
+) -> Result<bool, AllocError> {
+    let mut other = started(alloc, packages)?;
+    let taken = replay(&mut other, steps).is_ok();
+    let same = other.packets(DEVICE) == world.packets(DEVICE);
+    let (Some(device), Some(there)) = (other.device(DEVICE), world.device(DEVICE)) else {
+        return Ok(false);
+    };
+    Ok(
+        taken
+            && same
+            && device.device().state() == there.device().state()
+            && other.now() == world.now()
+            && other.history().len() == world.history().len(),
+    )
+}
+
+/// Drives the worked world over a link that fails in its `k`-th call: whether it didn't; None where the outcome isn't right.
+fn fails_at(alloc: Global, k: u64) -> Result<Option<bool>, Fail> {
+    let bytes = file(alloc, ONE)?;
+    let packages = [package(&bytes)?];
+    let mut world = started(alloc, &packages)?;
+    let mut steps = Vec::new(alloc);
+    let mut links = [BadLink::new(alloc, Trouble::Fails(k))];
+    let driven = drive(&mut world, &mut links, 100, &mut steps);
+    if !is_replay(alloc, &packages, &world, &steps)? {
+        return Ok(None);
+    }
+    let [link] = &links;
+    match (driven, link.failures()) {
+        (Ok(_), 0) => Ok(Some(true)),
+        (Err(EdgeFault::Frame), 1) => Ok(Some(false)),
+        _ => Ok(None),
+    }
+}
+
+#[test]
+fn a_link_that_fails_ends_the_run_at_a_replay_of_its_steps(rt: HostRuntime) -> Result<(), Fail> {
+    for k in 1..1_000 {
+        match fails_at(rt.alloc(), k)? {
+            Some(true) => return Ok(()),
+            Some(false) => {}
+            None => assert!(rt; false, "{k}"),
+        }
+    }
+    assert!(rt; false, "no run without a fault");
+    Ok(())
+}
+
+#[test]
+fn one_silent_device_of_three_fails_alone(rt: HostRuntime) -> Result<(), Fail> {
+    let bytes = file(rt.alloc(), ONE)?;
+    let packages = [package(&bytes)?];
+    let image = image(rt.alloc())?;
+    let mut world = three(rt.alloc(), &packages)?;
+    for device in [9, 10, 11] {
+        assert!(rt; world.step(&Step::Start(device, 1)).is_ok());
+    }
+    let mut steps = Vec::new(rt.alloc());
+    let mut links = [
+        BadLink::new(rt.alloc(), Trouble::Loses(0)),
+        BadLink::new(rt.alloc(), Trouble::LosesAll),
+        BadLink::new(rt.alloc(), Trouble::Loses(0)),
+    ];
+    let driven = drive(&mut world, &mut links, 100, &mut steps);
+    assert!(rt;
+        driven
+            == Ok(Driven {
+                turns: 19,
+                foreign: 0
+            })
+    );
+    for device in [9, 11] {
+        assert!(rt; stands(&world, device, SessionState::Done, State::Idle, 27));
+        assert!(rt; runs(&world, device, &image));
+    }
+    let silent = SessionState::Failed(Cause::Silent);
+    assert!(rt; stands(&world, 10, silent, State::Idle, 3));
+    assert!(rt; runs(&world, 10, &[0xAA]));
+    Ok(())
+}
