@@ -11,6 +11,7 @@ mod outgoing;
 mod retries;
 mod rounds;
 mod steps;
+mod stream;
 mod tally;
 #[cfg(test)]
 mod tests;
@@ -20,4 +21,5 @@ pub use frame::{FrameFault, read_frame, write_frame};
 pub use hearing::heard;
 pub use link::Link;
 pub use memory::MemLink;
+pub use stream::StreamLink;
 pub use tally::Tally;

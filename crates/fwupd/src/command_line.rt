@@ -15,6 +15,8 @@ pub enum Job<'a> {
     Inspect(&'a str),
     /// Replay, with the configuration of the first path, the schedule of the second.
     Replay(&'a str, &'a str),
+    /// Update the devices of the configuration of the first path over sockets in the folder of the second.
+    Run(&'a str, &'a str),
 }
 
 /// What stands below the help of `answer`.
@@ -164,6 +166,42 @@ fn replay_command<'a>(alloc: Global) -> Result<Command<'a>, clap::Error> {
     Ok(command)
 }
 
+/// What stands below the help of `run`.
+const RUN_HELP: &str = "\
+Example:
+  fwupd run data/worlds/one.config /tmp
+
+CONFIG is a configuration as 'fwupd replay --help' has it. The report is the one of 'replay'.
+
+Faults: 'package: none' where CONFIG names no package; 'socket: EID' where the file FOLDER/EID.sock can't be made, as where
+it is there already; 'edge: Frame' where a socket fails, and 'edge: Step' at the end of the clock, both after the report.
+
+Limits: 80000 turns, of one tick each; three images of 1 MiB take about 66000.
+
+Status: 0; 1 where standard error says 'fwupd: ' and a fault, one of these or of 'replay'; 2 for wrong usage.";
+
+/// The subcommand `run`.
+fn run_command<'a>(alloc: Global) -> Result<Command<'a>, clap::Error> {
+    let config = Arg::new(alloc, "CONFIG")
+        .help("The configuration's file: an agent, its devices, packages")
+        .required(true)
+        .action(ArgAction::Set);
+    let folder = Arg::new(alloc, "FOLDER")
+        .help("The folder that the sockets are made in")
+        .required(true)
+        .action(ArgAction::Set);
+    let command = Command::new(alloc, "run")
+        .about("Updates each device with the first package, over Unix sockets")
+        .long_about(
+            "Updates each device of a configuration with its first package, each over a Unix socket FOLDER/EID.sock to \
+            itself, and prints a report of what that leaves. The sockets are removed afterwards.",
+        )
+        .after_long_help(RUN_HELP)
+        .arg(config)?
+        .arg(folder)?;
+    Ok(command)
+}
+
 /// The whole command line.
 fn command<'a>(alloc: Global) -> Result<Command<'a>, clap::Error> {
     let command = Command::new(alloc, "fwupd")
@@ -173,7 +211,8 @@ fn command<'a>(alloc: Global) -> Result<Command<'a>, clap::Error> {
         .arg_required_else_help(true)
         .subcommand(answer_command(alloc)?)?
         .subcommand(inspect_command(alloc)?)?
-        .subcommand(replay_command(alloc)?)?;
+        .subcommand(replay_command(alloc)?)?
+        .subcommand(run_command(alloc)?)?;
     Ok(command)
 }
 
@@ -204,6 +243,10 @@ pub fn parse<'a>(alloc: Global, words: &'a [String]) -> Result<Job<'a>, clap::Er
         Some(("replay", matches)) => Ok(Job::Replay(
             matches.get_str("CONFIG").unwrap_or(""),
             matches.get_str("SCHEDULE").unwrap_or(""),
+        )),
+        Some(("run", matches)) => Ok(Job::Run(
+            matches.get_str("CONFIG").unwrap_or(""),
+            matches.get_str("FOLDER").unwrap_or(""),
         )),
         _ => Err(command(alloc)?.error(ErrorKind::MissingSubcommand, "a subcommand is required")?),
     }

@@ -2,6 +2,7 @@
 
 use crate::inspection::InspectFault;
 use crate::stream::AnswerFault;
+use fw_edge::EdgeFault;
 use fw_package::PackageFault;
 use fw_script::{ScriptCause, ScriptFault};
 use fw_world::StepFault;
@@ -26,6 +27,15 @@ pub enum RunFault<'a> {
     /// A step of a schedule, numbered from 1, isn't taken.
     #[error("step {0}: {1}")]
     Step(usize, StepFault),
+    /// No package is configured.
+    #[error("package: none")]
+    NoPackage,
+    /// The socket of the device with this endpoint identifier can't be made.
+    #[error("socket: {0}")]
+    Socket(u8),
+    /// A run over links ended early.
+    #[error("edge: {0}")]
+    Edge(EdgeFault),
     /// Standard output takes no more.
     #[error("output")]
     Output,
@@ -55,5 +65,13 @@ pub fn text_fault<'a>(path: &'a str, fault: ScriptFault) -> RunFault<'a> {
     match fault.cause {
         ScriptCause::Memory => RunFault::Memory,
         _ => RunFault::Text(path, fault),
+    }
+}
+
+/// Why a run over links ended early.
+pub fn edge_fault<'a>(fault: EdgeFault) -> RunFault<'a> {
+    match fault {
+        EdgeFault::Memory => RunFault::Memory,
+        _ => RunFault::Edge(fault),
     }
 }

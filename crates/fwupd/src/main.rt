@@ -9,6 +9,8 @@ mod nodes;
 mod replaying;
 mod responder;
 mod retries;
+mod running;
+mod sockets;
 mod stream;
 #[cfg(test)]
 mod tests;
@@ -20,12 +22,17 @@ ghost use Rattle.fw_script.specs.Whole.{AreWhole};
 
 use clap::error::ErrorKind;
 use command_line::Job;
-use faults::{RunFault, inspection_fault, reading_fault, text_fault};
+use faults::{RunFault, edge_fault, inspection_fault, reading_fault, text_fault};
+use fd_core::MemBank;
+use fw_edge::EdgeFault;
 use fw_package::Package;
-use fw_script::{Config, read_config, read_schedule};
-use fw_world::Step;
+use fw_script::{Config, read_config, read_schedule, report};
+use fw_world::{Step, World};
 use mctp_ctl::Endpoint;
+use nodes::nodes;
 use replaying::{Outcome, replayed};
+use running::update_all;
+use sockets::{SocketLink, remove_sockets, socket_link};
 use std::fs::File;
 use std::io::{self, BufWriter, Read, Write};
 use std::process::ExitCode;
@@ -183,12 +190,115 @@ fn replay(rt: &HostRuntime, config_path: &str, schedule_path: &str) -> ExitCode 
     status(rt, told(rt, &outcome))
 }
 
+/// Makes a socket in a folder for each device of a world, and a link over it; the paths of those that are made are listed.
+fn socket_links<'a>(
+    rt: &HostRuntime,
+    world: &World<'_, MemBank>,
+    folder: &str,
+    paths: &mut Vec<String>,
+) -> Result<Vec<SocketLink>, RunFault<'a>> {
+    let alloc = rt.alloc();
+    let mut links = Vec::new(alloc);
+    for place in 0..world.device_count() {
+        let Some(node) = world.device_at(place) else {
+            return Ok(links);
+        };
+        let eid = node.eid();
+        let Ok(path) = format!(in alloc; "{folder}/{eid}.sock") else {
+            return Err(RunFault::Memory);
+        };
+        let Ok(()) = paths.reserve(1) else {
+            return Err(RunFault::Memory);
+        };
+        let Ok(()) = links.reserve(1) else {
+            return Err(RunFault::Memory);
+        };
+        let Ok(link) = socket_link(rt, &path) else {
+            return Err(RunFault::Socket(eid));
+        };
+        let _ = paths.push(path);
+        let _ = links.push(link);
+    }
+    Ok(links)
+}
+
+/// Updates the devices of a world over sockets in a folder, and prints the report of what that leaves.
+fn updated<'a>(
+    rt: &HostRuntime,
+    world: &mut World<'_, MemBank>,
+    links: &mut [SocketLink],
+) -> Result<(), RunFault<'a>> {
+    if links.len() > 16 {
+        return Ok(());
+    }
+    let end = update_all(rt.alloc(), world, links);
+    if let Err(EdgeFault::Memory) = end {
+        return Err(RunFault::Memory);
+    }
+    let Ok(text) = report(rt.alloc(), world) else {
+        return Err(RunFault::Memory);
+    };
+    let Ok(()) = io::writer(rt).write_all(&text) else {
+        return Err(RunFault::Output);
+    };
+    match end {
+        Ok(()) => Ok(()),
+        Err(fault) => Err(edge_fault(fault)),
+    }
+}
+
+/// Updates the devices of a world over sockets in a folder, which are removed afterwards.
+fn over_sockets<'a>(
+    rt: &HostRuntime,
+    world: &mut World<'_, MemBank>,
+    folder: &str,
+) -> Result<(), RunFault<'a>> {
+    let mut paths = Vec::new(rt.alloc());
+    let end = match socket_links(rt, world, folder, &mut paths) {
+        Ok(mut links) => updated(rt, world, links.as_mut_slice()),
+        Err(fault) => Err(fault),
+    };
+    remove_sockets(rt, paths.as_slice());
+    end
+}
+
+/// Updates the devices of a configuration with its first package, over Unix sockets in a folder.
+fn update(rt: &HostRuntime, config_path: &str, folder: &str) -> ExitCode {
+    let Config {
+        agent,
+        devices,
+        packages: paths,
+    } = match configuration(rt, config_path) {
+        Ok(config) => config,
+        Err(fault) => return failed(rt, fault),
+    };
+    let files = match package_files(rt, paths.as_slice()) {
+        Ok(files) => files,
+        Err(fault) => return failed(rt, fault),
+    };
+    let packages = match packages_in(rt, files.as_slice()) {
+        Ok(packages) => packages,
+        Err(fault) => return failed(rt, fault),
+    };
+    if packages.is_empty() {
+        return failed(rt, RunFault::NoPackage);
+    }
+    let Ok(nodes) = nodes(rt.alloc(), agent.eid, devices) else {
+        return failed(rt, RunFault::Memory);
+    };
+    let Ok(mut world) = World::new(rt.alloc(), agent, nodes, packages.as_slice()) else {
+        return failed(rt, RunFault::Memory);
+    };
+    status(rt, over_sockets(rt, &mut world, folder))
+}
+
 /// Does what the words ask for, and gives the status of it.
 fn run(rt: &HostRuntime, job: &Job<'_>) -> ExitCode {
     match job {
         Job::Answer(endpoint) => status(rt, answer(rt, *endpoint)),
         Job::Inspect(path) => status(rt, inspect(rt, path)),
         Job::Replay(config, schedule) => replay(rt, config, schedule),
+        Job::Run(config, folder) => update(rt, config, folder),
     }
 }
 
