@@ -1,5 +1,7 @@
 //! Runs over links.
 
+ghost use Rattle.std.specs.Prelude.{◌≤◌, length};
+
 use crate::tests::links::{BadLink, Trouble};
 use crate::tests::packages::{ONE, file, image, package};
 use crate::tests::setup::{DEVICE, KEY, Small, three, world};
@@ -54,21 +56,21 @@ fn started<'a>(alloc: Global, packages: &'a [Package<'a>]) -> Result<Small<'a>, 
     Ok(world)
 }
 
-/// Whether the worked world, driven so over this link, ends updated after so many turns, with so many foreign frames and
-/// packets.
-fn updates<L: Link + Drop>(
+/// Whether the worked world, driven over this link, ends updated after so many turns, with so many foreign frames and packets.
+fn updates<L: Link>(
     alloc: Global,
-    link: L,
+    links: &mut [L],
     turns: u32,
     foreign: u64,
     sent: usize,
-) -> Result<bool, Fail> {
+) -> Result<bool, Fail>
+    requires { length links.old ≤ 16 }
+{
     let bytes = file(alloc, ONE)?;
     let packages = [package(&bytes)?];
     let mut world = started(alloc, &packages)?;
     let mut steps = Vec::new(alloc);
-    let mut links = [link];
-    let driven = drive(&mut world, &mut links, 100, &mut steps);
+    let driven = drive(&mut world, links, 100, &mut steps);
     let image = image(alloc)?;
     Ok(
         driven == Ok(Driven { turns, foreign })
@@ -81,7 +83,8 @@ fn updates<L: Link + Drop>(
 
 #[test]
 fn over_a_perfect_link_an_update_takes_12_turns(rt: HostRuntime) -> Result<(), Fail> {
-    assert!(rt; updates(rt.alloc(), MemLink::new(rt.alloc()), 12, 0, 27)?);
+    let mut links = [MemLink::new(rt.alloc())];
+    assert!(rt; updates(rt.alloc(), &mut links, 12, 0, 27)?);
     Ok(())
 }
 
@@ -89,15 +92,15 @@ fn over_a_perfect_link_an_update_takes_12_turns(rt: HostRuntime) -> Result<(), F
 fn over_a_link_that_loses_the_first_answer_an_update_takes_18_turns(
     rt: HostRuntime,
 ) -> Result<(), Fail> {
-    let link = BadLink::new(rt.alloc(), Trouble::Loses(2));
-    assert!(rt; updates(rt.alloc(), link, 18, 0, 29)?);
+    let mut links = [BadLink::new(rt.alloc(), Trouble::Loses(2))];
+    assert!(rt; updates(rt.alloc(), &mut links, 18, 0, 29)?);
     Ok(())
 }
 
 #[test]
 fn a_forged_frame_changes_nothing(rt: HostRuntime) -> Result<(), Fail> {
-    let link = BadLink::new(rt.alloc(), Trouble::ForgesFirst);
-    assert!(rt; updates(rt.alloc(), link, 12, 1, 27)?);
+    let mut links = [BadLink::new(rt.alloc(), Trouble::ForgesFirst)];
+    assert!(rt; updates(rt.alloc(), &mut links, 12, 1, 27)?);
     Ok(())
 }
 
