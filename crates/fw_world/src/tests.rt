@@ -1,11 +1,7 @@
-//! Schedules of worked steps, and random ones.
+//! Schedules of worked steps.
 
-mod dice;
-mod headers;
 mod packages;
-mod random;
 mod rows;
 mod schedules;
 mod setup;
 mod turns;
-mod watch;
