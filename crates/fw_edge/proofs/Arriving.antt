@@ -1,5 +1,5 @@
 -- A packet that is heard may be delivered.
-use Rattle.std.proofs.Common.{◌≡◌, ◌≤◌, ◌<◌, ◌+◌, ◌-◌, ◌==◌, ◌&&◌, ◌||◌, ◌∙◌, ◌⊎◌, ℕ, zero, suc, List, [], ◌∷◌, true, false, if◌then◌else◌, nat_lt, Bool, Option, Some, None, inl, inr, refl, slice_get, sym, ap, arith}
+use Rattle.std.proofs.Common.{◌≡◌, ◌≤◌, ◌+◌, ◌-◌, ◌==◌, ◌&&◌, ◌||◌, ◌∙◌, ◌⊎◌, ℕ, List, [], true, false, if◌then◌else◌, nat_lt, Bool, Option, Some, None, inl, inr, refl, slice_get, ap, arith}
 use Rattle.std.specs.Prelude.{IsSomeAnd, is_some}
 use Rattle.std.proofs.lemmas.Bool.{eq-eqb}
 use Rattle.std.proofs.lemmas.Bool.Decides.{nat_tests}

@@ -1,5 +1,5 @@
 -- Packets that are looked through from the last one on.
-use Rattle.std.proofs.Common.{◌≡◌, ◌≤◌, ◌<◌, ◌-◌, ◌∙◌, ℕ, zero, suc, List, [], ◌∷◌, get_or, if◌then◌else◌, inl, inr, length, map, slice_get, Option, Some, None, refl, sym, ap, subst, arith}
+use Rattle.std.proofs.Common.{◌≡◌, ◌≤◌, ◌<◌, ◌-◌, ◌∙◌, ℕ, zero, suc, List, [], ◌∷◌, get_or, if◌then◌else◌, inl, inr, length, map, slice_get, Some, None, refl, sym, ap, subst, arith}
 use Rattle.std.specs.Prelude.{IsSomeAnd, option_map}
 use Rattle.std.proofs.lemmas.Bool.{lt-ltb}
 use Rattle.std.proofs.lemmas.Bool.Decides.{eqb_tells}

@@ -1,5 +1,5 @@
 -- Sessions that are over.
-use Rattle.std.proofs.Common.{◌≡◌, ◌+◌, ◌∙◌, ℕ, zero, suc, List, [], ◌∷◌, ◌&&◌, drop, false, slice_get, true, Bool, Option, Some, None, refl, sym, ap, arith}
+use Rattle.std.proofs.Common.{◌≡◌, ◌+◌, ◌∙◌, ℕ, zero, suc, List, [], ◌∷◌, ◌&&◌, drop, false, slice_get, true, Bool, Some, sym, ap, arith}
 use Rattle.std.specs.Prelude.{option_map}
 use Rattle.fw_node.specs.Agents.{AgentOf, half_for}
 use Rattle.fw_node.specs.Nodes.{DeviceNodeOf}

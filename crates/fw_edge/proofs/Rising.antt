@@ -1,5 +1,5 @@
 -- Counts that rise.
-use Rattle.std.proofs.Common.{◌≡◌, ◌≤◌, ◌<◌, ◌+◌, ◌-◌, ◌^◌, ◌∙◌, ℕ, zero, suc, List, [], ◌∷◌, get_or, length, map, refl, slice_set, subst, sym, arith}
+use Rattle.std.proofs.Common.{◌≡◌, ◌≤◌, ◌<◌, ◌+◌, ◌-◌, ◌^◌, ℕ, zero, suc, List, [], ◌∷◌, get_or, length, map, refl, slice_set, subst, sym, arith}
 use Rattle.std.proofs.lemmas.List.{map-set}
 use Rattle.fw_edge.specs.Ledgers.{AllRose, AreBelow, AreGiven, RoseTogether, total}
 

@@ -1,5 +1,5 @@
 -- What a run over links does.
-use Rattle.std.specs.Prelude.{ℕ, ◌≡◌, ◌≤◌, ◌<◌, ◌+◌, ◌-◌, ◌^◌, ◌⊎◌, ◌++◌, ◌&&◌, Bool, true, false, IsSomeAnd, List, [], ◌∷◌, length, map, slice_get, sum, Option, Some, None}
+use Rattle.std.specs.Prelude.{ℕ, ◌≡◌, ◌≤◌, ◌+◌, ◌++◌, ◌&&◌, Bool, true, false, IsSomeAnd, List, [], ◌∷◌, Option, Some, None}
 use Rattle.std.specs.List.{sum_by}
 use Rattle.exch_lane.specs.Lanes.{numbered}
 use Rattle.fw_node.specs.Agents.{AgentOf, half_for}
@@ -7,8 +7,8 @@ use Rattle.fw_node.specs.Halves.{HalfOf}
 use Rattle.ua_core.specs.Session.{TimedOf, state_of}
 use Rattle.ua_core.specs.declared.state.SessionState.{SessionState}
 use Rattle.ua_core.specs.declared.state.SessionState.TheVariants as states
-use Rattle.fw_world.specs.Replays.{Leads, Run}
-use Rattle.fw_world.specs.Worlds.{SiteOf, WorldOf, packets_at, packets_of}
+use Rattle.fw_world.specs.Replays.{Run}
+use Rattle.fw_world.specs.Worlds.{SiteOf, WorldOf, packets_of}
 use Rattle.fw_world.specs.declared.step.Step.{Step}
 use Rattle.fw_world.specs.declared.step.Step.TheVariants as steps
 

@@ -1,5 +1,5 @@
 -- Packets as frames in a stream of bytes, and what is read and written of a frame where one fails.
-use Rattle.std.specs.Prelude.{ℕ, ◌≡◌, ◌≤◌, ◌<◌, ◌+◌, ◌⊎◌, List, [], ◌∷◌, ◌++◌, length, take, Option}
+use Rattle.std.specs.Prelude.{ℕ, ◌≡◌, ◌≤◌, ◌<◌, ◌⊎◌, List, [], ◌∷◌, ◌++◌, length, take, Option}
 use Rattle.std.specs.Io.KnownBytes.{Appends, Consumes, IsAtEnd, Keeps}
 use Rattle.byteorder.specs.Endian.{little_bytes, little_number}
 use Rattle.fw_edge.specs.declared.frame.FrameFault.{FrameFault}

@@ -1,5 +1,7 @@
 -- What a link counts.
-use Rattle.std.specs.Prelude.{ℕ, ◌≡◌, ◌+◌, ◌-◌, ◌^◌, ◌⊎◌, Bool, true, false}
+use Rattle.std.specs.Prelude.{ℕ, ◌≡◌, ◌==◌, ◌+◌, ◌-◌, ◌^◌, ◌⊎◌, ◌∷◌, Bool, true, false, if◌then◌else◌, List}
+use Rattle.fw_message.specs.declared.side.Side.{Side}
+use Rattle.fw_message.specs.declared.side.Side.TheVariants as sides
 use Rattle.fw_edge.specs.declared.tally.Tally.{Tally}
 
 -- a count rises by one, or stays at its last value
@@ -30,3 +32,8 @@ pub record Fails (old new : Tally) : Type 0 where
   pub asked : new.asked ≡ old.asked
   pub given : new.given ≡ old.given
   pub failures : Rises old.failures new.failures
+
+-- the end of a device's link at which a packet goes out: that of its sender, whom its third byte names (DSP0236)
+abbrev pub end_of : List ℕ → (device : ℕ) → Side
+end_of (version ∷ dest ∷ source ∷ rest) device = if source == device then sides.Device else sides.Agent
+end_of bytes device = sides.Agent

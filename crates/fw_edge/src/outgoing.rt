@@ -2,6 +2,7 @@
 
 ghost use Rattle.std.specs.Prelude.{◌≡◌, ◌≤◌, IfErr, OnErr, OnOk, length, map, slice_get};
 ghost use Rattle.fw_edge.specs.Ledgers.{HasFailed, OneFailed, Writes};
+ghost use Rattle.fw_edge.specs.Links.{end_of};
 ghost use Rattle.fw_world.specs.Worlds.{packets_at};
 
 use crate::driving::EdgeFault;
@@ -10,12 +11,17 @@ use exch_lane::SentPacket;
 use fd_core::Bank;
 use fw_world::{Side, World};
 
-/// The end of a link at which a packet goes out: that of its sender, whom its third byte names (DSP0236).
-fn end_of(packet: &SentPacket, device: u8) -> Side {
-    match packet.bytes.as_slice() {
-        [_, _, source, ..] if *source == device => Side::Device,
-        _ => Side::Agent,
+/// The end of a device's link at which a packet goes out: that of its sender, whom its third byte names (DSP0236).
+fn end_of(packet: &SentPacket, device: u8) -> Side
+    ensures { result ≡ end_of packet.now.bytes.items device }
+{
+    let [_, _, source, ..] = packet.bytes.as_slice() else {
+        return Side::Agent;
+    };
+    if *source == device {
+        return Side::Device;
     }
+    Side::Agent
 }
 
 /// Writes these packets of a pair to its link, each at its sender's end.

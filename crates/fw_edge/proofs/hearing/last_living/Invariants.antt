@@ -1,4 +1,4 @@
-use Rattle.std.proofs.Common.{ℕ, map}
+use Rattle.std.proofs.Common.{map}
 use Rattle.exch_lane.specs.Journals.{sent_of}
 use Rattle.fw_edge.proofs.Latest.{LivesNoneBehind}
 use Rattle.fw_edge.proofs.hearing.last_living.Given as goal
