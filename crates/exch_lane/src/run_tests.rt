@@ -1,7 +1,5 @@
 use crate::{End, Lane, LaneEntry, LaneFault, LaneStep, lane_replay};
 use pldm_base::Reply;
-use std::alloc::Global;
-use std::process::Abort;
 
 /// Numbers that look random, always the same ones: a linear congruential generator.
 #[derive(Drop)]
@@ -72,21 +70,6 @@ impl Numbers {
     }
 }
 
-/// A lane after a thousand steps, and how many of them it took.
-fn lane_of(alloc: Global, rt: &impl Abort) -> (Lane, u32) {
-    let mut lane = Lane::new(alloc, 8, 9);
-    let mut numbers = Numbers { state: 12 };
-    let mut taken = 0u32;
-    for _ in 0..1000 {
-        let step = numbers.step(lane.packets().len() as u64);
-        match lane_replay(&mut lane, &[step]) {
-            Ok(()) => taken = taken.saturating_add(1),
-            Err((_, fault)) => assert!(rt; fault != LaneFault::Memory),
-        }
-    }
-    (lane, taken)
-}
-
 /// Each request that is taken is the last that was asked, and is taken once; each reply that is learnt is the last one
 /// that was given, and is learnt once.
 fn is_of_a_cell(entries: &[LaneEntry]) -> bool {
@@ -110,23 +93,6 @@ fn is_of_a_cell(entries: &[LaneEntry]) -> bool {
         }
     }
     true
-}
-
-#[test]
-fn a_thousand_steps_twice_give_the_same_lane(rt: HostRuntime) {
-    let (first, taken) = lane_of(rt.alloc(), &rt);
-    let (second, taken_again) = lane_of(rt.alloc(), &rt);
-    assert_eq!(rt; taken, taken_again);
-    assert_eq!(rt; first.now(), second.now());
-    assert_eq!(rt; first.packets(), second.packets());
-    assert_eq!(rt; first.history(), second.history());
-    assert!(rt; is_of_a_cell(first.history()));
-    // the steps do something
-    let entries = first.history();
-    let takes = |entry: &&LaneEntry| matches!(entry, LaneEntry::Taken(..));
-    let learns = |entry: &&LaneEntry| matches!(entry, LaneEntry::Learnt(_));
-    assert!(rt; entries.iter().filter(takes).count() >= 5);
-    assert!(rt; entries.iter().filter(learns).count() >= 2);
 }
 
 /// Holds whichever single allocation is refused.

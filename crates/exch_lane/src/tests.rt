@@ -1,7 +1,6 @@
 use crate::{End, Lane, LaneEntry, LaneFault, LaneStep, lane_replay};
 use pldm_base::Reply;
 use std::process::Abort;
-use std::test::Fail;
 
 /// The bytes of a request, a reply or their data.
 fn data(bytes: &[u8]) -> Reply {
@@ -130,58 +129,6 @@ fn pieces_of_a_sending_and_of_its_repeat_mix(rt: HostRuntime) {
 }
 
 #[test]
-fn a_reply_of_four_packets_may_be_eight_ticks_late(rt: HostRuntime) {
-    let reply = [0x00; 252];
-    for (late, is_learnt) in [(0u32, true), (8, true), (9, false)] {
-        let mut lane = Lane::new(rt.alloc(), 8, 9);
-        takes(&mut lane, &[begin(0x02, &[]), to_taker(1, &reply)], &rt);
-        assert_eq!(rt; lane.packets().len(), 5, "{late}");
-        let before_last = late.min(8);
-        ticks(&mut lane, before_last, &rt);
-        takes(&mut lane, &[to_asker(2), to_asker(3), to_asker(4)], &rt);
-        ticks(&mut lane, late.saturating_sub(before_last), &rt);
-        if is_learnt {
-            takes(&mut lane, &[to_asker(5)], &rt);
-            assert_eq!(rt;
-                lane.history(),
-                [asked(0x02, &[]), taken(0x02, &[], &reply), learnt(&reply)].as_slice()
-            );
-        } else {
-            refuses(&mut lane, to_asker(5), LaneFault::Dead, &rt);
-            assert_eq!(rt;
-                lane.history(),
-                [asked(0x02, &[]), taken(0x02, &[], &reply)].as_slice()
-            );
-        }
-    }
-}
-
-#[test]
-fn gives_up_and_begins_again_34_ticks_later(rt: HostRuntime) {
-    let mut lane = Lane::new(rt.alloc(), 8, 9);
-    takes(&mut lane, &[begin(0x01, &[])], &rt);
-    for time in 1..52u32 {
-        ticks(&mut lane, 1, &rt);
-        let sendings = match time {
-            0..6 => 1,
-            6..12 => 2,
-            _ => 3,
-        };
-        assert_eq!(rt; lane.packets().len(), sendings, "{time}");
-        assert_eq!(rt; lane.is_open(), time < 18, "{time}");
-        refuses(&mut lane, begin(0x01, &[]), LaneFault::NotNow, &rt);
-    }
-    ticks(&mut lane, 1, &rt);
-    takes(&mut lane, &[begin(0x02, &[])], &rt);
-    let dates = [1, 2, 3, 4].map(|number| sent(&lane, number, &rt).0);
-    assert_eq!(rt; dates, [0, 6, 12, 52]);
-    assert_eq!(rt;
-        lane.history(),
-        [asked(0x01, &[]), asked(0x02, &[])].as_slice()
-    );
-}
-
-#[test]
 fn an_asker_that_starts_anew_is_deaf_for_40_ticks(rt: HostRuntime) {
     let mut lane = Lane::new(rt.alloc(), 8, 9);
     takes(
@@ -225,55 +172,6 @@ fn an_asker_that_starts_anew_is_deaf_for_40_ticks(rt: HostRuntime) {
 }
 
 #[test]
-fn a_taker_that_starts_anew_hears_in_the_fortieth_tick(rt: HostRuntime) {
-    let mut lane = Lane::new(rt.alloc(), 8, 9);
-    takes(&mut lane, &[LaneStep::Restart(End::Taker)], &rt);
-    ticks(&mut lane, 34, &rt);
-    takes(&mut lane, &[begin(0x01, &[])], &rt);
-    ticks(&mut lane, 5, &rt);
-    assert!(rt; lane.is_deaf(End::Taker) && !lane.is_deaf(End::Asker));
-    takes(&mut lane, &[to_taker(1, &[0x00])], &rt);
-    assert_eq!(rt; lane.history(), [asked(0x01, &[])].as_slice());
-    ticks(&mut lane, 1, &rt);
-    assert!(rt; !lane.is_deaf(End::Taker));
-    takes(&mut lane, &[to_taker(1, &[0x00])], &rt);
-    assert_eq!(rt;
-        lane.history(),
-        [asked(0x01, &[]), taken(0x01, &[], &[0x00])].as_slice()
-    );
-}
-
-#[test]
-fn nine_requests_in_a_row_use_the_first_tag_twice(rt: HostRuntime) {
-    let mut lane = Lane::new(rt.alloc(), 8, 9);
-    for number in 0..9u8 {
-        if number == 8 {
-            // eight ticks have passed since the first tag was used
-            for _ in 8..40 {
-                refuses(&mut lane, begin(number, &[]), LaneFault::NotNow, &rt);
-                ticks(&mut lane, 1, &rt);
-            }
-        }
-        let first = lane.packets().len() + 1;
-        takes(
-            &mut lane,
-            &[
-                begin(number, &[]),
-                to_taker(first, &[0x00, number]),
-                to_asker(first.saturating_add(1)),
-                LaneStep::Tick,
-            ],
-            &rt,
-        );
-        let head = [0x01, 9, 8, 0xC8 | number & 7, 0x01, 0x80 | number];
-        assert_eq!(rt; sent(&lane, first, &rt).1.get(..6), Some(head.as_slice()));
-        let entries = lane.history();
-        assert_eq!(rt; entries.len(), 3 * (usize::from(number) + 1));
-        assert_eq!(rt; entries.last(), Some(&learnt(&[0x00, number])));
-    }
-}
-
-#[test]
 fn faults_are_named_and_change_nothing(rt: HostRuntime) {
     let mut lane = Lane::new(rt.alloc(), 8, 9);
     refuses(&mut lane, LaneStep::Abandon, LaneFault::NotNow, &rt);
@@ -298,25 +196,4 @@ fn faults_are_named_and_change_nothing(rt: HostRuntime) {
     let steps = [LaneStep::Abandon, LaneStep::Tick, LaneStep::Abandon];
     assert_eq!(rt; lane_replay(&mut lane, &steps), Err((2, LaneFault::NotNow)));
     assert_eq!(rt; (lane.now(), lane.is_open()), (10, false));
-}
-
-#[test]
-fn packets_that_are_not_for_an_end_are_dropped(rt: HostRuntime) {
-    let mut lane = Lane::new(rt.alloc(), 8, 9);
-    takes(
-        &mut lane,
-        &[begin(0x01, &[]), to_asker(1), to_taker(1, &[0x00])],
-        &rt,
-    );
-    takes(
-        &mut lane,
-        &[to_taker(2, &[0x00]), LaneStep::Abandon, to_asker(2)],
-        &rt,
-    );
-    assert_eq!(rt;
-        lane.history(),
-        [asked(0x01, &[]), taken(0x01, &[], &[0x00])].as_slice()
-    );
-    assert_eq!(rt; lane.packets().len(), 2);
-    assert!(rt; !lane.is_open() && !lane.is_quiet());
 }

@@ -3,7 +3,7 @@
 use crate::code::{command, completion, response, text_type};
 use crate::{
     Answer, ComponentParameters, Descriptor, DescriptorList, Key, Malformed, OfferResponse,
-    ParameterList, Status, TableResponse, Text, Version, read_answer, write_answer,
+    ParameterList, TableResponse, Text, Version, read_answer, write_answer,
 };
 use pldm_base::Reply;
 use std::process::Abort;
@@ -144,57 +144,6 @@ fn reads_answers_without_lists(rt: HostRuntime) -> Result<(), Fail> {
         return Ok(());
     };
     assert_eq!(rt; time, 258);
-    Ok(())
-}
-
-#[test]
-fn reads_a_status(rt: HostRuntime) -> Result<(), Fail> {
-    let in_download = [0, 3, 2, 0, 0, 0x65, 0, 0, 0, 0, 0];
-    let mut forced = [0, 4, 3, 2, 0x90, 0x65, 6, 1, 0, 0, 0];
-    let download = Status {
-        state: 3,
-        previous: 2,
-        aux: 0,
-        aux_status: 0,
-        progress: 0x65,
-        reason: 0,
-        force: false,
-    };
-    let verify = Status {
-        state: 4,
-        previous: 3,
-        aux: 2,
-        aux_status: 0x90,
-        progress: 0x65,
-        reason: 6,
-        force: true,
-    };
-    for (bytes, status) in [(&in_download, download), (&forced, verify)] {
-        match read_and_written(&rt, command::GET_STATUS, bytes)? {
-            Answer::GetStatus(told) => assert_eq!(rt; told, status),
-            _ => assert!(rt; false, "another answer"),
-        }
-    }
-    forced[7] = 0xFE;
-    match read_answer(command::GET_STATUS, &forced)? {
-        Answer::GetStatus(told) => assert!(rt; !told.force, "reserved bits"),
-        _ => assert!(rt; false, "another answer"),
-    }
-    Ok(())
-}
-
-#[test]
-fn lends_data(rt: HostRuntime) -> Result<(), Fail> {
-    let mut bytes = [0; 252];
-    bytes[1] = 0xA5;
-    bytes[251] = 0x5A;
-    for size in [1usize, 2, 33, 252] {
-        assert!(rt; 1 <= size && size <= 252);
-        match read_and_written(&rt, command::REQUEST_FIRMWARE_DATA, &bytes[..size])? {
-            Answer::RequestFirmwareData(lent) => assert_eq!(rt; lent, &bytes[1..size]),
-            _ => assert!(rt; false, "another answer"),
-        }
-    }
     Ok(())
 }
 
@@ -342,27 +291,5 @@ fn refuses_malformed_answers(rt: HostRuntime) {
     ];
     for (situation, byte, bytes) in table {
         assert!(rt; read_answer(byte, bytes).is_err(), "{situation}");
-    }
-}
-
-#[test]
-fn refuses_other_values_of_fixed_fields(rt: HostRuntime) {
-    let mut answer = parameters_answer(&[&FIRST]);
-    assert!(rt; read_answer(command::GET_FIRMWARE_PARAMETERS, &answer).is_ok());
-    let _ = answer.pop();
-    assert!(rt;
-        read_answer(command::GET_FIRMWARE_PARAMETERS, &answer).is_err(),
-        "a byte missing"
-    );
-    for place in [1, 4, 5, 7, 8, 9, 10, 21, 22, 29, 35, 36, 43, 44, 45, 46, 49] {
-        let mut changed = parameters_answer(&[&FIRST]);
-        match changed.as_mut_slice().get_mut(place) {
-            Some(byte) => *byte = byte.wrapping_add(1),
-            None => assert!(rt; false, "no byte {place}"),
-        }
-        assert!(rt;
-            read_answer(command::GET_FIRMWARE_PARAMETERS, &changed).is_err(),
-            "byte {place}"
-        );
     }
 }

@@ -5,7 +5,7 @@ use crate::{
     Command, ComponentOffer, Key, TableEntry, Text, TransferFlag, UpdateRequest, Version, read,
     write,
 };
-use pldm_base::completion::{ERROR_INVALID_DATA, ERROR_INVALID_LENGTH, ERROR_UNSUPPORTED_PLDM_CMD};
+use pldm_base::completion::ERROR_INVALID_LENGTH;
 use std::test::Fail;
 
 const KEY: Key = Key {
@@ -146,36 +146,6 @@ fn lends_the_text(rt: HostRuntime) -> Result<(), Fail> {
     Ok(())
 }
 
-#[test]
-fn takes_each_flag_and_option(rt: HostRuntime) -> Result<(), Fail> {
-    let flags = [
-        (1, TransferFlag::Start),
-        (2, TransferFlag::Middle),
-        (4, TransferFlag::End),
-        (5, TransferFlag::StartAndEnd),
-    ];
-    for (byte, flag) in flags {
-        let mut fields = ENTRY;
-        fields[0] = byte;
-        match read(command::PASS_COMPONENT_TABLE, &fields)? {
-            Command::PassComponentTable(entry) => assert_eq!(rt; entry.flag, flag),
-            _ => assert!(rt; false, "another command"),
-        }
-    }
-    let mut forced = OFFER;
-    forced[13] = 0x01;
-    let mut reserved = OFFER;
-    reserved[13] = 0xFE;
-    reserved[16] = 0xFF;
-    for (fields, force) in [(OFFER, false), (forced, true), (reserved, false)] {
-        match read(command::UPDATE_COMPONENT, &fields)? {
-            Command::UpdateComponent(offer) => assert_eq!(rt; offer.force, force),
-            _ => assert!(rt; false, "another command"),
-        }
-    }
-    Ok(())
-}
-
 /// Whether each of these request data is refused with this code.
 fn is_refused(byte: u8, fields: &[u8], code: u8) -> bool {
     match read(byte, fields) {
@@ -262,45 +232,5 @@ fn refuses_every_length_of_a_text_but_its_own(rt: HostRuntime) {
                 ERROR_INVALID_LENGTH
             )
         );
-    }
-}
-
-#[test]
-fn refuses_fields_after_lengths(rt: HostRuntime) {
-    let mut flagged = ENTRY;
-    for flag in [0, 3, 6, 255] {
-        flagged[0] = flag;
-        assert!(rt; is_refused(command::PASS_COMPONENT_TABLE, &flagged, ERROR_INVALID_DATA));
-        assert!(rt;
-            is_refused(
-                command::PASS_COMPONENT_TABLE,
-                &flagged[..13],
-                ERROR_INVALID_LENGTH
-            )
-        );
-    }
-    assert!(rt; is_refused(command::ACTIVATE_FIRMWARE, &[2], ERROR_INVALID_DATA));
-    assert!(rt; is_refused(command::ACTIVATE_FIRMWARE, &[2, 0], ERROR_INVALID_LENGTH));
-    for byte in [0x00, 0x03, 0x11, 0x12, 0x19, 0x1E, 0xFF] {
-        assert!(rt; is_refused(byte, &[0; 3], ERROR_UNSUPPORTED_PLDM_CMD));
-    }
-}
-
-#[test]
-fn tells_which_texts_fit(rt: HostRuntime) {
-    let long = [0x41; 242];
-    for (size, fits) in [(0, true), (233, true), (234, false)] {
-        assert!(rt; size <= 242);
-        let offer = Command::UpdateComponent(ComponentOffer {
-            key: KEY,
-            index: 0,
-            version: Version {
-                stamp: 0,
-                text: ascii(&long[..size]),
-            },
-            size: 0,
-            force: true,
-        });
-        assert_eq!(rt; offer.is_writable(), fits);
     }
 }

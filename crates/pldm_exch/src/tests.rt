@@ -2,7 +2,6 @@
 
 mod answerer;
 mod caller;
-mod long_run;
 
 use mctp_reasm::{Message, MessageFault};
 

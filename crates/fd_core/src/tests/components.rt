@@ -99,25 +99,6 @@ fn activates_only_a_whole_update(rt: HostRuntime) -> Result<(), Fail> {
 }
 
 #[test]
-fn needs_no_activation_where_nothing_is_applied(rt: HostRuntime) -> Result<(), Fail> {
-    let mut device = worked(rt.alloc())?;
-    let _ = ask(&mut device, 0x10, &REQUEST, true);
-    let reply = ask(&mut device, 0x13, &entry(5, 9), true);
-    assert_eq!(rt; reply.as_slice(), [0, 1, 6].as_slice());
-    let reply = ask(&mut device, 0x1A, &[0], true);
-    assert_eq!(rt; reply.as_slice(), [0x8B].as_slice());
-    let mut other = offer(2, 241, true);
-    other[2] = 9;
-    let reply = ask(&mut device, 0x14, &other, true);
-    assert_eq!(rt;
-        reply.as_slice(),
-        [0, 1, 6, 0, 0, 0, 0, 0, 0].as_slice(),
-        "listed, and not the device's"
-    );
-    Ok(())
-}
-
-#[test]
 fn tells_its_descriptors_and_components(rt: HostRuntime) -> Result<(), Fail> {
     let mut device = worked(rt.alloc())?;
     let reply = ask(&mut device, 0x01, &[], false);

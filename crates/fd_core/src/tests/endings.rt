@@ -1,10 +1,9 @@
 //! What ends an update, and what it leaves.
 
 use crate::tests::setup::{
-    APPLIED, APPLY, COMPLETE, DOWNLOAD, DOWNLOADED, LEARN, READY, VERIFIED, VERIFY, advance, ask,
-    has_applied, pass, status, wishes, worked,
+    APPLIED, APPLY, COMPLETE, DOWNLOAD, DOWNLOADED, LEARN, READY, VERIFIED, VERIFY, advance,
+    has_applied, pass, status, worked,
 };
-use fwup_wire::code::command::CANCEL_UPDATE;
 use std::test::Fail;
 
 /// A place of an update: its state's number, and the reason of its time-out.
@@ -21,19 +20,6 @@ const PLACES: [(&str, usize, u8, u8); 9] = [
 ];
 
 #[test]
-fn a_cancelled_update_leaves_nothing_applied(rt: HostRuntime) -> Result<(), Fail> {
-    for (situation, place, state, _) in &PLACES {
-        let mut device = worked(rt.alloc())?;
-        advance(&mut device, *place);
-        let reply = ask(&mut device, CANCEL_UPDATE, &[], false);
-        assert_eq!(rt; reply.as_slice(), [0; 10].as_slice(), "{situation}");
-        assert_eq!(rt; status(&mut device), [0, *state, 3, 0, 2], "{situation}");
-        assert!(rt; !has_applied(&device) && !wishes(&device), "{situation}");
-    }
-    Ok(())
-}
-
-#[test]
 fn the_240th_tick_without_a_change_ends_an_update(rt: HostRuntime) -> Result<(), Fail> {
     for (situation, place, state, reason) in &PLACES {
         let mut device = worked(rt.alloc())?;
@@ -48,18 +34,6 @@ fn the_240th_tick_without_a_change_ends_an_update(rt: HostRuntime) -> Result<(),
             "{situation}"
         );
         assert!(rt; !has_applied(&device), "{situation}");
-    }
-    Ok(())
-}
-
-#[test]
-fn a_restart_leaves_nothing_applied(rt: HostRuntime) -> Result<(), Fail> {
-    for (situation, place, _, _) in &PLACES {
-        let mut device = worked(rt.alloc())?;
-        advance(&mut device, *place);
-        device.restart();
-        assert_eq!(rt; status(&mut device), [0, 0, 3, 0, 0], "{situation}");
-        assert!(rt; !has_applied(&device) && !wishes(&device), "{situation}");
     }
     Ok(())
 }

@@ -2,13 +2,12 @@
 
 use crate::bank::{Bank, BankFault};
 use crate::tests::setup::{
-    ACTIVATE, APPLY, COMPLETE, DOWNLOAD, IDLE, READY, VERIFY, advance, advance_between, ask, bank,
-    device, has_applied, number, offer, report, status, worked,
+    ACTIVATE, APPLY, COMPLETE, IDLE, READY, VERIFY, advance, advance_between, ask, bank, device,
+    number, offer, report, status, worked,
 };
 use crate::{Device, FailBank, Verdict};
 use fwup_wire::code::command::{
-    ACTIVATE_FIRMWARE, APPLY_COMPLETE, CANCEL_UPDATE_COMPONENT, TRANSFER_COMPLETE,
-    UPDATE_COMPONENT, VERIFY_COMPLETE,
+    ACTIVATE_FIRMWARE, APPLY_COMPLETE, CANCEL_UPDATE_COMPONENT, UPDATE_COMPONENT, VERIFY_COMPLETE,
 };
 use fwup_wire::{Answer, Malformed};
 use std::alloc::Global;
@@ -18,44 +17,6 @@ use std::test::Fail;
 fn failing(alloc: Global, k: u64) -> Result<Device<FailBank>, BankFault> {
     let bank = bank(alloc, 1)?;
     Ok(device(FailBank::new(bank, k)))
-}
-
-/// A call that fails, by its number and the place before it: the status after it, and the failure that is reported.
-type Failure<'a> = (&'a str, u64, usize, [u8; 5], Option<(u8, u8)>);
-
-/// An image of 32 bytes takes one begin, one put, one seal and one switch.
-const FAILURES: [Failure<'static>; 4] = [
-    ("begin", 1, READY, [2, 1, 3, 0, 0], None),
-    (
-        "put",
-        2,
-        DOWNLOAD,
-        [3, 2, 2, 0x70, 0],
-        Some((TRANSFER_COMPLETE, 0x70)),
-    ),
-    (
-        "seal",
-        3,
-        APPLY,
-        [5, 4, 2, 0xB0, 0],
-        Some((APPLY_COMPLETE, 0xB0)),
-    ),
-    ("switch", 4, COMPLETE, [2, 5, 3, 0, 0], None),
-];
-
-#[test]
-fn names_each_failure_of_the_bank(rt: HostRuntime) -> Result<(), Fail> {
-    for (situation, k, place, expected, failure) in &FAILURES {
-        let mut device = failing(rt.alloc(), *k)?;
-        advance_between(&mut device, IDLE, *place, 32);
-        assert_eq!(rt; device.bank().failures(), 0, "{situation}");
-        advance_between(&mut device, *place, *place + 1, 32);
-        assert_eq!(rt; device.bank().failures(), 1, "{situation}");
-        assert_eq!(rt; status(&mut device), *expected, "{situation}");
-        assert!(rt; report(&device) == *failure, "{situation}");
-        assert_eq!(rt; has_applied(&device), *place == COMPLETE, "{situation}");
-    }
-    Ok(())
 }
 
 #[test]

@@ -1,14 +1,11 @@
 //! Whole updates: what is asked, stored, applied and activated.
 
 use crate::tests::setup::{
-    ACTIVATE, APPLIED, APPLY, COMPLETE, DOWNLOAD, DOWNLOADED, IDLE, LEARN, VERIFIED,
-    advance_between, ask, has_applied, is_applied, is_done, pass, report, runs, status, transfer,
-    wishes, worked,
+    ACTIVATE, APPLIED, APPLY, COMPLETE, DOWNLOAD, DOWNLOADED, IDLE, VERIFIED, advance_between, ask,
+    has_applied, is_applied, is_done, pass, report, runs, status, transfer, wishes, worked,
 };
 use crate::{Device, MemBank};
-use fwup_wire::code::command::{
-    APPLY_COMPLETE, REQUEST_UPDATE, TRANSFER_COMPLETE, VERIFY_COMPLETE,
-};
+use fwup_wire::code::command::{APPLY_COMPLETE, TRANSFER_COMPLETE, VERIFY_COMPLETE};
 use std::process::Abort;
 use std::test::Fail;
 
@@ -70,23 +67,6 @@ fn stores_and_activates_images_of_each_size(rt: HostRuntime) -> Result<(), Fail>
         downloads(&rt, &mut device, row);
         applies(&rt, &mut device, row);
         activates(&rt, &mut device, row);
-    }
-    Ok(())
-}
-
-#[test]
-fn asks_what_the_agent_gives_at_once(rt: HostRuntime) -> Result<(), Fail> {
-    let rows: [(&str, u8, (u32, u32, u32)); 3] = [
-        ("32 bytes", 32, (8, 224, 32)),
-        ("100 bytes", 100, (3, 200, 41)),
-        ("241 bytes", 241, (2, 240, 32)),
-    ];
-    for (situation, at_once, requests) in &rows {
-        let request = [*at_once, 0, 0, 0, 1, 0, 1, 0, 0, 1, 1, 0x41];
-        let mut device = worked(rt.alloc())?;
-        let _ = ask(&mut device, REQUEST_UPDATE, &request, true);
-        advance_between(&mut device, LEARN, DOWNLOAD, 241);
-        assert_eq!(rt; transfer(&mut device, 241), *requests, "{situation}");
     }
     Ok(())
 }

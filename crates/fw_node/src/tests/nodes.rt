@@ -1,6 +1,6 @@
 //! Rows of packets and ticks.
 
-use crate::tests::setup::{Event, GET_STATUS, IDLE, agent_answers, device_fails};
+use crate::tests::setup::{Event, GET_STATUS, IDLE, device_fails};
 
 /// RequestUpdate: transfer size 240, one component, set text `A`; tag 0, identifier 0.
 const REQUEST_UPDATE: &[u8] = &[
@@ -52,19 +52,6 @@ fn a_restarted_device_is_deaf_for_40_ticks(rt: HostRuntime) {
 }
 
 #[test]
-fn packets_of_others_and_strays_are_dropped(rt: HostRuntime) {
-    let rows = [
-        // of another source, to another destination, with TO turned, with D set, of an unknown type
-        Event::Packet(&[0x01, 9, 7, 0xC8, 0x01, 0x80, 0x05, 0x1B], &[]),
-        Event::Packet(&[0x01, 10, 8, 0xC8, 0x01, 0x80, 0x05, 0x1B], &[]),
-        Event::Packet(&[0x01, 9, 8, 0xC0, 0x01, 0x80, 0x05, 0x1B], &[]),
-        Event::Packet(&[0x01, 9, 8, 0xC8, 0x01, 0xC0, 0x05, 0x1B], &[]),
-        Event::Packet(&[0x01, 9, 8, 0xC8, 0x7E, 0x80, 0x05, 0x1B], &[]),
-    ];
-    assert_eq!(rt; device_fails(rt.alloc(), &rows), 0);
-}
-
-#[test]
 fn control_and_base_requests_are_answered(rt: HostRuntime) {
     let rows = [
         // Get Endpoint ID; SetTID 5, then GetTID; another PLDM type; an agent's command without its data
@@ -90,23 +77,4 @@ fn control_and_base_requests_are_answered(rt: HostRuntime) {
         ),
     ];
     assert_eq!(rt; device_fails(rt.alloc(), &rows), 0);
-}
-
-#[test]
-fn the_agent_tells_its_commands(rt: HostRuntime) {
-    let ask = [0x01, 8, 9, 0xC8, 0x01, 0x80, 0x00, 0x05, 5, 0, 0, 0, 0];
-    let mut answer = [0; 41];
-    answer[..9].copy_from_slice(&[0x01, 9, 8, 0xC0, 0x01, 0x00, 0x00, 0x05, 0]);
-    answer[11] = 0xE0;
-    answer[12] = 0x01;
-    assert!(rt; agent_answers(rt.alloc(), &ask, &answer));
-}
-
-#[test]
-fn the_agent_drops_strangers_and_refuses_a_device_s_commands(rt: HostRuntime) {
-    let stranger = [0x01, 8, 10, 0xC8, 0x01, 0x80, 0x05, 0x16, 0];
-    assert!(rt; agent_answers(rt.alloc(), &stranger, &[]));
-    let query = [0x01, 8, 9, 0xC8, 0x01, 0x80, 0x05, 0x01, 0];
-    let unsupported = [0x01, 9, 8, 0xC0, 0x01, 0x00, 0x05, 0x01, 5];
-    assert!(rt; agent_answers(rt.alloc(), &query, &unsupported));
 }

@@ -1,6 +1,6 @@
 //! The worked device and its agent, and how rows run on their nodes.
 
-use crate::{AgentNode, DeviceNode, Outbox};
+use crate::{DeviceNode, Outbox};
 use arrayvec::ArrayVec;
 use fd_core::{Component, Device, Key, Label, MemBank};
 use fwup_wire::{Descriptor, DescriptorList, Text, Version};
@@ -130,16 +130,4 @@ pub fn device_fails(alloc: Global, events: &[Event<'_>]) -> usize {
         }
     }
     0
-}
-
-/// A packet comes to the agent of the worked device. Whether it sends this.
-pub fn agent_answers(alloc: Global, bytes: &[u8], answer: &[u8]) -> bool {
-    let (Ok(mut node), Ok(mut outbox)) = (
-        AgentNode::new(alloc, endpoint(AGENT), &[DEVICE]),
-        Outbox::new(alloc),
-    ) else {
-        return false;
-    };
-    node.on_packet(&[], bytes, 0, &mut outbox);
-    holds(&mut outbox, answer)
 }

@@ -2,7 +2,7 @@
 
 use crate::tests::bench::{Bench, Fault};
 use crate::tests::packages::{ONE, TWICE, file, image, package};
-use crate::tests::setup::{DEVICE, GET_STATUS, IDLE, KEY};
+use crate::tests::setup::{DEVICE, KEY};
 use fd_core::Bank;
 use fw_package::Package;
 use std::alloc::{AllocError, Global};
@@ -218,27 +218,5 @@ fn a_cancel_meets_a_stale_completion(rt: HostRuntime) -> Result<(), Fail> {
         };
         assert!(rt; answered(&bench, from, 0x10) == request);
     }
-    Ok(())
-}
-
-/// The image that the device is made with.
-const FACTORY: &[u8] = &[0xAA];
-
-#[test]
-fn a_device_restarts_within_its_update(rt: HostRuntime) -> Result<(), Fail> {
-    let bytes = file(rt.alloc(), ONE)?;
-    let packages = [package(&bytes)?];
-    let mut bench = Bench::new(rt.alloc(), &packages, &[DEVICE])?;
-    assert!(rt; bench.start(DEVICE, 1));
-    bench.turns(7)?;
-    bench.restart_device();
-    bench.ticks(39)?;
-    let before = bench.packets.len();
-    bench.hand_over(GET_STATUS)?;
-    assert_eq!(rt; bench.packets.len(), before);
-    bench.ticks(1)?;
-    bench.hand_over(GET_STATUS)?;
-    assert!(rt; sent_last(&mut bench, IDLE));
-    assert!(rt; runs(&bench, FACTORY));
     Ok(())
 }

@@ -158,17 +158,6 @@ fn eight_requests_leave_the_rests_33_to_40(rt: HostRuntime) {
     assert_eq!(rt; run.caller.rests().as_slice(), wanted.as_slice());
 }
 
-#[test]
-fn begins_with_the_first_tag_and_identifier(rt: HostRuntime) {
-    let mut caller = Caller::new(8, 9);
-    assert!(rt; caller.can_begin());
-    let message = caller.begin(5, 0x10, &[0xF0, 0x00]);
-    assert_eq!(rt; (message.dest(), message.source()), (9, 8));
-    assert_eq!(rt; (message.to(), message.tag()), (true, 0));
-    let wanted = [0x01, 0x80, 0x05, 0x10, 0xF0, 0x00];
-    assert_eq!(rt; message.bytes(), wanted.as_slice());
-}
-
 /// What the third request, of tag 2 and identifier 2, hears in a message under a tag: the last byte of an answer.
 fn heard(to: bool, tag: u8, bytes: &[u8]) -> Result<Option<u8>, Fail> {
     let mut run = Run::new();

@@ -2,7 +2,7 @@
 
 use crate::tests::packages::file;
 use crate::tests::situations::{ONE, go_on, session_after};
-use crate::{Cause, Happening, Lent, Mark, Session, SessionState, StartFault, happened};
+use crate::{Cause, Lent, Session, SessionState, StartFault};
 use fw_package::Package;
 use std::alloc::Global;
 use std::test::Fail;
@@ -50,111 +50,6 @@ fn time_ends_what_is_under_way_in_the_240th_tick(rt: HostRuntime) -> Result<(), 
         assert_eq!(rt; after, ended);
     }
     Ok(())
-}
-
-/// A mark.
-fn at(state: SessionState, records: usize) -> Mark {
-    Mark { state, records }
-}
-
-#[test]
-fn tells_what_happened(rt: HostRuntime) {
-    let failed = SessionState::Failed(Cause::Silent);
-    let rows = [
-        (
-            "a record",
-            at(SessionState::Apply, 0),
-            at(SessionState::AllApplied, 1),
-            Some(Happening::Applied),
-        ),
-        (
-            "a record before all else",
-            at(SessionState::Idle, 0),
-            at(SessionState::Query, 1),
-            Some(Happening::Applied),
-        ),
-        (
-            "a start",
-            at(SessionState::Idle, 2),
-            at(SessionState::Query, 2),
-            Some(Happening::Started),
-        ),
-        (
-            "a start after an update",
-            at(SessionState::Done, 0),
-            at(SessionState::Query, 0),
-            Some(Happening::Started),
-        ),
-        (
-            "a start after a failure",
-            at(failed, 0),
-            at(SessionState::Query, 0),
-            Some(Happening::Started),
-        ),
-        (
-            "Query from elsewhere",
-            at(SessionState::Cancelling, 0),
-            at(SessionState::Query, 0),
-            None,
-        ),
-        (
-            "an activation",
-            at(SessionState::Activate, 1),
-            at(SessionState::Done, 1),
-            Some(Happening::Activated),
-        ),
-        (
-            "Done from elsewhere",
-            at(SessionState::AllApplied, 1),
-            at(SessionState::Done, 1),
-            None,
-        ),
-        (
-            "a failure",
-            at(SessionState::Query, 0),
-            at(failed, 0),
-            Some(Happening::Failed(Cause::Silent)),
-        ),
-        (
-            "another cause of a failure",
-            at(SessionState::Failed(Cause::Plan), 0),
-            at(failed, 0),
-            None,
-        ),
-        (
-            "a cancel",
-            at(SessionState::Pass, 0),
-            at(SessionState::Cancelling, 0),
-            Some(Happening::Cancelled),
-        ),
-        (
-            "a cancel again",
-            at(SessionState::Cancelling, 0),
-            at(SessionState::Cancelling, 0),
-            None,
-        ),
-        (
-            "a step",
-            at(SessionState::Pass, 0),
-            at(SessionState::Update, 0),
-            None,
-        ),
-        (
-            "the end of a cancel",
-            at(SessionState::Cancelling, 0),
-            at(SessionState::Idle, 0),
-            None,
-        ),
-        (
-            "fewer records",
-            at(SessionState::Idle, 1),
-            at(SessionState::Idle, 0),
-            None,
-        ),
-    ];
-    for (situation, before, after, happening) in rows {
-        assert_eq!(rt; happened(before, after), happening, "{situation}");
-    }
 }
 
 /// Holds whichever single allocation is refused: the first start takes memory for its records, and the second beside those

@@ -34,34 +34,6 @@ fn chooses_the_first_record_that_matches(rt: HostRuntime) -> Result<(), Fail> {
 }
 
 #[test]
-fn chooses_no_record_by_a_part_of_its_descriptors(rt: HostRuntime) -> Result<(), Fail> {
-    let bare: &[u8] = &[12, 0, 0, 0, 0, 0, 0, 0, 0, 0, 0, 0];
-    let twofold: &[u8] = &[
-        22, 0, 2, 0, 0, 0, 0, 0, 0, 0, 0, 0, 0, 0, 1, 0, 7, 1, 0, 1, 0, 8,
-    ];
-    let draft = Draft {
-        bitmap_bits: 8,
-        records: &[bare, twofold],
-        components: &[],
-        rest: &[],
-    };
-    let file = file(draft);
-    let package = Package::read(file.as_slice())?;
-    let seven = Descriptor {
-        kind: 0,
-        bytes: &[7],
-    };
-    let eight = Descriptor {
-        kind: 1,
-        bytes: &[8],
-    };
-    assert_eq!(rt; package.record_for(&[seven]), None);
-    assert_eq!(rt; package.record_for(&[eight]), None);
-    assert_eq!(rt; package.record_for(&[eight, seven]), Some(1));
-    Ok(())
-}
-
-#[test]
 fn plans_the_components_of_a_record(rt: HostRuntime) -> Result<(), Fail> {
     let file = worked();
     let package = Package::read(file.as_slice())?;
@@ -178,42 +150,6 @@ fn names_the_first_fault_of_a_plan(rt: HostRuntime) -> Result<(), Fail> {
 }
 
 #[test]
-fn finds_one_key_twice_wherever_it_stands(rt: HostRuntime) -> Result<(), Fail> {
-    let twice = Some(PlanFault::DuplicateComponent);
-    let table: [([u8; 4], Option<PlanFault>); 5] = [
-        ([4, 1, 3, 2], None),
-        ([4, 1, 3, 4], twice),
-        ([1, 4, 2, 1], twice),
-        ([1, 3, 2, 3], twice),
-        ([2, 2, 3, 1], twice),
-    ];
-    for (identifiers, fault) in table {
-        let parts = [
-            component(identifiers[0], 0, 0),
-            component(identifiers[1], 0, 0),
-            component(identifiers[2], 0, 0),
-            component(identifiers[3], 0, 0),
-        ];
-        let lent = [
-            parts[0].as_slice(),
-            parts[1].as_slice(),
-            parts[2].as_slice(),
-            parts[3].as_slice(),
-        ];
-        let draft = Draft {
-            bitmap_bits: 8,
-            records: &[&[12, 0, 0, 0, 0, 0, 0, 0, 0, 0, 0, 0x0F]],
-            components: &lent,
-            rest: &[],
-        };
-        let file = file(draft);
-        let package = Package::read(file.as_slice())?;
-        assert_eq!(rt; plan_answer(&package), fault, "{identifiers:?}");
-    }
-    Ok(())
-}
-
-#[test]
 fn plans_eight_components_at_most(rt: HostRuntime) -> Result<(), Fail> {
     let parts = [
         component(1, 0, 0),
@@ -258,30 +194,5 @@ fn plans_eight_components_at_most(rt: HostRuntime) -> Result<(), Fail> {
         package.plan(0)?.as_slice(),
         [0, 1, 2, 3, 4, 5, 6, 7].as_slice()
     );
-    Ok(())
-}
-
-#[test]
-fn plans_images_of_a_mebibyte_at_most(rt: HostRuntime) -> Result<(), Fail> {
-    let table: [(u32, Option<PlanFault>); 2] = [
-        (1_048_576, None),
-        (1_048_577, Some(PlanFault::ImageTooLarge)),
-    ];
-    for (size, fault) in table {
-        let part = component(1, size, 0);
-        let record = record(0);
-        let draft = Draft {
-            bitmap_bits: 8,
-            records: &[record.as_slice()],
-            components: &[part.as_slice()],
-            rest: &[],
-        };
-        let mut bytes = vec![in rt.alloc(); 0u8; 1_048_577]?;
-        for (at, byte) in bytes.iter_mut().zip(file(draft).as_slice()) {
-            *at = *byte;
-        }
-        let package = Package::read(bytes.as_slice())?;
-        assert_eq!(rt; plan_answer(&package), fault, "{size} bytes");
-    }
     Ok(())
 }

@@ -1,8 +1,6 @@
 //! Packages read, and refused.
 
-use super::drafts::{
-    COMPONENT_1, Draft, File, WORKED_HEADER, file, sign, worked, worked_rest, write,
-};
+use super::drafts::{Draft, File, WORKED_HEADER, file, sign, worked, worked_rest, write};
 use crate::{Package, PackageFault};
 use std::test::Fail;
 
@@ -305,28 +303,6 @@ fn follows_a_record_length_to_the_letter(rt: HostRuntime) {
         };
         assert_eq!(rt; answer(file(draft).as_slice()), fault, "{situation}");
     }
-}
-
-#[test]
-fn wants_a_bit_for_each_component(rt: HostRuntime) {
-    let eight = [COMPONENT_1.as_slice(); 8];
-    let nine = [COMPONENT_1.as_slice(); 9];
-    let record: [&[u8]; 1] = [&[12, 0, 0, 0, 0, 0, 0, 0, 0, 0, 0, 0xFF]];
-    let draft = Draft {
-        bitmap_bits: 8,
-        records: &record,
-        components: &eight,
-        rest: &[0; 200],
-    };
-    assert_eq!(rt; answer(file(draft).as_slice()), None);
-    let more = Draft {
-        components: &nine,
-        ..draft
-    };
-    assert_eq!(rt;
-        answer(file(more).as_slice()),
-        Some(PackageFault::BitmapLength)
-    );
 }
 
 #[test]
