@@ -1,7 +1,11 @@
-//! Schedules of worked steps.
+//! Schedules of worked steps, and random ones.
 
+mod dice;
+mod headers;
 mod packages;
+mod random;
 mod rows;
 mod schedules;
 mod setup;
 mod turns;
+mod watch;

@@ -104,6 +104,88 @@ fn device_of_two(alloc: Global) -> Result<Device<MemBank>, AllocError>
     Ok(Device::new(descriptors(), components, bank))
 }
 
+/// The third component of a device with three.
+const THIRD: Key = Key {
+    classification: 10,
+    identifier: 3,
+};
+
+/// The worked device with components (10, 2) and (10, 3) beside, which are alike.
+fn device_of_three(alloc: Global) -> Result<Device<MemBank>, AllocError>
+    ensures components { IfOk result (λ d. HasComponents d.device) }
+    ensures idle { IfOk result (λ d. d.device.phase ≡ Phase.Idle) }
+    ensures unapplied { IfOk result (λ d. AllByRecursion IsUnapplied d.device.rows) }
+{
+    let mut bank = MemBank::new(alloc);
+    let Ok(()) = bank.add(KEY, &label(), &[0xAA]) else {
+        return Err(AllocError);
+    };
+    let Ok(()) = bank.add(SECOND, &label(), &[0xAA]) else {
+        return Err(AllocError);
+    };
+    let Ok(()) = bank.add(THIRD, &label(), &[0xAA]) else {
+        return Err(AllocError);
+    };
+    let mut components = ArrayVec::new();
+    components.push(Component { key: KEY, index: 0 });
+    components.push(Component {
+        key: SECOND,
+        index: 1,
+    });
+    components.push(Component {
+        key: THIRD,
+        index: 2,
+    });
+    Ok(Device::new(descriptors(), components, bank))
+}
+
+/// The node of the device with three components.
+#[tactic(auto, using(crate::proofs::Opening::new_node))]
+fn node_of_three(alloc: Global, eid: u8) -> Result<DeviceNode<MemBank>, AllocError>
+    requires { IsEid eid }
+    ensures new { IfOk result (IsNewNode 8) }
+    ensures eid { IfOk result (λ n. n.endpoint.eid ≡ eid) }
+{
+    let device = device_of_three(alloc)?;
+    Ok(DeviceNode::new(endpoint(eid), 8, device))
+}
+
+/// The nodes of two devices with two components each.
+fn nodes_of_two(alloc: Global) -> Result<Vec<DeviceNode<MemBank>>, AllocError>
+    ensures { IfOk result (λ ns. AreNewNodes 8 ns.items) }
+{
+    let first = node_of_two(alloc, DEVICE)?;
+    let second = node_of_two(alloc, 10)?;
+    let mut nodes = Vec::new(alloc);
+    nodes.push(first)?;
+    nodes.push(second)?;
+    Ok(nodes)
+}
+
+/// The nodes of two devices with three components each.
+fn nodes_of_three(alloc: Global) -> Result<Vec<DeviceNode<MemBank>>, AllocError>
+    ensures { IfOk result (λ ns. AreNewNodes 8 ns.items) }
+{
+    let first = node_of_three(alloc, DEVICE)?;
+    let second = node_of_three(alloc, 10)?;
+    let mut nodes = Vec::new(alloc);
+    nodes.push(first)?;
+    nodes.push(second)?;
+    Ok(nodes)
+}
+
+/// The world of the agent 8 and the devices 9 and 10 with two or three components.
+pub fn two_devices<'a>(
+    alloc: Global,
+    packages: &'a [Package<'a>],
+    components: usize,
+) -> Result<Small<'a>, AllocError> {
+    if components == 3 {
+        return World::new(alloc, endpoint(8), nodes_of_three(alloc)?, packages);
+    }
+    World::new(alloc, endpoint(8), nodes_of_two(alloc)?, packages)
+}
+
 /// The node of such a device.
 #[tactic(auto, using(crate::proofs::Opening::new_node))]
 fn node(alloc: Global, eid: u8) -> Result<DeviceNode<MemBank>, AllocError>
@@ -127,19 +209,20 @@ fn one(alloc: Global) -> Result<Vec<DeviceNode<MemBank>>, AllocError>
 
 /// The node of the device with two components.
 #[tactic(auto, using(crate::proofs::Opening::new_node))]
-fn node_of_two(alloc: Global) -> Result<DeviceNode<MemBank>, AllocError>
+fn node_of_two(alloc: Global, eid: u8) -> Result<DeviceNode<MemBank>, AllocError>
+    requires { IsEid eid }
     ensures new { IfOk result (IsNewNode 8) }
-    ensures eid { IfOk result (λ n. n.endpoint.eid ≡ DEVICE) }
+    ensures eid { IfOk result (λ n. n.endpoint.eid ≡ eid) }
 {
     let device = device_of_two(alloc)?;
-    Ok(DeviceNode::new(endpoint(DEVICE), 8, device))
+    Ok(DeviceNode::new(endpoint(eid), 8, device))
 }
 
 /// The nodes of one device with two components.
 fn one_of_two(alloc: Global) -> Result<Vec<DeviceNode<MemBank>>, AllocError>
     ensures { IfOk result (λ ns. AreNewNodes 8 ns.items) }
 {
-    let node = node_of_two(alloc)?;
+    let node = node_of_two(alloc, DEVICE)?;
     let mut nodes = Vec::new(alloc);
     nodes.push(node)?;
     Ok(nodes)
@@ -154,7 +237,7 @@ pub fn world_of_two<'a>(
 }
 
 /// The nodes of three devices.
-fn nodes_of_three(alloc: Global) -> Result<Vec<DeviceNode<MemBank>>, AllocError>
+fn nodes_of_three_devices(alloc: Global) -> Result<Vec<DeviceNode<MemBank>>, AllocError>
     ensures { IfOk result (λ ns. AreNewNodes 8 ns.items) }
 {
     let first = node(alloc, DEVICE)?;
@@ -169,7 +252,7 @@ fn nodes_of_three(alloc: Global) -> Result<Vec<DeviceNode<MemBank>>, AllocError>
 
 /// The world of the agent 8 and the devices 9, 10 and 11 alike.
 pub fn three<'a>(alloc: Global, packages: &'a [Package<'a>]) -> Result<Small<'a>, AllocError> {
-    World::new(alloc, endpoint(8), nodes_of_three(alloc)?, packages)
+    World::new(alloc, endpoint(8), nodes_of_three_devices(alloc)?, packages)
 }
 
 /// The world of the agent 8 and the worked device.
