@@ -6,7 +6,7 @@ use crate::tests::situations::{
 };
 use crate::{Cause, Lent, Session, SessionState};
 use fw_package::Package;
-use fwup_wire::{Answer, Malformed, write};
+use fwup_wire::{Answer, Command, Malformed, TransferFlag, write};
 use std::alloc::{AllocError, Global};
 use std::test::Fail;
 
@@ -90,6 +90,24 @@ fn a_whole_update_records_every_component(rt: HostRuntime) -> Result<(), Fail> {
         assert_eq!(rt; session.records().len(), count);
         assert!(rt; has_recorded(&session, 0, 3));
     }
+    Ok(())
+}
+
+/// No start of a session is refused while memory is ample, however many records there are.
+#[test]
+fn a_session_starts_with_a_hundred_records(rt: HostRuntime) -> Result<(), Fail> {
+    let bytes = file(rt.alloc(), first(8))?;
+    let package = Package::read(&bytes)?;
+    let lent = Lent::some(&package);
+    let mut session = Session::new(rt.alloc());
+    for number in 1..14usize {
+        let before = session.records().len();
+        assert!(rt; session.start(number).is_ok(), "update {number}");
+        finish(&mut session, &lent);
+        assert_eq!(rt; session.records().len(), before.saturating_add(8));
+        assert!(rt; has_recorded(&session, before, number));
+    }
+    assert_eq!(rt; session.records().len(), 104);
     Ok(())
 }
 
@@ -182,6 +200,35 @@ fn wishes_each_command_with_its_fields(rt: HostRuntime) -> Result<(), Fail> {
     Ok(())
 }
 
+/// The flag of the table entry that is wished after so many turns.
+fn flag_after(alloc: Global, lent: &Lent<'_>, turns: usize) -> Option<TransferFlag> {
+    match session_after(alloc, lent, turns).wish(lent) {
+        Some(Command::PassComponentTable(entry)) => Some(entry.flag),
+        _ => None,
+    }
+}
+
+#[test]
+fn the_table_has_a_first_a_middle_and_a_last_entry(rt: HostRuntime) -> Result<(), Fail> {
+    let flags = [
+        (1usize, 4usize, TransferFlag::StartAndEnd),
+        (3, 4, TransferFlag::Start),
+        (3, 5, TransferFlag::Middle),
+        (3, 6, TransferFlag::End),
+    ];
+    for (count, turns, flag) in flags {
+        let bytes = file(rt.alloc(), first(count))?;
+        let package = Package::read(&bytes)?;
+        let lent = Lent::some(&package);
+        let found = flag_after(rt.alloc(), &lent, turns);
+        assert_eq!(rt; found, Some(flag), "{count} components, turn {turns}");
+    }
+    Ok(())
+}
+
+/// The turns that lead to each state of one component's update that wishes a command.
+const WISHING: [usize; 7] = [0, 1, 2, 3, 4, 5, 10];
+
 /// Where a refusal with this code leads after so many turns.
 fn refused(alloc: Global, lent: &Lent<'_>, turns: usize, code: u8) -> SessionState {
     let mut session = session_after(alloc, lent, turns);
@@ -194,6 +241,30 @@ fn malformed(alloc: Global, lent: &Lent<'_>, turns: usize) -> SessionState {
     let mut session = session_after(alloc, lent, turns);
     session.learn(Err(Malformed), lent);
     session.state()
+}
+
+#[test]
+fn asks_again_where_the_device_is_not_ready(rt: HostRuntime) -> Result<(), Fail> {
+    let bytes = file(rt.alloc(), ONE)?;
+    let package = Package::read(&bytes)?;
+    let lent = Lent::some(&package);
+    for turns in WISHING {
+        let before = session_after(rt.alloc(), &lent, turns).state();
+        for code in [1, 4, 0x80, 0x81, 0x84] {
+            let after = match (before, code) {
+                (SessionState::ClearOld, 0x80) => SessionState::Request,
+                (SessionState::Request, 4)
+                | (SessionState::Update, 4 | 0x84)
+                | (SessionState::Activate, 0x84) => before,
+                _ => SessionState::Failed(Cause::Answer),
+            };
+            let found = refused(rt.alloc(), &lent, turns, code);
+            assert_eq!(rt; found, after, "{before:?} learns {code}");
+        }
+        let found = malformed(rt.alloc(), &lent, turns);
+        assert_eq!(rt; found, SessionState::Failed(Cause::Answer), "{before:?}");
+    }
+    Ok(())
 }
 
 /// Where the descriptors lead that a device has, whose vendor's identifier has these bytes.
