@@ -169,7 +169,7 @@ fn replay_command<'a>(alloc: Global) -> Result<Command<'a>, clap::Error> {
 /// What stands below the help of `run`.
 const RUN_HELP: &str = "\
 Example:
-  fwupd run data/worlds/one.config /tmp
+  fwupd run data/worlds/one.config out
 
 CONFIG is a configuration as 'fwupd replay --help' has it. The report is the one of 'replay'.
 
