@@ -1,5 +1,5 @@
 -- Packets that are looked through from the last one on.
-use Rattle.std.proofs.Common.{◌≡◌, ◌≤◌, ◌<◌, ◌-◌, ◌∙◌, ℕ, zero, suc, List, [], ◌∷◌, get_or, if◌then◌else◌, inl, inr, length, map, slice_get, Some, None, refl, sym, ap, subst, arith}
+use Rattle.std.proofs.Common.{◌≡◌, ◌≤◌, ◌<◌, ◌+◌, ◌-◌, ◌∙◌, ℕ, zero, suc, List, [], ◌∷◌, get_or, if◌then◌else◌, inl, inr, length, map, slice_get, Some, None, refl, sym, ap, subst, arith}
 use Rattle.std.specs.Prelude.{IsSomeAnd, option_map}
 use Rattle.std.proofs.lemmas.Bool.{lt-ltb}
 use Rattle.std.proofs.lemmas.Bool.Decides.{eqb_tells}
@@ -8,6 +8,7 @@ use Rattle.std.proofs.lemmas.Option.{slice_get-map, slice_get_read}
 use Rattle.exch_lane.specs.Journals.{sent_of}
 use Rattle.exch_lane.specs.Lanes.{Sent, numbered}
 use Rattle.exch_lane.specs.declared.journal.SentPacket.{SentPacket}
+use Rattle.fw_world.specs.Dead.{AreDead}
 use Rattle.fw_edge.specs.Hearing.{IsLastLiving, IsLiving, LivesWith}
 
 -- no packet behind a number lives
@@ -80,10 +81,23 @@ pub last_lives : (now : ℕ) (packets : List SentPacket) (bytes : List ℕ) (num
 last_lives now packets bytes number p some is lives h =
     (subst (λ o. IsSomeAnd o (LivesWith now bytes)) (sym (lives_there now packets bytes number p some is h)) lives, h.none)
 
--- none is left
-pub none_lives : (now : ℕ) (packets : List Sent) (bytes : List ℕ) (number : ℕ) → number ≤ 0 → LivesNoneBehind now packets bytes number → IsLastLiving now packets bytes None
-none_lives now packets bytes number none h = λ other lives. no_zero other (h.none other lives) lives
-  where
-    no_zero : (other : ℕ) → other ≤ number → IsLiving now packets bytes other → ⊥
-    no_zero zero le lives = lives
-    no_zero (suc other) le lives = absurd (omega arith)
+-- a dead one doesn't
+dead_at : (now : ℕ) (bytes : List ℕ) (packets : List Sent) (count place : ℕ) → place < count → AreDead now count packets → IsSomeAnd (slice_get packets place) (LivesWith now bytes) → ⊥
+dead_at now bytes packets zero place lt are lives = absurd (omega arith)
+dead_at now bytes [] (suc n) place lt are lives = are
+dead_at now bytes (p ∷ ps) (suc n) zero lt are lives =
+    let dead : p.date + 8 < now = are.0 in
+    let until : now ≤ p.date + 8 = lives.0 in
+    absurd (omega arith)
+dead_at now bytes (p ∷ ps) (suc n) (suc place) lt are lives = dead_at now bytes ps n place (omega arith) are.1 lives
+
+dead_there : (now : ℕ) (bytes : List ℕ) (packets : List Sent) (count number : ℕ) → number ≤ count → AreDead now count packets → IsLiving now packets bytes number → ⊥
+dead_there now bytes packets count zero le are lives = lives
+dead_there now bytes packets count (suc n) le are lives =
+    dead_at now bytes packets count (suc n - 1) (omega arith) are (living_at now bytes packets (suc n) (omega arith) lives)
+
+-- those that are left are dead
+pub none_lives : (now : ℕ) (packets : List Sent) (bytes : List ℕ) (number dead : ℕ) → number ≤ dead → AreDead now dead packets → LivesNoneBehind now packets bytes number
+    → IsLastLiving now packets bytes None
+none_lives now packets bytes number dead none are h = λ other lives.
+    dead_there now bytes packets dead other (let le : other ≤ number = h.none other lives in omega arith) are lives

@@ -2,6 +2,7 @@
 
 ghost use Rattle.std.specs.Prelude.{◌≡◌, false, map, true};
 ghost use Rattle.exch_lane.specs.Journals.{sent_of};
+ghost use Rattle.fw_world.specs.Dead.{AreDead};
 ghost use Rattle.fw_edge.specs.Hearing.{IsHeard, IsLastLiving, LivesWith};
 
 use exch_lane::SentPacket;
@@ -11,14 +12,14 @@ use mctp_wire::RawPacket;
 use pldm_exch::LIFE;
 
 /// The number of the last packet of a pair, named by its device, that has these bytes and may still come: what a Deliver
-/// names. None exactly where there is no such packet.
+/// names. None exactly where there is no such packet. Those that the world knows to be dead aren't looked at.
 pub fn heard<B: Bank + Drop>(world: &World<'_, B>, pair: u8, packet: &RawPacket) -> Option<usize>
     ensures { IsHeard world.now pair packet.now.items result }
 {
     let Some(packets) = world.packets(pair) else {
         return None;
     };
-    last_living(packets, world.now(), packet)
+    last_living(packets, world.dead_packets(pair), world.now(), packet)
 }
 
 /// Whether a packet may still come at this time, and has these bytes.
@@ -29,12 +30,13 @@ fn is_living(sent: &SentPacket, now: u32, packet: &RawPacket) -> bool
     now <= sent.date.saturating_add(LIFE) && sent.bytes.as_slice() == packet.as_slice()
 }
 
-/// The number of the last of these packets that has these bytes and may still come at this time.
-fn last_living(packets: &[SentPacket], now: u32, packet: &RawPacket) -> Option<usize>
+/// The number of the last of these packets that has these bytes and may still come at this time. So many of the first are dead.
+fn last_living(packets: &[SentPacket], dead: usize, now: u32, packet: &RawPacket) -> Option<usize>
+    requires { AreDead now dead (map sent_of packets.now) }
     ensures { IsLastLiving now (map sent_of packets.now) packet.now.items result }
 {
     let mut number = packets.len();
-    while number > 0 {
+    while number > dead {
         if is_living(&packets[number - 1], now, packet) {
             return Some(number);
         }

@@ -1,6 +1,7 @@
 //! Frames, links and runs, worked.
 
 mod frames;
+mod hearing;
 mod links;
 mod packages;
 mod runs;

@@ -1,4 +1,5 @@
 mod Activating
+mod Aging
 mod Components
 mod Joins
 mod Judging

@@ -1,6 +1,7 @@
 -- The nodes of a world as it begins.
-use Rattle.std.proofs.Common.{◌≡◌, ◌∙◌, ℕ, List, [], ◌∷◌, ap, refl, subst, sym}
+use Rattle.std.proofs.Common.{◌≡◌, ◌∙◌, ℕ, List, [], ◌∷◌, ap, length, map, refl, subst, sym}
 use Rattle.std.specs.List.{AllByRecursion}
+use Rattle.std.proofs.lemmas.List.{length-map}
 use Rattle.std.proofs.lemmas.List.Elements.{All-from_recursion}
 use Rattle.mctp_ctl.specs.declared.answers.Endpoint.{Endpoint}
 use Rattle.exch_lane.specs.Lanes.{IsEid}
@@ -9,7 +10,8 @@ use Rattle.fw_message.specs.Laws.{IsUnapplied}
 use Rattle.fd_core.specs.Components.{HasComponents}
 use Rattle.fw_node.specs.Nodes.{DeviceNodeOf, new_device_node}
 use Rattle.fw_package.specs.Package.{PackageText}
-use Rattle.fw_world.specs.Replays.{AreNewNodes, IsNewNode, IsOpeningWorld, new_world}
+use Rattle.fw_world.specs.Replays.{AreNewNodes, IsNewNode, IsOpeningWorld, new_site, new_world}
+use Rattle.fw_world.specs.Sites.{RoomyOf, sites_of}
 use Rattle.fw_world.specs.Worlds.{WorldOf}
 
 new_components : (agent : ℕ) (n : DeviceNodeOf) → IsNewNode agent n → HasComponents n.half.core.device
@@ -23,6 +25,10 @@ pub new_node : (endpoint : Endpoint) (agent : ℕ) (d : DeviceOf) → HasCompone
     → IsNewNode agent (new_device_node endpoint agent d)
 new_node endpoint agent d components idle unapplied eid =
     record { device = d; is = refl; idle = idle; unapplied = All-from_recursion IsUnapplied d.device.rows unapplied; components = components; eid = eid }
+
+-- there are as many of them as there are nodes
+pub as_many : (ss : List RoomyOf) (nodes : List DeviceNodeOf) → sites_of ss ≡ map new_site nodes → length ss ≡ length nodes
+as_many ss nodes is = sym (length-map ss (λ s. s.site)) ∙ ap length is ∙ length-map nodes new_site
 
 -- a world of new nodes is one as it begins
 pub opens_so : (w : WorldOf) (agent : Endpoint) (nodes : List DeviceNodeOf) (packages : List PackageText) → AreNewNodes agent.eid nodes → w ≡ new_world agent nodes packages → IsOpeningWorld w

@@ -1,3 +1,4 @@
+pub mod Dead
 pub mod Deliveries
 pub mod JoinLaws
 pub mod Joins

@@ -2,6 +2,7 @@
 //! image that a device activates and of every component that the agent records as applied.
 #![tactic(auto)]
 
+mod dead;
 mod headline;
 mod joined;
 mod laws;

@@ -77,6 +77,7 @@ pub(crate) fn site_for<B: Bank>(sites: &[Site<B>], eid: u8) -> Option<&Site<B>>
 pub(crate) fn make_room<B: Bank>(sites: &mut Vec<Site<B>>, count: usize) -> Result<(), AllocError>
     ensures room { OnOk result (HaveRoom count sites.new.items) }
     ensures same { sites_of sites.new.items ≡ sites_of sites.old.items }
+    ensures count { length sites.new.items ≡ length sites.old.items }
 {
     make_room_at(sites.as_mut_slice(), count)
 }
@@ -103,6 +104,7 @@ pub(crate) fn post_all<B: Bank>(sites: &mut Vec<Site<B>>, now: u32, outbox: &mut
     ensures sites { sites_of sites.new.items ≡ posts now (sites_of sites.old.items) outbox.old }
     ensures room { HaveRoom 64 sites.new.items }
     ensures outbox { outbox.new ≡ [] }
+    ensures count { length sites.new.items ≡ length sites.old.items }
 {
     post_each(sites.as_mut_slice(), now, outbox);
 }
@@ -153,6 +155,7 @@ pub(crate) fn tick_all<B: Bank>(sites: &mut Vec<Site<B>>, now: u32, outbox: &mut
     ensures sites { sites_of sites.new.items ≡ map (site_ticks now) (sites_of sites.old.items) }
     ensures outbox { outbox.new ≡ [] }
     ensures spoken { AllByRecursion SiteSpeaks (sites_of sites.old.items) }
+    ensures count { length sites.new.items ≡ length sites.old.items }
 {
     tick_each(sites.as_mut_slice(), now, outbox);
 }
@@ -187,6 +190,7 @@ pub(crate) fn hear_at<B: Bank>(
     ensures same { OnErr result (sites_of sites.new.items ≡ sites_of sites.old.items) }
     ensures unnoted { OnErr result (map entry_of history.new.items ≡ map entry_of history.old.items) }
     ensures outbox { outbox.new ≡ [] }
+    ensures count { length sites.new.items ≡ length sites.old.items }
 {
     hear_in(
         sites.as_mut_slice(),
@@ -238,6 +242,7 @@ pub(crate) fn judge_at<B: Bank>(
     ensures refused { IfErr result (λ e. (verdict_fault verdict (slice_get (sites_of sites.old.items) place) ≡ Some e) ⊎ ((e ≡ StepFault.Memory) × (verdict_fault verdict (slice_get (sites_of sites.old.items) place) ≡ None))) }
     ensures same { OnErr result (sites_of sites.new.items ≡ sites_of sites.old.items) }
     ensures unnoted { OnErr result (map entry_of history.new.items ≡ map entry_of history.old.items) }
+    ensures count { length sites.new.items ≡ length sites.old.items }
 {
     judge_in(sites.as_mut_slice(), place, alloc, verdict, history)
 }
@@ -268,7 +273,8 @@ fn judge_in<B: Bank>(
 /// The node at a place starts anew.
 pub(crate) fn restart_at<B: Bank>(sites: &mut Vec<Site<B>>, place: usize)
     requires { place < length sites.old.items }
-    ensures { sites_of sites.new.items ≡ site_restarts (sites_of sites.old.items) (Some place) (slice_get (sites_of sites.old.items) place) }
+    ensures sites { sites_of sites.new.items ≡ site_restarts (sites_of sites.old.items) (Some place) (slice_get (sites_of sites.old.items) place) }
+    ensures count { length sites.new.items ≡ length sites.old.items }
 {
     restart_in(sites.as_mut_slice(), place);
 }

@@ -168,6 +168,18 @@ fn an_update_over_perfect_links_ends_after_12_ticks(rt: HostRuntime) -> Result<(
     Ok(())
 }
 
+#[test]
+fn the_packets_of_the_first_3_of_12_ticks_are_dead(rt: HostRuntime) -> Result<(), Fail> {
+    let bytes = file(rt.alloc(), ONE)?;
+    let packages = [package(&bytes)?];
+    let mut world = world(rt.alloc(), &packages)?;
+    assert_eq!(rt; world.dead_packets(DEVICE), 0);
+    assert!(rt; fault(&mut world, &perfect()).is_none());
+    assert_eq!(rt; world.dead_packets(DEVICE), 6);
+    assert_eq!(rt; world.dead_packets(10), 0);
+    Ok(())
+}
+
 /// The fault of a schedule in which the first packet is sent at 1, and comes so many ticks later.
 fn late<'p>(
     alloc: Global,

@@ -1,0 +1,13 @@
+-- Packets that can't come any more.
+use Rattle.std.specs.Prelude.{ℕ, zero, suc, ◌<◌, ◌+◌, List, [], ◌∷◌}
+use Rattle.exch_lane.specs.Lanes.{Sent}
+
+-- a packet was sent more than 8 ticks before
+abbrev pub IsDead : (now : ℕ) → Sent → Type 0
+IsDead now p = p.date + 8 < now
+
+-- so many of these packets are there, and each of the first of them is dead
+abbrev pub AreDead : (now count : ℕ) → List Sent → Type 0
+AreDead now zero packets = Unit {0}
+AreDead now (suc n) [] = ⊥
+AreDead now (suc n) (p ∷ ps) = IsDead now p × AreDead now n ps

@@ -1,0 +1,69 @@
+//! The packets of a device that can't come any more, so that no one looks at them again.
+
+ghost use Rattle.std.specs.Prelude.{◌≡◌, List, map, true};
+ghost use Rattle.exch_lane.specs.Journals.{sent_of};
+ghost use Rattle.exch_lane.specs.Lanes.{Sent};
+ghost use Rattle.fw_world.specs.Dead.{AreDead, IsDead};
+
+use exch_lane::SentPacket;
+use pldm_exch::LIFE;
+
+/// How many of the first packets are known to be dead.
+#[derive(Drop)]
+pub(crate) struct FirstDead {
+    count: usize,
+    /// The ticks that had passed when that was found.
+    since: u32,
+}
+
+impl FirstDead {
+    /// No packet is.
+    pub(crate) fn new() -> FirstDead
+        ensures { result ≡ record { count = 0; since = 0 } }
+    {
+        FirstDead { count: 0, since: 0 }
+    }
+
+    /// How many of the first packets are known to be dead at this time; 0 before the time when that was found.
+    #[tactic(auto, using(crate::proofs::Aging::dead_later))]
+    pub(crate) fn count_at(&self, now: u32) -> usize
+        ensures { (packets : List Sent) → AreDead self.now.since self.now.count packets → AreDead now result packets }
+    {
+        if now < self.since {
+            return 0;
+        }
+        self.count
+    }
+
+    /// Counts on over those of these packets that are dead at this time, up to the first that isn't.
+    #[tactic(auto, using(crate::proofs::Aging::dead_later))]
+    pub(crate) fn advance(&mut self, packets: &[SentPacket], now: u32)
+        requires { AreDead self.old.since self.old.count (map sent_of packets.now) }
+        ensures { AreDead self.new.since self.new.count (map sent_of packets.now) }
+    {
+        if self.since < now {
+            self.since = now;
+        }
+        self.count = first_dead(packets, self.since, self.count);
+    }
+}
+
+/// How many of the first packets are dead at this time, where so many are known to be.
+#[tactic(auto, using(crate::proofs::Aging::dead_more))]
+fn first_dead(packets: &[SentPacket], now: u32, known: usize) -> usize
+    requires { AreDead now known (map sent_of packets.now) }
+    ensures { AreDead now result (map sent_of packets.now) }
+{
+    let mut count = known;
+    while count < packets.len() && is_dead(&packets[count], now) {
+        count += 1;
+    }
+    count
+}
+
+/// Whether a packet can't come any more at this time.
+fn is_dead(packet: &SentPacket, now: u32) -> bool
+    ensures { result ≡ true → IsDead now (sent_of packet.now) }
+{
+    packet.date.saturating_add(LIFE) < now
+}
