@@ -1,5 +1,5 @@
 -- Packets that pairs gain.
-use Rattle.std.proofs.Common.{◌≡◌, ◌≤◌, ◌<◌, ◌+◌, ◌++◌, ◌==◌, ◌∙◌, ℕ, zero, suc, List, [], ◌∷◌, Bool, true, false, if◌then◌else◌, Option, Some, None, get_or, length, map, slice_get, slice_set, refl, ap, subst, sym, arith}
+use Rattle.std.proofs.Common.{◌≡◌, ◌≤◌, ◌+◌, ◌++◌, ◌==◌, ◌∙◌, ℕ, zero, suc, List, [], ◌∷◌, Bool, true, false, if◌then◌else◌, Option, Some, None, length, map, slice_get, slice_set, refl, ap, subst, sym, arith}
 use Rattle.std.proofs.lemmas.List.{length-append}
 use Rattle.exch_lane.specs.Lanes.{Sent, numbered}
 use Rattle.exch_lane.specs.Steps.{sent_at}
@@ -7,14 +7,14 @@ use Rattle.fd_core.specs.declared.states.Verdict.{Verdict}
 use Rattle.fw_node.specs.Agents.{agent_hears, agent_restarts, agent_tick_sends, ready_for}
 use Rattle.fw_node.specs.Cores.{device_core}
 use Rattle.fw_node.specs.Halves.{half_ticks}
-use Rattle.fw_node.specs.Nodes.{DeviceNodeOf, device_hears, device_judges, device_restarts}
+use Rattle.fw_node.specs.Nodes.{device_hears, device_judges, device_restarts}
 use Rattle.fw_node.specs.Packets.{all_packets}
 use Rattle.ua_core.specs.Session.{SessionOf}
 use Rattle.fw_world.specs.Replays.{Leads, Run}
-use Rattle.fw_world.specs.Worlds.{SiteOf, WorldOf, activates_on, asks_log, at_agent, at_device, delivers, judges, node_becomes, packets_at, packets_of, place_for, place_of, post, post_at, posts, restarts, sent_now, site_at, site_for, site_restarts, site_ticks, ticks, world_after}
+use Rattle.fw_world.specs.Worlds.{SiteOf, WorldOf, activates_on, asks_log, at_agent, at_device, delivers, judges, node_becomes, packets_of, place_for, place_of, post, post_at, posts, restarts, sent_now, site_at, site_for, site_restarts, site_ticks, ticks, world_after}
 use Rattle.fw_world.specs.declared.step.Step.{Step}
 use Rattle.fw_world.specs.declared.step.Step.TheVariants as steps
-use Rattle.fw_edge.specs.Drives.{Drives, Goes}
+use Rattle.fw_edge.specs.Drives.{Drives}
 use Rattle.fw_edge.specs.Ledgers.{NoneFell, packet_counts}
 use Rattle.fw_edge.proofs.Rising.{map_length}
 

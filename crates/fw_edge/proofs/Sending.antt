@@ -3,7 +3,6 @@ use Rattle.std.proofs.Common.{◌≡◌, ◌≤◌, ◌<◌, ◌+◌, ◌-◌, �
 use Rattle.std.proofs.lemmas.List.{map-set}
 use Rattle.fw_world.specs.Worlds.{SiteOf, packets_at}
 use Rattle.fw_edge.specs.Ledgers.{AllSent, NoneFell, packet_counts}
-use Rattle.fw_edge.proofs.Gaining.{fell_length}
 use Rattle.fw_edge.proofs.Rising.{map_get, map_length}
 
 -- none
