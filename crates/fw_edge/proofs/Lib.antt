@@ -2,9 +2,11 @@ mod Alive
 mod Arriving
 mod Failing
 mod Frames
+mod Gaining
 mod Going
 mod Latest
 mod Opening
 mod Overs
 mod Pieces
 mod Rising
+mod Sending

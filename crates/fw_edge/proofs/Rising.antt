@@ -74,7 +74,7 @@ together_put h (suc i) (n ∷ ns) y d lt more = λ b. let rest = together_put h 
     sum_of : total (slice_set ns i y) ≡ total ns + h → n + total (slice_set ns i y) ≡ (n + total ns) + h
     sum_of is = omega arith
 
-map_get : {A : Type 0} (f : A → ℕ) (xs : List A) (i : ℕ) (d : A) → i < length xs → get_or (map f xs) i 0 ≡ f (get_or xs i d)
+pub map_get : {A : Type 0} (f : A → ℕ) (xs : List A) (i : ℕ) (d : A) → i < length xs → get_or (map f xs) i 0 ≡ f (get_or xs i d)
 map_get f [] i d lt = absurd (omega arith)
 map_get f (x ∷ xs) zero d lt = refl
 map_get f (x ∷ xs) (suc i) d lt = map_get f xs i d (omega arith)

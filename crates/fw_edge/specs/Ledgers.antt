@@ -1,6 +1,7 @@
 -- What links count in a run.
-use Rattle.std.specs.Prelude.{ℕ, ◌≡◌, ◌≤◌, ◌<◌, ◌+◌, ◌-◌, ◌^◌, ◌⊎◌, List, [], ◌∷◌}
+use Rattle.std.specs.Prelude.{ℕ, ◌≡◌, ◌≤◌, ◌<◌, ◌+◌, ◌-◌, ◌^◌, ◌⊎◌, List, [], ◌∷◌, length, map}
 use Rattle.fw_edge.specs.declared.tally.Tally.{Tally}
+use Rattle.fw_world.specs.Worlds.{SiteOf}
 
 -- a count of failures rose, or stands at its last value
 abbrev pub HasFailed : ℕ → ℕ → Type 0
@@ -48,3 +49,20 @@ RoseTogether most os ns = AreBelow ns → AreBelow os × (total ns ≡ total os 
 -- stands at its last value.
 abbrev pub AreGiven : (before after foreign : ℕ) → List ℕ → List ℕ → Type 0
 AreGiven before after foreign os ns = AreBelow ns → AreBelow os × (total ns + before ≡ total os + (after + foreign))
+
+-- how many packets were sent in each pair
+abbrev pub packet_counts : List SiteOf → List ℕ
+packet_counts xs = map (λ x. length x.packets) xs
+
+-- no count fell
+abbrev pub NoneFell : List ℕ → List ℕ → Type 0
+NoneFell [] [] = Unit {0}
+NoneFell (o ∷ os) (n ∷ ns) = (o ≤ n) × NoneFell os ns
+NoneFell os ns = ⊥
+
+-- The packets of each pair were so many before, and are so many after, no fewer; and the count of packets that its link took
+-- rose by those that the pair gained, unless it stands at its last value.
+abbrev pub AllSent : (before after : List ℕ) → List ℕ → List ℕ → Type 0
+AllSent [] [] [] [] = Unit {0}
+AllSent (b ∷ bs) (a ∷ cs) (o ∷ os) (n ∷ ns) = (b ≤ a) × (n < 2 ^ 64 - 1 → n ≡ o + (a - b)) × AllSent bs cs os ns
+AllSent bs cs os ns = ⊥

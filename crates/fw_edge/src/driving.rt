@@ -2,7 +2,7 @@
 
 ghost use Rattle.std.specs.Prelude.{◌≡◌, ◌≤◌, ◌<◌, ◌+◌, ◌-◌, ◌*◌, ◌^◌, IfErr, IfOk, OnErr, OnOk, length, map, true};
 ghost use Rattle.fw_edge.specs.Drives.{Drives, DrivesLiving, Goes, all_over, delivers_in, ticks_in};
-ghost use Rattle.fw_edge.specs.Ledgers.{AllRose, AreGiven, OneFailed, RoseTogether};
+ghost use Rattle.fw_edge.specs.Ledgers.{AllRose, AllSent, AreGiven, OneFailed, RoseTogether, packet_counts};
 
 use crate::link::Link;
 use crate::outgoing::sent_at;
@@ -36,13 +36,13 @@ pub enum EdgeFault {
     Memory,
 }
 
-/// How many packets each pair of so many has sent.
-fn all_sent<B: Bank + Drop>(world: &World<'_, B>, count: usize) -> ArrayVec<usize, 16>
-    requires { count ≤ 16 }
-    ensures { length result.items ≡ count }
+/// How many packets were sent in each pair.
+fn all_sent<B: Bank + Drop>(world: &World<'_, B>) -> ArrayVec<usize, 16>
+    requires { length world.now.sites ≤ 16 }
+    ensures { result.items ≡ packet_counts world.now.sites }
 {
     let mut sent = ArrayVec::new();
-    for place in 0..count {
+    for place in 0..world.device_count() {
         sent.push(sent_at(world, place));
     }
     sent
@@ -58,11 +58,14 @@ fn turn<B: Bank + Drop, L: Link>(
 ) -> Result<Frames, EdgeFault>
     requires few { length links.old ≤ 16 }
     requires written { length written.old ≡ length links.old }
+    requires all { written.old ≡ packet_counts world.old.sites }
     ensures goes { IfOk result (λ f. Goes world.old steps.old.items world.new steps.new.items 1 f.known) }
     ensures few { IfOk result (λ f. f.known + f.foreign ≤ 1055) }
     ensures kept { IfOk result (λ f. map (λ l. (L.tally l).failures) links.new ≡ map (λ l. (L.tally l).failures) links.old) }
     ensures asked { IfOk result (λ f. AllRose 2 (map (λ l. (L.tally l).asked) links.old) (map (λ l. (L.tally l).asked) links.new)) }
     ensures given { IfOk result (λ f. RoseTogether (f.known + f.foreign) (map (λ l. (L.tally l).given) links.old) (map (λ l. (L.tally l).given) links.new)) }
+    ensures sent { OnOk result (AllSent written.old written.new (map (λ l. (L.tally l).sent) links.old) (map (λ l. (L.tally l).sent) links.new)) }
+    ensures all { OnOk result (written.new ≡ packet_counts world.new.sites) }
     ensures drives { OnErr result (Drives world.old steps.old.items world.new steps.new.items) }
     ensures failed { IfErr result (λ e. e ≡ EdgeFault.Frame → OneFailed (map (λ l. (L.tally l).failures) links.old) (map (λ l. (L.tally l).failures) links.new)) }
     ensures end { IfErr result (λ e. e ≡ EdgeFault.Step → world.new.now ≡ 2 ^ 32 - 1) }
@@ -98,6 +101,7 @@ fn take_turns<B: Bank + Drop, L: Link>(
 ) -> Result<Driven, EdgeFault>
     requires few { length links.old ≤ 16 }
     requires written { length written.old ≡ length links.old }
+    requires all { written.old ≡ packet_counts world.old.sites }
     ensures drives { Drives world.old steps.old.items world.new steps.new.items }
     ensures ticks { IfOk result (λ d. ticks_in steps.new.items ≡ ticks_in steps.old.items + d.turns) }
     ensures within { IfOk result (λ d. d.turns ≤ turns) }
@@ -105,6 +109,8 @@ fn take_turns<B: Bank + Drop, L: Link>(
     ensures kept { OnOk result (map (λ l. (L.tally l).failures) links.new ≡ map (λ l. (L.tally l).failures) links.old) }
     ensures asked { IfOk result (λ d. AllRose (2 * d.turns) (map (λ l. (L.tally l).asked) links.old) (map (λ l. (L.tally l).asked) links.new)) }
     ensures given { IfOk result (λ d. AreGiven (delivers_in steps.old.items) (delivers_in steps.new.items) d.foreign (map (λ l. (L.tally l).given) links.old) (map (λ l. (L.tally l).given) links.new)) }
+    ensures sent { OnOk result (AllSent (packet_counts world.old.sites) (packet_counts world.new.sites) (map (λ l. (L.tally l).sent) links.old) (map (λ l. (L.tally l).sent) links.new)) }
+    ensures links { length links.new ≡ length links.old }
     ensures frame { IfErr result (λ e. e ≡ EdgeFault.Frame → OneFailed (map (λ l. (L.tally l).failures) links.old) (map (λ l. (L.tally l).failures) links.new)) }
     ensures step { IfErr result (λ e. e ≡ EdgeFault.Step → world.new.now ≡ 2 ^ 32 - 1) }
 {
@@ -143,6 +149,7 @@ pub fn drive<B: Bank + Drop, L: Link>(
     steps: &mut Vec<Step>,
 ) -> Result<Driven, EdgeFault>
     requires few { length links.old ≤ 16 }
+    requires devices { length links.old ≡ length world.old.sites }
     ensures drives { DrivesLiving world.old steps.old.items world.new steps.new.items }
     ensures ticks { IfOk result (λ d. ticks_in steps.new.items ≡ ticks_in steps.old.items + d.turns) }
     ensures within { IfOk result (λ d. d.turns ≤ turns) }
@@ -150,9 +157,11 @@ pub fn drive<B: Bank + Drop, L: Link>(
     ensures kept { OnOk result (map (λ l. (L.tally l).failures) links.new ≡ map (λ l. (L.tally l).failures) links.old) }
     ensures asked { IfOk result (λ d. AllRose (2 * d.turns) (map (λ l. (L.tally l).asked) links.old) (map (λ l. (L.tally l).asked) links.new)) }
     ensures given { IfOk result (λ d. AreGiven (delivers_in steps.old.items) (delivers_in steps.new.items) d.foreign (map (λ l. (L.tally l).given) links.old) (map (λ l. (L.tally l).given) links.new)) }
+    ensures sent { OnOk result (AllSent (packet_counts world.old.sites) (packet_counts world.new.sites) (map (λ l. (L.tally l).sent) links.old) (map (λ l. (L.tally l).sent) links.new)) }
+    ensures devices { length links.new ≡ length world.new.sites }
     ensures frame { IfErr result (λ e. e ≡ EdgeFault.Frame → OneFailed (map (λ l. (L.tally l).failures) links.old) (map (λ l. (L.tally l).failures) links.new)) }
     ensures step { IfErr result (λ e. e ≡ EdgeFault.Step → world.new.now ≡ 2 ^ 32 - 1) }
 {
-    let mut written = all_sent(world, links.len());
+    let mut written = all_sent(world);
     take_turns(world, links, written.as_mut_slice(), turns, steps)
 }

@@ -1,7 +1,7 @@
 //! Packets of a world, written to its links.
 
-ghost use Rattle.std.specs.Prelude.{◌≡◌, ◌≤◌, IfErr, OnErr, OnOk, length, map, slice_get};
-ghost use Rattle.fw_edge.specs.Ledgers.{HasFailed, OneFailed, Writes};
+ghost use Rattle.std.specs.Prelude.{◌≡◌, ◌≤◌, ◌<◌, ◌+◌, ◌-◌, ◌^◌, IfErr, OnErr, OnOk, length, map, slice_get};
+ghost use Rattle.fw_edge.specs.Ledgers.{AllSent, HasFailed, NoneFell, OneFailed, Writes, packet_counts};
 ghost use Rattle.fw_edge.specs.Links.{end_of};
 ghost use Rattle.fw_world.specs.Worlds.{packets_at};
 
@@ -59,6 +59,7 @@ fn write_at<B: Bank + Drop, L: Link>(
     ensures kept { OnOk result ((L.tally link.new).failures ≡ (L.tally link.old).failures) }
     ensures asked { OnOk result ((L.tally link.new).asked ≡ (L.tally link.old).asked) }
     ensures given { OnOk result ((L.tally link.new).given ≡ (L.tally link.old).given) }
+    ensures sent { OnOk result ((L.tally link.new).sent < 2 ^ 64 - 1 → (L.tally link.new).sent ≡ (L.tally link.old).sent + (length (packets_at (slice_get world.now.sites place)) - written)) }
     ensures fault { IfErr result (λ e. e ≡ EdgeFault.Frame) }
     ensures failed { OnErr result (HasFailed (L.tally link.old).failures (L.tally link.new).failures) }
 {
@@ -78,7 +79,10 @@ pub(crate) fn write_out<B: Bank + Drop, L: Link>(
     links: &mut [L],
     written: &mut [usize],
 ) -> Result<(), EdgeFault>
-    requires { length written.old ≡ length links.old }
+    requires each { length written.old ≡ length links.old }
+    requires within { NoneFell written.old (packet_counts world.now.sites) }
+    ensures sent { OnOk result (AllSent written.old written.new (map (λ l. (L.tally l).sent) links.old) (map (λ l. (L.tally l).sent) links.new)) }
+    ensures all { OnOk result (written.new ≡ packet_counts world.now.sites) }
     ensures kept { OnOk result (map (λ l. (L.tally l).failures) links.new ≡ map (λ l. (L.tally l).failures) links.old) }
     ensures asked { OnOk result (map (λ l. (L.tally l).asked) links.new ≡ map (λ l. (L.tally l).asked) links.old) }
     ensures given { OnOk result (map (λ l. (L.tally l).given) links.new ≡ map (λ l. (L.tally l).given) links.old) }

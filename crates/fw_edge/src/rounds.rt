@@ -1,9 +1,9 @@
 //! Rounds of a turn: what was sent goes out, and a frame is read at each end.
 
-ghost use Rattle.std.specs.Prelude.{◌≡◌, ◌≢◌, ◌≤◌, ◌<◌, ◌+◌, ◌⊎◌, IfErr, IfOk, IfSome, None, OnErr, length, map};
+ghost use Rattle.std.specs.Prelude.{◌≡◌, ◌≢◌, ◌≤◌, ◌<◌, ◌+◌, ◌⊎◌, IfErr, IfOk, IfSome, None, OnErr, OnOk, length, map};
 ghost use Rattle.fw_edge.specs.Drives.{Drives, Goes};
 ghost use Rattle.fw_edge.specs.Hearing.{IsHeard};
-ghost use Rattle.fw_edge.specs.Ledgers.{AllRose, HasFailed, OneFailed, Reads, RoseTogether};
+ghost use Rattle.fw_edge.specs.Ledgers.{AllRose, AllSent, HasFailed, NoneFell, OneFailed, Reads, RoseTogether, packet_counts};
 ghost use Rattle.fw_world.specs.Replays.{may_step};
 ghost use Rattle.fw_world.specs.declared.step.Step.{Step};
 
@@ -178,6 +178,7 @@ fn read_round<B: Bank + Drop, L: Link>(
     ensures kept { IfOk result (λ f. map (λ l. (L.tally l).failures) links.new ≡ map (λ l. (L.tally l).failures) links.old) }
     ensures asked { IfOk result (λ f. AllRose 2 (map (λ l. (L.tally l).asked) links.old) (map (λ l. (L.tally l).asked) links.new)) }
     ensures given { IfOk result (λ f. RoseTogether (f.known + f.foreign) (map (λ l. (L.tally l).given) links.old) (map (λ l. (L.tally l).given) links.new)) }
+    ensures sent { OnOk result (map (λ l. (L.tally l).sent) links.new ≡ map (λ l. (L.tally l).sent) links.old) }
     ensures drives { OnErr result (Drives world.old steps.old.items world.new steps.new.items) }
     ensures fault { IfErr result (λ e. e ≢ EdgeFault.Step) }
     ensures failed { IfErr result (λ e. e ≡ EdgeFault.Frame → OneFailed (map (λ l. (L.tally l).failures) links.old) (map (λ l. (L.tally l).failures) links.new)) }
@@ -204,11 +205,14 @@ fn round<B: Bank + Drop, L: Link>(
 ) -> Result<Frames, EdgeFault>
     requires few { length links.old ≤ 16 }
     requires written { length written.old ≡ length links.old }
+    requires within { NoneFell written.old (packet_counts world.old.sites) }
     ensures goes { IfOk result (λ f. Goes world.old steps.old.items world.new steps.new.items 0 f.known) }
     ensures few { IfOk result (λ f. f.known + f.foreign ≤ 32) }
     ensures kept { IfOk result (λ f. map (λ l. (L.tally l).failures) links.new ≡ map (λ l. (L.tally l).failures) links.old) }
     ensures asked { IfOk result (λ f. AllRose 2 (map (λ l. (L.tally l).asked) links.old) (map (λ l. (L.tally l).asked) links.new)) }
     ensures given { IfOk result (λ f. RoseTogether (f.known + f.foreign) (map (λ l. (L.tally l).given) links.old) (map (λ l. (L.tally l).given) links.new)) }
+    ensures sent { OnOk result (AllSent written.old written.new (map (λ l. (L.tally l).sent) links.old) (map (λ l. (L.tally l).sent) links.new)) }
+    ensures within { OnOk result (NoneFell written.new (packet_counts world.new.sites)) }
     ensures drives { OnErr result (Drives world.old steps.old.items world.new steps.new.items) }
     ensures fault { IfErr result (λ e. e ≢ EdgeFault.Step) }
     ensures failed { IfErr result (λ e. e ≡ EdgeFault.Frame → OneFailed (map (λ l. (L.tally l).failures) links.old) (map (λ l. (L.tally l).failures) links.new)) }
@@ -235,11 +239,14 @@ fn rounds<B: Bank + Drop, L: Link>(
 ) -> Result<Frames, EdgeFault>
     requires few { length links.old ≤ 16 }
     requires written { length written.old ≡ length links.old }
+    requires within { NoneFell written.old (packet_counts world.old.sites) }
     ensures goes { IfOk result (λ f. Goes world.old steps.old.items world.new steps.new.items 0 f.known) }
     ensures few { IfOk result (λ f. f.known + f.foreign ≤ 1055) }
     ensures kept { IfOk result (λ f. map (λ l. (L.tally l).failures) links.new ≡ map (λ l. (L.tally l).failures) links.old) }
     ensures asked { IfOk result (λ f. AllRose 2 (map (λ l. (L.tally l).asked) links.old) (map (λ l. (L.tally l).asked) links.new)) }
     ensures given { IfOk result (λ f. RoseTogether (f.known + f.foreign) (map (λ l. (L.tally l).given) links.old) (map (λ l. (L.tally l).given) links.new)) }
+    ensures sent { OnOk result (AllSent written.old written.new (map (λ l. (L.tally l).sent) links.old) (map (λ l. (L.tally l).sent) links.new)) }
+    ensures within { OnOk result (NoneFell written.new (packet_counts world.new.sites)) }
     ensures drives { OnErr result (Drives world.old steps.old.items world.new steps.new.items) }
     ensures fault { IfErr result (λ e. e ≢ EdgeFault.Step) }
     ensures failed { IfErr result (λ e. e ≡ EdgeFault.Frame → OneFailed (map (λ l. (L.tally l).failures) links.old) (map (λ l. (L.tally l).failures) links.new)) }
@@ -269,11 +276,14 @@ pub(crate) fn exchange<B: Bank + Drop, L: Link>(
 ) -> Result<Frames, EdgeFault>
     requires few { length links.old ≤ 16 }
     requires written { length written.old ≡ length links.old }
+    requires within { NoneFell written.old (packet_counts world.old.sites) }
     ensures goes { IfOk result (λ f. Goes world.old steps.old.items world.new steps.new.items 0 f.known) }
     ensures few { IfOk result (λ f. f.known + f.foreign ≤ 1055) }
     ensures kept { IfOk result (λ f. map (λ l. (L.tally l).failures) links.new ≡ map (λ l. (L.tally l).failures) links.old) }
     ensures asked { IfOk result (λ f. AllRose 2 (map (λ l. (L.tally l).asked) links.old) (map (λ l. (L.tally l).asked) links.new)) }
     ensures given { IfOk result (λ f. RoseTogether (f.known + f.foreign) (map (λ l. (L.tally l).given) links.old) (map (λ l. (L.tally l).given) links.new)) }
+    ensures sent { OnOk result (AllSent written.old written.new (map (λ l. (L.tally l).sent) links.old) (map (λ l. (L.tally l).sent) links.new)) }
+    ensures all { OnOk result (written.new ≡ packet_counts world.new.sites) }
     ensures drives { OnErr result (Drives world.old steps.old.items world.new steps.new.items) }
     ensures fault { IfErr result (λ e. e ≢ EdgeFault.Step) }
     ensures failed { IfErr result (λ e. e ≡ EdgeFault.Frame → OneFailed (map (λ l. (L.tally l).failures) links.old) (map (λ l. (L.tally l).failures) links.new)) }

@@ -2,6 +2,7 @@
 
 ghost use Rattle.std.specs.Prelude.{[], ◌≡◌, ◌≢◌, ◌-◌, ◌^◌, ◌++◌, ◌∷◌, IfErr, IfSome, None, OnErr, OnOk, true};
 ghost use Rattle.fw_edge.specs.Drives.{Drives, Goes, all_over, deliver_in, is_over, tick_in};
+ghost use Rattle.fw_edge.specs.Ledgers.{packet_counts};
 ghost use Rattle.fw_node.specs.Agents.{half_for};
 ghost use Rattle.fw_world.specs.Replays.{Leads, may_step};
 ghost use Rattle.fw_world.specs.declared.step.Step.{Step};
@@ -87,12 +88,14 @@ fn is_ready<B: Bank + Drop>(world: &World<'_, B>, device: u8) -> bool
 }
 
 /// The device at a place has the verdict that it waits for, if it waits for one.
+#[tactic(auto, using(crate::proofs::Gaining::verdict_sends_none))]
 fn judge<B: Bank + Drop>(
     world: &mut World<'_, B>,
     place: usize,
     steps: &mut Vec<Step>,
 ) -> Result<(), EdgeFault>
     ensures goes { OnOk result (Goes world.old steps.old.items world.new steps.new.items 0 0) }
+    ensures sent { OnOk result (packet_counts world.new.sites ≡ packet_counts world.old.sites) }
     ensures drives { OnErr result (Drives world.old steps.old.items world.new steps.new.items) }
     ensures fault { IfErr result (λ e. e ≡ EdgeFault.Memory) }
 {
@@ -107,12 +110,14 @@ fn judge<B: Bank + Drop>(
 }
 
 /// The operator has the device at a place activate, if its session waits for that.
+#[tactic(auto, using(crate::proofs::Gaining::activation_sends_none))]
 fn activate<B: Bank + Drop>(
     world: &mut World<'_, B>,
     place: usize,
     steps: &mut Vec<Step>,
 ) -> Result<(), EdgeFault>
     ensures goes { OnOk result (Goes world.old steps.old.items world.new steps.new.items 0 0) }
+    ensures sent { OnOk result (packet_counts world.new.sites ≡ packet_counts world.old.sites) }
     ensures drives { OnErr result (Drives world.old steps.old.items world.new steps.new.items) }
     ensures fault { IfErr result (λ e. e ≡ EdgeFault.Memory) }
 {
@@ -132,6 +137,7 @@ pub(crate) fn judge_all<B: Bank + Drop>(
     steps: &mut Vec<Step>,
 ) -> Result<(), EdgeFault>
     ensures goes { OnOk result (Goes world.old steps.old.items world.new steps.new.items 0 0) }
+    ensures sent { OnOk result (packet_counts world.new.sites ≡ packet_counts world.old.sites) }
     ensures drives { OnErr result (Drives world.old steps.old.items world.new steps.new.items) }
     ensures fault { IfErr result (λ e. e ≡ EdgeFault.Memory) }
 {
@@ -150,6 +156,7 @@ pub(crate) fn activate_all<B: Bank + Drop>(
     steps: &mut Vec<Step>,
 ) -> Result<(), EdgeFault>
     ensures goes { OnOk result (Goes world.old steps.old.items world.new steps.new.items 0 0) }
+    ensures sent { OnOk result (packet_counts world.new.sites ≡ packet_counts world.old.sites) }
     ensures drives { OnErr result (Drives world.old steps.old.items world.new steps.new.items) }
     ensures fault { IfErr result (λ e. e ≡ EdgeFault.Memory) }
 {

@@ -69,6 +69,9 @@ fn updates<L: Link>(
     let bytes = file(alloc, ONE)?;
     let packages = [package(&bytes)?];
     let mut world = started(alloc, &packages)?;
+    if links.len() != world.device_count() {
+        return Ok(false);
+    }
     let mut steps = Vec::new(alloc);
     let driven = drive(&mut world, links, 100, &mut steps);
     let image = image(alloc)?;
@@ -111,6 +114,7 @@ fn a_link_that_gives_forged_frames_without_end_stops_no_turn(rt: HostRuntime) ->
     let mut world = started(rt.alloc(), &packages)?;
     let mut steps = Vec::new(rt.alloc());
     let mut links = [BadLink::new(rt.alloc(), Trouble::ForgesAlways)];
+    assert!(rt; world.device_count() == 1);
     let driven = drive(&mut world, &mut links, 3, &mut steps);
     assert!(rt;
         driven
@@ -152,6 +156,9 @@ fn fails_at(alloc: Global, k: u64) -> Result<Option<bool>, Fail> {
     let mut world = started(alloc, &packages)?;
     let mut steps = Vec::new(alloc);
     let mut links = [BadLink::new(alloc, Trouble::Fails(k))];
+    if world.device_count() != 1 {
+        return Ok(None);
+    }
     let driven = drive(&mut world, &mut links, 100, &mut steps);
     if !is_replay(alloc, &packages, &world, &steps)? {
         return Ok(None);
@@ -192,6 +199,7 @@ fn one_silent_device_of_three_fails_alone(rt: HostRuntime) -> Result<(), Fail> {
         BadLink::new(rt.alloc(), Trouble::LosesAll),
         BadLink::new(rt.alloc(), Trouble::Loses(0)),
     ];
+    assert!(rt; world.device_count() == 3);
     let driven = drive(&mut world, &mut links, 100, &mut steps);
     assert!(rt;
         driven

@@ -1,7 +1,9 @@
-use Rattle.std.proofs.Common.{◌∙◌, ◌+◌, ◌*◌, arith, map, refl}
+use Rattle.std.proofs.Common.{◌∙◌, ◌+◌, ◌*◌, arith, map, refl, sym}
 use Rattle.fw_edge.specs.Drives.{delivers_in}
+use Rattle.fw_edge.specs.Ledgers.{packet_counts}
 use Rattle.fw_edge.proofs.Going.{drives_none, drives_on}
-use Rattle.fw_edge.proofs.Rising.{given_none, given_on, rose_less, rose_none, rose_on}
+use Rattle.fw_edge.proofs.Rising.{given_none, given_on, map_length, rose_less, rose_none, rose_on}
+use Rattle.fw_edge.proofs.Sending.{sent_none, sent_turn}
 use Rattle.fw_edge.proofs.driving.take_turns.Goals as goal
 
 pub returns-in-Err-clause-drives : goal.returns-in-Err-clause-drives
@@ -26,6 +28,11 @@ loop-count-preserved g c = record {
       given_on (delivers_in c.args.steps.now.items) (delivers_in c.loop-count.steps.items) (delivers_in c.turn.new.steps.items) c.in-Ok.frames.known
       c.loop-count.foreign c.in-Ok.frames.foreign (c.loop-count.foreign + c.in-Ok.frames.foreign) (map (λ k. (g.L.Link.tally k).given) c.args.links.now) (map (λ k. (g.L.Link.tally k).given) c.loop-count.links) (map (λ k. (g.L.Link.tally k).given) c.turn.new.links)
       c.in-Ok.ensures.goes.delivers_rise refl c.loop-count.invariant.given c.in-Ok.ensures.given;
+  all = c.in-Ok.ensures.all;
+  sent =
+      sent_turn (packet_counts c.args.world.now.sites) (packet_counts c.loop-count.world.sites) (packet_counts c.turn.new.world.sites) c.loop-count.written c.turn.new.written
+      (map (λ k. (g.L.Link.tally k).sent) c.args.links.now) (map (λ k. (g.L.Link.tally k).sent) c.loop-count.links) (map (λ k. (g.L.Link.tally k).sent) c.turn.new.links)
+      c.loop-count.invariant.all c.in-Ok.ensures.all c.loop-count.invariant.sent c.in-Ok.ensures.sent;
 }
 
 pub loop-count-init : goal.loop-count-init
@@ -38,4 +45,8 @@ loop-count-init g c = record {
   few = omega arith;
   asked = rose_none (map (λ k. (g.L.Link.tally k).asked) c.args.links.now);
   given = given_none (delivers_in c.args.steps.now.items) (map (λ k. (g.L.Link.tally k).given) c.args.links.now);
+  all = c.requires.all;
+  sent =
+      sent_none (packet_counts c.args.world.now.sites) (map (λ k. (g.L.Link.tally k).sent) c.args.links.now)
+      (rw (map_length (λ k. (g.L.Link.tally k).sent) c.args.links.now, sym c.requires.all) c.requires.written);
 }

@@ -1,6 +1,6 @@
 use Rattle.std.proofs.Common.{◌≡◌, ◌≤◌, ◌+◌, ◌*◌, length, map}
 use Rattle.fw_edge.specs.Drives.{Drives, delivers_in, ticks_in}
-use Rattle.fw_edge.specs.Ledgers.{AllRose, AreGiven}
+use Rattle.fw_edge.specs.Ledgers.{AllRose, AllSent, AreGiven, packet_counts}
 use Rattle.fw_edge.proofs.driving.take_turns.Given as goal
 
 -- so many turns were taken
@@ -14,4 +14,6 @@ invariant-loop-count g l = record {
   few : l.foreign ≤ 1055 * l.count;
   asked : AllRose (2 * l.count) (map (λ k. (g.L.Link.tally k).asked) l.fn.links) (map (λ k. (g.L.Link.tally k).asked) l.links);
   given : AreGiven (delivers_in l.fn.steps.items) (delivers_in l.steps.items) l.foreign (map (λ k. (g.L.Link.tally k).given) l.fn.links) (map (λ k. (g.L.Link.tally k).given) l.links);
+  all : l.written ≡ packet_counts l.world.sites;
+  sent : AllSent (packet_counts l.fn.world.sites) (packet_counts l.world.sites) (map (λ k. (g.L.Link.tally k).sent) l.fn.links) (map (λ k. (g.L.Link.tally k).sent) l.links);
 }

@@ -1,5 +1,6 @@
 use Rattle.std.proofs.Common.{arith, refl}
 use Rattle.fw_edge.specs.Drives.{Goes}
+use Rattle.fw_edge.proofs.Gaining.{drives_gain}
 use Rattle.fw_edge.proofs.Going.{goes_off, goes_sum}
 use Rattle.fw_edge.proofs.driving.turn.Goals as goal
 
@@ -37,3 +38,7 @@ returns-clause-goes g c =
     1 c.in-Ok-exchange.frames.known 0 0 1 c.in-Ok-exchange.frames.known first c.in-Ok-judge_all.ensures.goes refl (omega arith) in
     goes_sum c.args.world.now c.judge_all.new.world c.activate_all.new.world c.args.steps.now.items c.judge_all.new.steps.items c.activate_all.new.steps.items
     1 c.in-Ok-exchange.frames.known 0 0 1 c.in-Ok-exchange.frames.known second c.in-Ok-activate_all.ensures.goes refl (omega arith)
+
+pub exchange-requires-clause-within : goal.exchange-requires-clause-within
+exchange-requires-clause-within g c =
+    rw c.requires.all (drives_gain c.args.world.now c.args.steps.now.items c.tick.new.world c.tick.new.steps.items c.in-Ok.ensures.goes.drives)

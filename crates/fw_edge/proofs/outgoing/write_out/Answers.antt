@@ -1,5 +1,8 @@
-use Rattle.std.proofs.Common.{arith, map}
+use Rattle.std.proofs.Common.{◌∙◌, arith, map, refl, sym}
+use Rattle.fw_edge.specs.Ledgers.{packet_counts}
 use Rattle.fw_edge.proofs.Failing.{failed_from, same_from}
+use Rattle.fw_edge.proofs.Rising.{map_length}
+use Rattle.fw_edge.proofs.Sending.{count_at, sent_next, sent_none, written_all, written_next, written_within}
 use Rattle.fw_edge.proofs.outgoing.write_out.Goals as goal
 
 pub returns-in-Err-clause-failed : goal.returns-in-Err-clause-failed
@@ -7,9 +10,29 @@ returns-in-Err-clause-failed g c =
     failed_from (λ k. (g.L.Link.tally k).failures) (map (λ k. (g.L.Link.tally k).failures) c.args.links.now) c.loop-place.links c.loop-place.place c.index-links-place.result c.write_at.new.link
     c.loop-place.invariant.kept (omega arith) c.in-Err.ensures.failed
 
+pub loop-place-init : goal.loop-place-init
+loop-place-init g c = record {
+  kept = refl;
+  asked = refl;
+  given = refl;
+  sent = sent_none c.args.written.now (map (λ k. (g.L.Link.tally k).sent) c.args.links.now) (rw (map_length (λ k. (g.L.Link.tally k).sent) c.args.links.now) c.requires.each);
+  written = c.requires.within;
+}
+
 pub loop-place-preserved : goal.loop-place-preserved
 loop-place-preserved g c = record {
   kept = same_from (λ k. (g.L.Link.tally k).failures) (map (λ k. (g.L.Link.tally k).failures) c.args.links.now) c.loop-place.links c.loop-place.place c.index-links-place.result c.write_at.new.link c.loop-place.invariant.kept c.in-Ok.ensures.kept;
   asked = same_from (λ k. (g.L.Link.tally k).asked) (map (λ k. (g.L.Link.tally k).asked) c.args.links.now) c.loop-place.links c.loop-place.place c.index-links-place.result c.write_at.new.link c.loop-place.invariant.asked c.in-Ok.ensures.asked;
   given = same_from (λ k. (g.L.Link.tally k).given) (map (λ k. (g.L.Link.tally k).given) c.args.links.now) c.loop-place.links c.loop-place.place c.index-links-place.result c.write_at.new.link c.loop-place.invariant.given c.in-Ok.ensures.given;
+  sent =
+      sent_next (λ k. (g.L.Link.tally k).sent) c.args.written.now c.loop-place.written (map (λ k. (g.L.Link.tally k).sent) c.args.links.now) c.loop-place.links c.loop-place.place
+      c.sent_at.result c.index-links-place.result c.write_at.new.link (omega arith) (omega arith)
+      (rw (c.sent_at.ensures, sym (count_at c.args.world.now.sites c.loop-place.place)) (written_within c.loop-place.place c.loop-place.written (packet_counts c.args.world.now.sites) (omega arith) c.loop-place.invariant.written))
+      (rw c.sent_at.ensures c.in-Ok.ensures.sent) c.loop-place.invariant.sent;
+  written =
+      written_next c.loop-place.place c.loop-place.written (packet_counts c.args.world.now.sites) c.sent_at.result (omega arith)
+      (c.sent_at.ensures ∙ sym (count_at c.args.world.now.sites c.loop-place.place)) c.loop-place.invariant.written;
 }
+
+pub returns-clause-all : goal.returns-clause-all
+returns-clause-all g c = written_all c.loop-place.place c.loop-place.written (packet_counts c.args.world.now.sites) (omega arith) c.loop-place.invariant.written

@@ -31,6 +31,9 @@ loop-place-preserved g c = record {
       (c.and-frames.result.known + c.and-frames.result.foreign) (map (λ k. (g.L.Link.tally k).given) c.args.links.now) c.loop-place.links c.loop-place.place
       c.index-links-place.result c.read_both.new.link (omega arith) c.in-Ok.ensures.reads.given_rise (omega (arith, c.and-frames.ensures.known, c.and-frames.ensures.foreign))
       c.loop-place.invariant.given;
+  sent =
+      same_from (λ k. (g.L.Link.tally k).sent) (map (λ k. (g.L.Link.tally k).sent) c.args.links.now) c.loop-place.links c.loop-place.place c.index-links-place.result c.read_both.new.link
+      c.loop-place.invariant.sent c.in-Ok.ensures.reads.sent;
 }
 
 pub loop-place-init : goal.loop-place-init
@@ -40,6 +43,7 @@ loop-place-init g c = record {
   kept = refl;
   asked = refl;
   given = rw (c.none-frames.ensures.known, c.none-frames.ensures.foreign) (together_none (map (λ k. (g.L.Link.tally k).given) c.args.links.now) (map (λ k. (g.L.Link.tally k).given) c.args.links.now) refl);
+  sent = refl;
 }
 
 pub returns-clause-asked : goal.returns-clause-asked

@@ -12,4 +12,5 @@ invariant-loop-place g l = record {
   kept : map (λ k. (g.L.Link.tally k).failures) l.links ≡ map (λ k. (g.L.Link.tally k).failures) l.fn.links;
   asked : RoseBefore 2 l.place (map (λ k. (g.L.Link.tally k).asked) l.fn.links) (map (λ k. (g.L.Link.tally k).asked) l.links);
   given : RoseTogether (l.frames.known + l.frames.foreign) (map (λ k. (g.L.Link.tally k).given) l.fn.links) (map (λ k. (g.L.Link.tally k).given) l.links);
+  sent : map (λ k. (g.L.Link.tally k).sent) l.links ≡ map (λ k. (g.L.Link.tally k).sent) l.fn.links;
 }

@@ -1,6 +1,7 @@
 use Rattle.std.proofs.Common.{◌∙◌, ◌+◌, ◌*◌, arith, map, refl}
 use Rattle.fw_edge.proofs.Going.{goes_none, goes_off, goes_sum}
-use Rattle.fw_edge.proofs.Rising.{rose_less, rose_none, rose_on, together_none, together_sum}
+use Rattle.fw_edge.proofs.Rising.{map_length, rose_less, rose_none, rose_on, together_none, together_sum}
+use Rattle.fw_edge.proofs.Sending.{sent_none, sent_on}
 use Rattle.fw_edge.proofs.rounds.rounds.Goals as goal
 
 pub returns-in-Err-clause-drives : goal.returns-in-Err-clause-drives
@@ -27,6 +28,9 @@ loop-preserved g c = record {
       together_sum (c.loop.frames.known + c.loop.frames.foreign) (c.in-Ok.more.known + c.in-Ok.more.foreign) (c.and-frames.result.known + c.and-frames.result.foreign)
       (map (λ k. (g.L.Link.tally k).given) c.args.links.now) (map (λ k. (g.L.Link.tally k).given) c.loop.links) (map (λ k. (g.L.Link.tally k).given) c.round.new.links)
       (omega (arith, c.and-frames.ensures.known, c.and-frames.ensures.foreign)) c.loop.invariant.given c.in-Ok.ensures.given;
+  sent =
+      sent_on c.args.written.now c.loop.written c.round.new.written (map (λ k. (g.L.Link.tally k).sent) c.args.links.now) (map (λ k. (g.L.Link.tally k).sent) c.loop.links) (map (λ k. (g.L.Link.tally k).sent) c.round.new.links) c.loop.invariant.sent c.in-Ok.ensures.sent;
+  within = c.in-Ok.ensures.within;
 }
 
 pub loop-init : goal.loop-init
@@ -36,6 +40,8 @@ loop-init g c = record {
   kept = refl;
   asked = rose_none (map (λ k. (g.L.Link.tally k).asked) c.args.links.now);
   given = rw (c.none-frames.ensures.known, c.none-frames.ensures.foreign) (together_none (map (λ k. (g.L.Link.tally k).given) c.args.links.now) (map (λ k. (g.L.Link.tally k).given) c.args.links.now) refl);
+  sent = sent_none c.args.written.now (map (λ k. (g.L.Link.tally k).sent) c.args.links.now) (rw (map_length (λ k. (g.L.Link.tally k).sent) c.args.links.now) c.requires.written);
+  within = c.requires.within;
 }
 
 pub returns-then-count-eq0-clause-asked : goal.returns-then-count-eq0-clause-asked
@@ -52,3 +58,7 @@ returns-then-count-eq0-clause-given g c =
 pub returns-clause-asked : goal.returns-clause-asked
 returns-clause-asked g c =
     rose_less 2 (2 * c.loop.counter) (map (λ k. (g.L.Link.tally k).asked) c.args.links.now) (map (λ k. (g.L.Link.tally k).asked) c.loop.links) (omega arith) c.loop.invariant.asked
+
+pub returns-then-count-eq0-clause-sent : goal.returns-then-count-eq0-clause-sent
+returns-then-count-eq0-clause-sent g c =
+    sent_on c.args.written.now c.loop.written c.round.new.written (map (λ k. (g.L.Link.tally k).sent) c.args.links.now) (map (λ k. (g.L.Link.tally k).sent) c.loop.links) (map (λ k. (g.L.Link.tally k).sent) c.round.new.links) c.loop.invariant.sent c.in-Ok.ensures.sent

@@ -1,6 +1,6 @@
 use Rattle.std.proofs.Common.{◌≡◌, ◌<◌, ◌+◌, ◌*◌, map}
 use Rattle.fw_edge.specs.Drives.{Goes}
-use Rattle.fw_edge.specs.Ledgers.{AllRose, RoseTogether}
+use Rattle.fw_edge.specs.Ledgers.{AllRose, AllSent, NoneFell, RoseTogether, packet_counts}
 use Rattle.fw_edge.proofs.rounds.rounds.Given as goal
 
 -- none failed, and few frames came
@@ -11,4 +11,6 @@ invariant-loop g l = record {
   kept : map (λ k. (g.L.Link.tally k).failures) l.links ≡ map (λ k. (g.L.Link.tally k).failures) l.fn.links;
   asked : AllRose (2 * l.counter) (map (λ k. (g.L.Link.tally k).asked) l.fn.links) (map (λ k. (g.L.Link.tally k).asked) l.links);
   given : RoseTogether (l.frames.known + l.frames.foreign) (map (λ k. (g.L.Link.tally k).given) l.fn.links) (map (λ k. (g.L.Link.tally k).given) l.links);
+  sent : AllSent l.fn.written l.written (map (λ k. (g.L.Link.tally k).sent) l.fn.links) (map (λ k. (g.L.Link.tally k).sent) l.links);
+  within : NoneFell l.written (packet_counts l.world.sites);
 }
