@@ -1,5 +1,6 @@
 mod Activating
 mod Components
+mod Isolated
 mod Joins
 mod Judging
 mod Leading

@@ -1,4 +1,5 @@
 pub mod Deliveries
+pub mod Isolation
 pub mod JoinLaws
 pub mod Joins
 pub mod Lanes
