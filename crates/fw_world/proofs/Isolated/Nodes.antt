@@ -18,11 +18,10 @@ use Rattle.fw_node.specs.Halves.{HalfHeard, half_hears}
 use Rattle.fw_node.specs.Nodes.{DeviceNodeOf, device_restarts, finished}
 use Rattle.fw_node.specs.Packets.{all_packets}
 use Rattle.fw_world.specs.Links.{LinkOf, LinkStep, LinkStepped, delivers_on, device_heard, link_after}
-use Rattle.fw_world.specs.Replays.{is_device, is_node, may_step, packet_fault, where_known}
+use Rattle.fw_world.specs.Replays.{is_device, is_node, may_step, packet_fault}
 use Rattle.fw_world.specs.Worlds.{SiteOf, WorldOf, activates_on, asks_log, at_agent, at_device, comes, delivers, judges, packets_of, place_of, posts, restarts, site_for, site_restarts, site_ticks, ticks, world_after}
 use Rattle.fw_world.specs.declared.step.Step.{Step}
 use Rattle.fw_world.specs.declared.step.Step.TheVariants as steps
-use Rattle.fw_world.specs.declared.step.StepFault.{StepFault}
 use Rattle.fw_world.proofs.Links.Arrivals.{device_put, heard_site}
 use Rattle.fw_world.proofs.Links.Delivered.{IsLinkOf, packets_on, strange_packet}
 use Rattle.fw_world.proofs.Links.Hears.{IsPassed}

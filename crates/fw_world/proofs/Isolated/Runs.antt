@@ -1,6 +1,6 @@
 -- What is between the agent and a device after a run: it depends on what was between them and on the steps that concern the
 -- device, so that two runs with the same lead to the same.
-use Rattle.std.proofs.Common.{◌≡◌, ◌≢◌, ◌⊎◌, ◌∙◌, ◌≤◌, ◌<◌, ◌+◌, ◌-◌, ◌^◌, ◌==◌, ◌&&◌, ◌||◌, ℕ, Bool, true, false, cond, is_some, List, [], ◌∷◌, Option, Some, None, IsSomeAnd, inl, inr, refl, sym, ap, subst, arith}
+use Rattle.std.proofs.Common.{◌≡◌, ◌≢◌, ◌⊎◌, ◌∙◌, ◌≤◌, ◌<◌, ◌-◌, ◌^◌, ◌==◌, ◌&&◌, ◌||◌, ℕ, Bool, true, false, cond, List, [], ◌∷◌, Option, Some, None, inl, inr, refl, sym, ap, subst, arith}
 use Rattle.std.specs.List.{filter}
 use Rattle.std.proofs.lemmas.Bool.{cases_lt}
 use Rattle.exch_lane.specs.Laws.{LaneIsACell}
@@ -15,7 +15,7 @@ use Rattle.fw_world.specs.JoinLaws.{LinksAreMessages}
 use Rattle.fw_world.specs.LinkLaws.{LinksAreLanes}
 use Rattle.fw_world.specs.Links.{LinkOf, LinkStep}
 use Rattle.fw_world.specs.Replays.{Leads, Run}
-use Rattle.fw_world.specs.Worlds.{SiteOf, WorldOf, site_for, world_after}
+use Rattle.fw_world.specs.Worlds.{SiteOf, WorldOf, site_for}
 use Rattle.fw_world.specs.declared.step.Step.{Step}
 use Rattle.fw_world.specs.declared.step.Step.TheVariants as steps
 use Rattle.fw_world.proofs.Isolated.Counts.{GoesWell, goes_or_fails}
@@ -23,7 +23,7 @@ use Rattle.fw_world.proofs.Isolated.Seen.{IsSeen, SeenOf, seen_after, seen_then}
 use Rattle.fw_world.proofs.Links.Delivered.{IsLinkOf}
 use Rattle.fw_world.proofs.Links.Linked.{linked_world}
 use Rattle.fw_world.proofs.Links.Projected.{comes_as, link_step, restart_as, where_mine}
-use Rattle.fw_world.proofs.Links.Projection.{link_at, link_from}
+use Rattle.fw_world.proofs.Links.Projection.{link_from}
 use Rattle.fw_world.proofs.Worlds.KnownDeaf.{agent_stays}
 use Rattle.fw_world.proofs.Worlds.Safe.{stand_along}
 use Rattle.fw_world.proofs.Worlds.SafeOpening.{opening_stands}

@@ -1,6 +1,6 @@
 -- What is between the agent and a device after a step of the world: it depends on what was between them, on the time, on the
 -- packages, and on the step of their link that the step is.
-use Rattle.std.proofs.Common.{◌≡◌, ◌∙◌, ◌+◌, ◌==◌, ◌&&◌, ◌++◌, ℕ, Bool, true, false, if◌then◌else◌, is_some, append-nil, List, [], ◌∷◌, map, Option, Some, None, IsSomeAnd, inl, inr, refl, sym, ap, subst}
+use Rattle.std.proofs.Common.{◌≡◌, ◌∙◌, ◌==◌, ◌&&◌, ◌++◌, ℕ, Bool, true, false, is_some, append-nil, List, [], ◌∷◌, map, Option, Some, None, IsSomeAnd, inl, inr, refl, sym, ap, subst}
 use Rattle.std.proofs.lemmas.Bool.{eq-eqb}
 use Rattle.std.proofs.lemmas.Bool.Decides.{eqb_tells}
 use Rattle.mctp_ctl.specs.declared.answers.Endpoint.{Endpoint}
