@@ -1,6 +1,7 @@
 mod Activating
 mod Aging
 mod Components
+mod Isolated
 mod Joins
 mod Judging
 mod Leading

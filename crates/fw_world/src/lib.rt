@@ -4,6 +4,7 @@
 
 mod dead;
 mod headline;
+mod isolation;
 mod joined;
 mod laws;
 mod replays;
@@ -19,6 +20,7 @@ pub use fw_message::{
     message_replay, messages_are_safe, runs_stay_tied, worlds_are_safe,
 };
 pub use headline::{moments_are_tied, packets_are_messages, packets_are_safe};
+pub use isolation::{devices_are_isolated, replay_two};
 pub use joined::links_are_messages;
 pub use laws::links_are_lanes;
 pub use replays::replay;

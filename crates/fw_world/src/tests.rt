@@ -2,6 +2,7 @@
 
 mod dice;
 mod headers;
+mod isolation;
 mod packages;
 mod random;
 mod rows;

@@ -145,7 +145,7 @@ neither source dest own x y first second (inl e) = λ z. second (sym z ∙ e.1)
 neither source dest own x y first second (inr e) = λ z. first (sym z ∙ e.1)
 
 -- a packet of another device's link, at a device
-strange_packet : (works : Bool) (l d : LinkOf) (bytes : List ℕ) (g : GoesBetween d.agent.own d.device.own bytes) → l.device.own ≢ d.agent.own → l.device.own ≢ d.device.own
+pub strange_packet : (works : Bool) (l d : LinkOf) (bytes : List ℕ) (g : GoesBetween d.agent.own d.device.own bytes) → l.device.own ≢ d.agent.own → l.device.own ≢ d.device.own
     → half_hears device_core works l.device bytes ≡ HalfHeard.Went l.device []
 strange_packet works l d bytes g agent device =
     others_packet device_core works l.device bytes

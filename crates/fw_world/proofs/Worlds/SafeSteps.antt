@@ -1,5 +1,5 @@
 -- A world that stands for one over whole messages stays one whatever step it takes.
-use Rattle.std.proofs.Common.{◌≡◌, ◌≢◌, ◌∙◌, ◌-◌, ◌^◌, ◌==◌, ℕ, Bool, true, false, if◌then◌else◌, nat_lt, List, [], ◌∷◌, Option, Some, None, inl, inr, refl, sym, ap, subst}
+use Rattle.std.proofs.Common.{◌≡◌, ◌≢◌, ◌∙◌, ◌+◌, ◌-◌, ◌^◌, ◌==◌, ℕ, Bool, true, false, if◌then◌else◌, nat_lt, List, [], ◌∷◌, Option, Some, None, inl, inr, refl, sym, ap, subst}
 use Rattle.std.proofs.lemmas.Bool.{eq-eqb, ne_eqb}
 use Rattle.std.proofs.lemmas.Bool.Decides.{eqb_tells}
 use Rattle.exch_lane.specs.Lanes.{Sent, numbered}
@@ -72,7 +72,7 @@ log_moment w (command ∷ bytes) = record { packages = refl; now = refl }
 restart_moment : (works : Bool) (faults : ℕ) (w : WorldOf) (node : ℕ) → SameMoment w (world_after works faults w (steps.Restart node))
 restart_moment works faults w node = moment_if (node == w.agent.endpoint.eid) w _ _ (record { packages = refl; now = refl }) (record { packages = refl; now = refl })
 
-packages_stay : (works : Bool) (faults : ℕ) (w : WorldOf) (s : Step) → (world_after works faults w s).packages ≡ w.packages
+pub packages_stay : (works : Bool) (faults : ℕ) (w : WorldOf) (s : Step) → (world_after works faults w s).packages ≡ w.packages
 packages_stay works faults w (steps.Deliver device number node) = (delivered_moment works faults w node (numbered (packets_of w device) number)).packages
 packages_stay works faults w steps.Tick = refl
 packages_stay works faults w (steps.Start device number) = refl
@@ -82,9 +82,24 @@ packages_stay works faults w (steps.Verdict device verdict) = (judged_moment wor
 packages_stay works faults w (steps.Restart node) = (restart_moment works faults w node).packages
 packages_stay works faults w (steps.Sel bytes) = (log_moment w bytes.items).packages
 
+-- the time after a step
+abbrev pub now_then : ℕ → Step → ℕ
+now_then now steps.Tick = now + 1
+now_then now s = now
+
+pub time_goes : (works : Bool) (faults : ℕ) (w : WorldOf) (s : Step) → (world_after works faults w s).now ≡ now_then w.now s
+time_goes works faults w (steps.Deliver device number node) = (delivered_moment works faults w node (numbered (packets_of w device) number)).now
+time_goes works faults w steps.Tick = refl
+time_goes works faults w (steps.Start device number) = refl
+time_goes works faults w (steps.Cancel device) = refl
+time_goes works faults w (steps.Activate device) = (activated_moment w device (ready_for w.agent device)).now
+time_goes works faults w (steps.Verdict device verdict) = (judged_moment works faults w verdict (place_of w.sites device) (site_for w.sites device)).now
+time_goes works faults w (steps.Restart node) = (restart_moment works faults w node).now
+time_goes works faults w (steps.Sel bytes) = (log_moment w bytes.items).now
+
 -- WHAT FOLLOWS A STEP
 
-world_follows : LaneIsACell → (opening w v : WorldOf) (s : Step) → Stand opening w → (h : Leads w s v) → Follows h.works s w (world_after h.works h.faults w s)
+pub world_follows : LaneIsACell → (opening w v : WorldOf) (s : Step) → Stand opening w → (h : Leads w s v) → Follows h.works s w (world_after h.works h.faults w s)
 world_follows law opening w v s k h =
     let linked : AreLinked w = linked_world w (known_links opening w k) in
     let notes = history_grows h.works h.faults w s linked h.may in

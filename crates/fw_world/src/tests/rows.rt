@@ -9,7 +9,13 @@ use std::test::Fail;
 use ua_core::{Cause, SessionState};
 
 /// Whether a device and its session stand so, and so many packets were sent between it and the agent.
-fn stands(world: &Small<'_>, device: u8, session: SessionState, state: State, sent: usize) -> bool {
+pub fn stands(
+    world: &Small<'_>,
+    device: u8,
+    session: SessionState,
+    state: State,
+    sent: usize,
+) -> bool {
     match (
         world.agent().session(device),
         world.device(device),
@@ -23,7 +29,7 @@ fn stands(world: &Small<'_>, device: u8, session: SessionState, state: State, se
 }
 
 /// Whether a device runs these bytes.
-fn runs(world: &Small<'_>, device: u8, bytes: &[u8]) -> bool {
+pub fn runs(world: &Small<'_>, device: u8, bytes: &[u8]) -> bool {
     match world.device(device) {
         Some(node) => match node.device().bank().active(KEY) {
             Some((_, image)) => image == bytes,

@@ -80,7 +80,7 @@ fn steps_are_taken_one_by_one(rt: HostRuntime) -> Result<(), Fail> {
 }
 
 /// The schedule of an update over links that lose nothing, in turns.
-fn perfect() -> [Step; 43] {
+pub fn perfect() -> [Step; 43] {
     [
         Step::Start(9, 1),
         Step::Tick,

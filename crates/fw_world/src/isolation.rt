@@ -1,0 +1,52 @@
+//! Two replays side by side: what is between the agent and a device depends on no other device.
+
+ghost use Rattle.std.specs.Prelude.{◌≡◌, ◌<◌, IfErr, IfSome, IsOk, OnOk, length, slice_get, take};
+ghost use Rattle.fw_world.specs.Isolation.{AgreeIn, DevicesAreIsolated, IsReached, IsUnfailed, steps_of};
+ghost use Rattle.fw_world.specs.Replays.{Refuses, Run};
+
+use crate::joined::links_are_messages;
+use crate::laws::links_are_lanes;
+use crate::replays::replay;
+use crate::step::{Step, StepFault};
+use crate::world::World;
+use fd_core::Bank;
+
+/// Where steps led to two worlds that agree in a device, and more steps of each lead on, of which the same concern that device:
+/// the worlds then agree in it, if no call of its bank failed.
+pub fn devices_are_isolated()
+    ensures law { DevicesAreIsolated }
+{
+    exch_lane::lane_is_a_cell();
+    links_are_lanes();
+    links_are_messages();
+}
+
+/// Takes these steps in the first world, then those in the second, each as `replay` does, and gives both results. One silent or
+/// broken device changes nothing between the agent and another: where the worlds agree in a device, the same steps concern it in
+/// both schedules, all steps are taken, and in neither world its bank's count of failures rises or stands at its last value, the
+/// worlds agree in the device afterwards. The other devices, their number and the event log may differ, and so may what is done
+/// with them.
+///
+/// # Errors
+/// In each result those of `replay`, of its own world and steps.
+pub fn replay_two<'a, 'b, B: Bank + Drop>(
+    first: &mut World<'a, B>,
+    first_steps: &[Step],
+    second: &mut World<'b, B>,
+    second_steps: &[Step],
+    device: u8,
+) -> (
+    Result<(), (usize, StepFault)>,
+    Result<(), (usize, StepFault)>,
+)
+    ensures first_ok { OnOk result.0 (Run first.old first_steps.now first.new) }
+    ensures first_stopped { IfErr result.0 (λ e. (e.0 < length first_steps.now) × Run first.old (take e.0 first_steps.now) first.new × IfSome (slice_get first_steps.now e.0) (λ s. Refuses first.new s e.1)) }
+    ensures second_ok { OnOk result.1 (Run second.old second_steps.now second.new) }
+    ensures second_stopped { IfErr result.1 (λ e. (e.0 < length second_steps.now) × Run second.old (take e.0 second_steps.now) second.new × IfSome (slice_get second_steps.now e.0) (λ s. Refuses second.new s e.1)) }
+    ensures isolated { IsReached first.old → IsReached second.old → AgreeIn device first.old second.old → steps_of first.old device first_steps.now ≡ steps_of second.old device second_steps.now → IsOk result.0 → IsOk result.1 → IsUnfailed device first.old first.new → IsUnfailed device second.old second.new → AgreeIn device first.new second.new }
+{
+    devices_are_isolated();
+    let first_result = replay(first, first_steps);
+    let second_result = replay(second, second_steps);
+    (first_result, second_result)
+}
