@@ -3,6 +3,7 @@
 
 mod bench;
 mod nodes;
+mod noise;
 mod packages;
 mod setup;
 mod updates;

@@ -1,3 +1,4 @@
 mod configs;
 mod memory;
+mod noise;
 mod schedules;

@@ -1,4 +1,5 @@
 mod Digits
 mod Making
+mod Setups
 mod Streams
 mod Uses

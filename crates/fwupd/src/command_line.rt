@@ -16,7 +16,16 @@ pub enum Job<'a> {
     /// Replay, with the configuration of the first path, the schedule of the second.
     Replay(&'a str, &'a str),
     /// Update the devices of the configuration of the first path over sockets in the folder of the second.
-    Run(&'a str, &'a str),
+    Run(&'a str, &'a str, Show<'a>),
+}
+
+/// What is shown of a run while it goes on.
+#[derive(Clone, Copy, Debug)]
+pub struct Show<'a> {
+    /// No progress, also on a terminal.
+    pub is_quiet: bool,
+    /// The file that each packet is written to as it goes out, if there is one.
+    pub trace: Option<&'a str>,
 }
 
 /// What stands below the help of `answer`.
@@ -168,13 +177,18 @@ fn replay_command<'a>(alloc: Global) -> Result<Command<'a>, clap::Error> {
 
 /// What stands below the help of `run`.
 const RUN_HELP: &str = "\
-Example:
+Examples:
   fwupd run data/worlds/one.config out
+  fwupd run --quiet --trace out/packets data/worlds/one.config out
 
 CONFIG is a configuration as 'fwupd replay --help' has it. The report is the one of 'replay'.
 
+On a terminal, standard error shows how far the first device is that loads an image. --trace writes a line for each packet:
+the turn, the device, to-device or to-agent, and the packet in hexadecimal digits.
+
 Faults: 'package: none' where CONFIG names no package; 'socket: EID' where the file FOLDER/EID.sock can't be made, as where
-it is there already; 'edge: Frame' where a socket fails, and 'edge: Step' at the end of the clock, both after the report.
+it is there already; after the report, 'edge: Frame' where a socket fails, 'edge: Step' at the end of the clock, and 'trace'
+where the trace can't be written. Where its file can't be made, 'trace' alone.
 
 Limits: 80000 turns, of one tick each; three images of 1 MiB take about 66000.
 
@@ -190,13 +204,23 @@ fn run_command<'a>(alloc: Global) -> Result<Command<'a>, clap::Error> {
         .help("The folder that the sockets are made in")
         .required(true)
         .action(ArgAction::Set);
+    let quiet = Arg::new(alloc, "quiet")
+        .long("quiet")
+        .help("Shows no progress")
+        .action(ArgAction::SetTrue);
+    let trace = Arg::new(alloc, "trace")
+        .long("trace")
+        .value_name("FILE")
+        .help("Writes each packet to a file as it goes out");
     let command = Command::new(alloc, "run")
         .about("Updates each device with the first package, over Unix sockets")
         .long_about(
             "Updates each device of a configuration with its first package, each over a Unix socket FOLDER/EID.sock to \
-            itself, and prints a report of what that leaves. The sockets are removed afterwards.",
+            itself, and prints a report of what that leaves. A socket's file is there only until both of its ends are.",
         )
         .after_long_help(RUN_HELP)
+        .arg(quiet)?
+        .arg(trace)?
         .arg(config)?
         .arg(folder)?;
     Ok(command)
@@ -247,6 +271,10 @@ pub fn parse<'a>(alloc: Global, words: &'a [String]) -> Result<Job<'a>, clap::Er
         Some(("run", matches)) => Ok(Job::Run(
             matches.get_str("CONFIG").unwrap_or(""),
             matches.get_str("FOLDER").unwrap_or(""),
+            Show {
+                is_quiet: matches.get_flag("quiet"),
+                trace: matches.get_str("trace"),
+            },
         )),
         _ => Err(command(alloc)?.error(ErrorKind::MissingSubcommand, "a subcommand is required")?),
     }

@@ -1,18 +1,23 @@
 //! Replaying a schedule on the nodes of a configuration.
 
-ghost use Rattle.std.specs.Prelude.{IfOk, map};
+ghost use Rattle.std.specs.Prelude.{IfErr, IfOk, None, OnOk, map};
 ghost use Rattle.fw_script.specs.Seen.{device_of};
 ghost use Rattle.fw_script.specs.Whole.{AreWhole};
 ghost use Rattle.fw_world.specs.Replays.{new_world};
 ghost use Rattle.fwupd.specs.Nodes.{nodes_made};
-ghost use Rattle.fwupd.specs.Replayed.{IsReplayed};
+ghost use Rattle.fwupd.specs.Replayed.{IsReplayed, ReplayEnds, Reports};
 
+use crate::faults::RunFault;
+use crate::files::Files;
 use crate::nodes::nodes;
+use crate::retries::write_whole;
+use crate::setups::{configuration, package_files, packages_in, schedule};
 use fw_package::Package;
-use fw_script::{DeviceConfig, report};
+use fw_script::{Config, DeviceConfig, report};
 use fw_world::{Step, StepFault, World, replay};
 use mctp_ctl::Endpoint;
 use std::alloc::{AllocError, Global};
+use std::io::Write;
 
 /// What a replay leaves: the report of the world, and the number of the step that isn't taken, from 0 on, and why.
 #[derive(Debug, Drop)]
@@ -45,4 +50,53 @@ pub fn replayed<'a>(
     };
     let report = report(alloc, &world)?;
     Ok(Outcome { report, fault })
+}
+
+/// Replays the schedule in a file on the nodes of the configuration in another, and writes the report of what that leaves.
+///
+/// # Errors
+/// The first fault, in this order: of the configuration's file, of the packages that it names, one after the other, and of the
+/// schedule's file. `Step` where a step isn't taken, whose number counts from 1: the report is then of the world before it.
+/// `Output` where the report isn't written whole, and `Memory` where memory is refused; nothing is written then.
+pub fn replay_files<F: Files, W: Write>(
+    alloc: Global,
+    files: &F,
+    config: &str,
+    steps: &str,
+    writer: &mut W,
+) -> Result<(), RunFault>
+    ensures ok { OnOk result (Reports (F.holds files.now) config.now steps.now None (W.contents writer.old) (W.contents writer.new)) }
+    ensures fault { IfErr result (λ e. ReplayEnds (F.holds files.now) config.now steps.now e (W.contents writer.old) (W.contents writer.new)) }
+{
+    let Config {
+        agent,
+        devices,
+        packages: paths,
+    } = match configuration(alloc, files, config) {
+        Ok(config) => config,
+        Err(fault) => return Err(fault),
+    };
+    let contents = match package_files(alloc, files, paths.as_slice()) {
+        Ok(contents) => contents,
+        Err(fault) => return Err(fault),
+    };
+    let packages = match packages_in(alloc, contents.as_slice()) {
+        Ok(packages) => packages,
+        Err(fault) => return Err(fault),
+    };
+    let steps = match schedule(alloc, files, steps) {
+        Ok(steps) => steps,
+        Err(fault) => return Err(fault),
+    };
+    let Ok(outcome) = replayed(alloc, agent, devices, packages.as_slice(), steps.as_slice()) else {
+        return Err(RunFault::Memory);
+    };
+    match write_whole(writer, &outcome.report) {
+        Ok(()) => {}
+        Err(_) => return Err(RunFault::Output),
+    }
+    match outcome.fault {
+        Some((place, fault)) => Err(RunFault::Step(place.saturating_add(1), fault)),
+        None => Ok(()),
+    }
 }

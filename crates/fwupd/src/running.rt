@@ -1,46 +1,100 @@
 //! Updating devices over links.
 
-ghost use Rattle.std.specs.Prelude.{◌≤◌, length};
+ghost use Rattle.std.specs.Prelude.{◌≡◌, ◌≤◌, IfErr, OnOk, length};
+ghost use Rattle.fw_edge.specs.Ledgers.{OneFailed};
+ghost use Rattle.fwupd.specs.Running.{IsReached, IsUpdated, Starts};
 
+use crate::faults::{RunFault, edge_fault};
 use fd_core::MemBank;
-use fw_edge::{EdgeFault, Link, drive};
+use fw_edge::{Link, drive};
 use fw_world::{Step, StepFault, World};
 use std::alloc::Global;
 
 /// How many turns a run has at most: three images of the largest size take about 66,000.
 const TURNS: u32 = 80_000;
 
+/// Why what looks on ends a run.
+#[derive(Clone, Copy, Debug, PartialEq, Eq)]
+pub enum WatchFault {
+    /// What it tells can't be written.
+    Unwritten,
+    /// Memory was refused.
+    Memory,
+}
+
+/// What looks on while devices are updated.
+pub trait Watch {
+    /// Sees what a turn left.
+    ///
+    /// # Errors
+    /// What it tells of it can't be written, or memory is refused.
+    fn see(&mut self, world: &World<'_, MemBank>) -> Result<(), WatchFault>;
+
+    /// The run has ended.
+    ///
+    /// # Errors
+    /// As for a turn.
+    fn end(&mut self) -> Result<(), WatchFault>;
+}
+
+/// Why a run ends that is looked at no more.
+pub fn watch_fault(fault: WatchFault) -> RunFault {
+    match fault {
+        WatchFault::Unwritten => RunFault::Trace,
+        WatchFault::Memory => RunFault::Memory,
+    }
+}
+
 /// Starts the update of each device with package 1.
-fn start_all(world: &mut World<'_, MemBank>) -> Result<(), StepFault> {
+fn start_all(world: &mut World<'_, MemBank>) -> Result<(), RunFault>
+    ensures started { OnOk result (Starts world.old world.new) }
+    ensures reached { IsReached world.old world.new }
+{
     for place in 0..world.device_count() {
         let Some(node) = world.device_at(place) else {
             return Ok(());
         };
-        let eid = node.eid();
-        world.step(&Step::Start(eid, 1))?;
+        let start = Step::Start(node.eid(), 1);
+        match world.step(&start) {
+            Ok(()) => {}
+            Err(StepFault::Memory) => return Err(RunFault::Memory),
+            Err(_) => return Err(RunFault::NoPackage),
+        }
     }
     Ok(())
 }
 
-/// Updates each device of a new world with package 1 over its link, turn by turn, until each session is Done or Failed.
+/// Updates each device of a new world with package 1 over its link, turn by turn, until each session is Done or Failed, and at
+/// most for 80,000 turns.
 ///
 /// # Errors
-/// `Frame` where a link failed, `Memory` where memory was refused.
-pub fn update_all<L: Link>(
+/// `Edge` where a link failed or the clock stands at its end, `Memory` where memory was refused, and what ends the watch.
+pub fn update_all<L: Link, V: Watch>(
     alloc: Global,
     world: &mut World<'_, MemBank>,
     links: &mut [L],
-) -> Result<(), EdgeFault>
-    requires { length links.old ≤ 16 }
+    watch: &mut V,
+) -> Result<(), RunFault>
+    requires few { length links.old ≤ 16 }
+    ensures updated { OnOk result (IsUpdated world.old world.new) }
+    ensures reached { IsReached world.old world.new }
 {
-    let Ok(()) = start_all(world) else {
-        return Err(EdgeFault::Memory);
-    };
+    match start_all(world) {
+        Ok(()) => {}
+        Err(fault) => return Err(fault),
+    }
     let mut steps = Vec::new(alloc);
     for _ in 0..TURNS {
-        let driven = drive(world, links, 1, &mut steps)?;
+        let driven = match drive(world, links, 1, &mut steps) {
+            Ok(driven) => driven,
+            Err(fault) => return Err(edge_fault(fault)),
+        };
         if driven.turns == 0 {
             return Ok(());
+        }
+        match watch.see(world) {
+            Ok(()) => {}
+            Err(fault) => return Err(watch_fault(fault)),
         }
         steps.clear();
     }

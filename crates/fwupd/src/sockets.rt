@@ -1,37 +1,59 @@
 //! Links over Unix sockets.
 
+use crate::faults::RunFault;
+use crate::updating::Wires;
 use fw_edge::StreamLink;
 use std::os::unix::net::{UnixListener, UnixStream};
 use std::{fs, io};
 
-/// A link over a Unix socket.
-pub type SocketLink = StreamLink<UnixStream>;
+/// Unix sockets in a folder: that of a device is `EID.sock`, and its name is gone as soon as both of its ends are there.
+#[derive(Drop)]
+pub struct Sockets<'a> {
+    rt: &'a HostRuntime,
+    folder: &'a str,
+}
 
 /// Both ends of a connection of a socket to itself, as a link.
-fn connected(rt: &HostRuntime, listener: &UnixListener, path: &str) -> io::Result<SocketLink> {
+fn connected(
+    rt: &HostRuntime,
+    listener: &UnixListener,
+    path: &str,
+) -> io::Result<StreamLink<UnixStream>> {
     let device = UnixStream::connect(rt, path)?;
     let (agent, _) = listener.accept()?;
     Ok(StreamLink::new(agent, device))
 }
 
-/// Makes a socket of this path, and a link over it to itself.
+/// Makes a socket of this path, and a link over it to itself. The path's name is taken only meanwhile.
 ///
 /// # Errors
-/// The path's name is taken, or the socket can't be made. Nothing is left of it then.
-pub fn socket_link(rt: &HostRuntime, path: &str) -> io::Result<SocketLink> {
+/// The name is taken already, or the socket can't be made. Nothing is left of it then.
+fn socket_link(rt: &HostRuntime, path: &str) -> io::Result<StreamLink<UnixStream>> {
     let listener = UnixListener::bind(rt, path)?;
-    match connected(rt, &listener, path) {
-        Ok(link) => Ok(link),
-        Err(error) => {
-            let _ = fs::remove_file(rt, path);
-            Err(error)
-        }
+    let link = connected(rt, &listener, path);
+    let _ = fs::remove_file(rt, path);
+    link
+}
+
+impl<'a> Sockets<'a> {
+    /// The sockets of this folder.
+    pub fn new(rt: &'a HostRuntime, folder: &'a str) -> Sockets<'a> {
+        Sockets { rt, folder }
     }
 }
 
-/// Removes the files of these sockets.
-pub fn remove_sockets(rt: &HostRuntime, paths: &[String]) {
-    for path in paths {
-        let _ = fs::remove_file(rt, path);
+impl<'a> Wires for Sockets<'a> {
+    type Link = StreamLink<UnixStream>;
+
+    fn open(&mut self, device: u8) -> Result<StreamLink<UnixStream>, RunFault> {
+        let folder = self.folder;
+        let Ok(path) = format!(in self.rt.alloc(); "{folder}/{device}.sock") else {
+            return Err(RunFault::Memory);
+        };
+        match socket_link(self.rt, &path) {
+            Ok(link) => Ok(link),
+            Err(error) if error.kind() == io::ErrorKind::OutOfMemory => Err(RunFault::Memory),
+            Err(_) => Err(RunFault::Socket(device)),
+        }
     }
 }

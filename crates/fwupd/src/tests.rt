@@ -1,5 +1,7 @@
 //! Runs of the programs over byte readers and writers.
 
+mod jobs;
+
 use crate::command_line::{Job, parse};
 use crate::faults::{RunFault, inspection_fault};
 use crate::inspection::InspectFault;
@@ -11,7 +13,7 @@ use std::test::Fail;
 use uuid::Uuid;
 
 /// What is told of a file that holds no package.
-fn package_fault(fault: PackageFault) -> RunFault<'static> {
+fn package_fault(fault: PackageFault) -> RunFault {
     inspection_fault(InspectFault::Package(fault))
 }
 
@@ -226,17 +228,20 @@ fn the_endpoint_is_the_one_of_the_words(rt: HostRuntime) -> Result<(), Fail> {
 }
 
 /// The text of a fault of a run.
-fn text_of(rt: &HostRuntime, fault: RunFault<'_>) -> Result<String, Fail> {
+fn text_of(rt: &HostRuntime, fault: RunFault) -> Result<String, Fail> {
     Ok(format!(in rt.alloc(); "{fault}")?)
 }
 
 #[test]
 fn faults_are_told_by_their_names(rt: HostRuntime) -> Result<(), Fail> {
-    let table: [(RunFault<'_>, &str); 14] = [
+    let table: [(RunFault, &str); 14] = [
         (RunFault::Answer(AnswerFault::Read), "input"),
         (RunFault::Answer(AnswerFault::Write), "output"),
         (RunFault::Answer(AnswerFault::Memory), "memory"),
-        (RunFault::Unreadable("a b"), "a b: unreadable"),
+        (
+            RunFault::Unreadable(String::from_str(rt.alloc(), "a b")?),
+            "a b: unreadable",
+        ),
         (RunFault::Output, "output"),
         (inspection_fault(InspectFault::Memory), "memory"),
         (package_fault(PackageFault::Short), "package: Short"),

@@ -1,0 +1,69 @@
+//! The files that a job reads.
+
+ghost use Rattle.std.specs.Prelude.{IfOk, List, None, Option, ℕ};
+ghost use Rattle.fwupd.specs.Setups.{MayHold};
+
+use std::alloc::Global;
+use std::fs::File;
+use std::io::{self, Read};
+
+/// Why the bytes of a file aren't there.
+#[derive(Clone, Copy, Debug, PartialEq, Eq)]
+pub enum FileFault {
+    /// The file can't be read.
+    Unreadable,
+    /// Memory was refused.
+    Memory,
+}
+
+/// Where files are read from.
+pub trait Files {
+    ghost holds: { Self → List ℕ → Option (List ℕ) };
+
+    /// The bytes of the file of a path.
+    ///
+    /// # Errors
+    /// The file can't be read, or memory for its bytes is refused.
+    fn contents(&self, alloc: Global, path: &str) -> Result<Vec<u8>, FileFault>
+        ensures { IfOk result (λ bytes. MayHold (holds self.now path.now) bytes.items) };
+}
+
+/// The files of the system, of which nothing is known before they are read.
+#[derive(Clone, Copy)]
+pub struct SystemFiles<'a> {
+    rt: &'a HostRuntime,
+}
+
+impl<'a> SystemFiles<'a> {
+    /// The files that a runtime reaches.
+    pub fn new(rt: &'a HostRuntime) -> SystemFiles<'a> {
+        SystemFiles { rt }
+    }
+
+    /// The bytes of a file, read once, into room of its size where it says one.
+    fn read(&self, alloc: Global, path: &str) -> io::Result<Vec<u8>> {
+        let mut file = File::open(self.rt, path)?;
+        let size = match file.metadata() {
+            Ok(found) => usize::try_from(found.len()).unwrap_or(0),
+            Err(_) => 0,
+        };
+        let mut bytes = Vec::new(alloc);
+        bytes.reserve(size.saturating_add(1))?;
+        file.read_to_end(&mut bytes)?;
+        Ok(bytes)
+    }
+}
+
+impl<'a> Files for SystemFiles<'a> {
+    ghost holds = { λ f path. None };
+
+    fn contents(&self, alloc: Global, path: &str) -> Result<Vec<u8>, FileFault> {
+        match self.read(alloc, path) {
+            Ok(bytes) => Ok(bytes),
+            Err(error) => match error.kind() {
+                io::ErrorKind::OutOfMemory => Err(FileFault::Memory),
+                _ => Err(FileFault::Unreadable),
+            },
+        }
+    }
+}

@@ -1,0 +1,201 @@
+//! Jobs over files in memory.
+
+ghost use Rattle.std.specs.Prelude.{None};
+
+use crate::faults::RunFault;
+use crate::files::{FileFault, Files};
+use crate::replaying::replay_files;
+use crate::running::{Watch, WatchFault};
+use crate::updating::{Wires, update_files};
+use fd_core::MemBank;
+use fw_edge::MemLink;
+use fw_world::World;
+use std::alloc::Global;
+use std::test::Fail;
+
+/// Files in memory: a path and the bytes of each.
+#[derive(Drop)]
+struct MemFiles<'a> {
+    files: &'a [(&'a str, &'a [u8])],
+}
+
+impl<'a> Files for MemFiles<'a> {
+    ghost holds = { λ f path. None };
+
+    fn contents(&self, alloc: Global, path: &str) -> Result<Vec<u8>, FileFault> {
+        for (name, bytes) in self.files {
+            if *name == path {
+                return match Vec::from_slice(alloc, bytes) {
+                    Ok(bytes) => Ok(bytes),
+                    Err(_) => Err(FileFault::Memory),
+                };
+            }
+        }
+        Err(FileFault::Unreadable)
+    }
+}
+
+/// An agent and a device.
+const CONFIG: &[u8] = b"agent 8 00000000-0000-0000-0000-000000000000\n\
+    device 9 00000000-0000-0000-0000-000000000000\n\
+    descriptor 0000 3412\n\
+    component 10 1 0 1 1.0 AA\n";
+
+/// What is written of a job that ends with this fault or without one, and the fault's text.
+fn outcome(rt: &HostRuntime, end: Result<(), RunFault>, written: Vec<u8>) -> Result<Vec<u8>, Fail> {
+    let mut text = written;
+    if let Err(fault) = end {
+        let told = format!(in rt.alloc(); "{fault}")?;
+        text.extend_from_slice(told.as_bytes())?;
+    }
+    Ok(text)
+}
+
+/// What a replay of these files writes, and its fault.
+fn replayed(rt: &HostRuntime, files: &[(&str, &[u8])]) -> Result<Vec<u8>, Fail> {
+    let mut written = Vec::new(rt.alloc());
+    let end = replay_files(rt.alloc(), &MemFiles { files }, "c", "s", &mut written);
+    outcome(rt, end, written)
+}
+
+#[test]
+fn a_replay_writes_its_report_or_tells_the_first_fault(rt: HostRuntime) -> Result<(), Fail> {
+    let report =
+        b"now 3\nagent 8 up\ndevice 9 up IDLE session Idle sent 0\nactive 9 10 1 1 AA\nlog 0 last -\n";
+    let stopped =
+        b"now 1\nagent 8 up\ndevice 9 up IDLE session Idle sent 0\nactive 9 10 1 1 AA\nlog 0 last -\nstep 2: NoSuchNode";
+    let packaged = b"agent 8 00000000-0000-0000-0000-000000000000\n\
+        device 9 00000000-0000-0000-0000-000000000000\n\
+        component 10 1 0 1 1.0 AA\n\
+        package p\n\
+        package q\n";
+    let table: [(&[(&str, &[u8])], &[u8]); 8] = [
+        (&[("c", CONFIG), ("s", b"tick 3\n")], report),
+        (&[("c", CONFIG), ("s", b"tick\ncancel 10\ntick\n")], stopped),
+        (&[("s", b"tock\n")], b"c: unreadable"),
+        (
+            &[("c", b"\nagent 7\n"), ("s", b"tock\n")],
+            b"c: line 2: Fields",
+        ),
+        (
+            &[("c", CONFIG), ("s", b"tick\ntock\n")],
+            b"s: line 2: Directive",
+        ),
+        (&[("c", CONFIG)], b"s: unreadable"),
+        (
+            &[("c", packaged), ("p", b""), ("s", b"tock\n")],
+            b"package: Short",
+        ),
+        (&[("c", packaged), ("q", b"")], b"p: unreadable"),
+    ];
+    for (files, want) in table {
+        assert_eq!(rt; replayed(&rt, files)?.as_slice(), want);
+    }
+    Ok(())
+}
+
+/// Links in memory, and how many are opened; that to this device isn't.
+#[derive(Drop)]
+struct MemWires {
+    alloc: Global,
+    opened: usize,
+    closed: u8,
+}
+
+impl Wires for MemWires {
+    type Link = MemLink;
+
+    fn open(&mut self, device: u8) -> Result<MemLink, RunFault> {
+        if device == self.closed {
+            return Err(RunFault::Socket(device));
+        }
+        self.opened = self.opened.saturating_add(1);
+        Ok(MemLink::new(self.alloc))
+    }
+}
+
+/// Counts the turns that it sees, and can't tell of the one of this number.
+#[derive(Drop)]
+struct Counter {
+    turns: usize,
+    broken: usize,
+}
+
+impl Watch for Counter {
+    fn see(&mut self, _world: &World<'_, MemBank>) -> Result<(), WatchFault> {
+        self.turns = self.turns.saturating_add(1);
+        if self.turns == self.broken {
+            return Err(WatchFault::Unwritten);
+        }
+        Ok(())
+    }
+
+    fn end(&mut self) -> Result<(), WatchFault> {
+        Ok(())
+    }
+}
+
+/// The worked package: an image of 241 bytes, byte i being i, for class 10, identifier 1.
+fn package(rt: &HostRuntime) -> Result<Vec<u8>, Fail> {
+    let header =
+        b"F018878CCB7D49439800A02F059ACA0201560000000000000000000000000000080001000113000100000000\
+        01010000014100000200341201000A000100020000000200000056000000F100000001027632FE656275";
+    let mut bytes = hex::decode(rt.alloc(), header)?;
+    for byte in 0..241 {
+        bytes.push(byte)?;
+    }
+    Ok(bytes)
+}
+
+/// What an update over links in memory writes, its fault, and how many turns were seen.
+fn updated(
+    rt: &HostRuntime,
+    config: &[u8],
+    closed: u8,
+    broken: usize,
+) -> Result<(Vec<u8>, usize), Fail> {
+    let package = package(rt)?;
+    let files: [(&str, &[u8]); 2] = [("c", config), ("p", &package)];
+    let mut wires = MemWires {
+        alloc: rt.alloc(),
+        opened: 0,
+        closed,
+    };
+    let mut watch = Counter { turns: 0, broken };
+    let mut written = Vec::new(rt.alloc());
+    let end = update_files(
+        rt.alloc(),
+        &MemFiles { files: &files },
+        "c",
+        &mut wires,
+        &mut watch,
+        &mut written,
+    );
+    Ok((outcome(rt, end, written)?, watch.turns))
+}
+
+#[test]
+fn an_update_is_reported_turn_by_turn(rt: HostRuntime) -> Result<(), Fail> {
+    let whole = b"agent 8 00000000-0000-0000-0000-000000000000\n\
+        device 9 00000000-0000-0000-0000-000000000000\n\
+        descriptor 0000 3412\n\
+        component 10 1 0 1 1.0 AA\n\
+        package p\n";
+    let report = b"now 12\nagent 8 up\ndevice 9 up ACTIVATE session Done sent 27\n\
+        active 9 10 1 241 000102030405060708090A0B0C0D0E0F..\nlog 3 last -\n\
+        applied 9 10 1 241\nrecorded 9 1 1\nactivated 9 10 1 241\n"
+        .as_slice();
+    let table: [(&[u8], u8, usize, &[u8], &[u8], usize); 4] = [
+        (whole, 0, 0, report, b"", 12),
+        (whole, 9, 0, b"", b"socket: 9", 0),
+        (CONFIG, 0, 0, b"", b"package: none", 0),
+        (whole, 0, 2, b"now 2\n", b"\ntrace", 2),
+    ];
+    for (config, closed, broken, begins, ends, turns) in table {
+        let (text, seen) = updated(&rt, config, closed, broken)?;
+        assert!(rt; text.starts_with(begins), "{turns} {}", text.escape_ascii());
+        assert!(rt; text.ends_with(ends));
+        assert_eq!(rt; seen, turns);
+    }
+    Ok(())
+}
