@@ -1,5 +1,5 @@
 mod Digits
 mod Making
-mod Setups
+mod Packed
 mod Streams
 mod Uses
