@@ -38,8 +38,8 @@ pub enum EdgeFault {
 
 /// How many packets were sent in each pair.
 fn all_sent<B: Bank + Drop>(world: &World<'_, B>) -> ArrayVec<usize, 16>
-    requires { length world.now.sites ≤ 16 }
-    ensures { result.items ≡ packet_counts world.now.sites }
+    ensures all { result.items ≡ packet_counts world.now.sites }
+    ensures few { length world.now.sites ≤ 16 }
 {
     let mut sent = ArrayVec::new();
     for place in 0..world.device_count() {
@@ -148,8 +148,7 @@ pub fn drive<B: Bank + Drop, L: Link>(
     turns: u32,
     steps: &mut Vec<Step>,
 ) -> Result<Driven, EdgeFault>
-    requires few { length links.old ≤ 16 }
-    requires devices { length links.old ≡ length world.old.sites }
+    requires { length links.old ≡ length world.old.sites }
     ensures drives { DrivesLiving world.old steps.old.items world.new steps.new.items }
     ensures ticks { IfOk result (λ d. ticks_in steps.new.items ≡ ticks_in steps.old.items + d.turns) }
     ensures within { IfOk result (λ d. d.turns ≤ turns) }

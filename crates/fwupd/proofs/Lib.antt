@@ -1,5 +1,6 @@
 mod Digits
 mod Making
 mod Packed
+mod Started
 mod Streams
 mod Uses

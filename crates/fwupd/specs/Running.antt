@@ -16,6 +16,10 @@ use Rattle.fwupd.specs.declared.faults.RunFault.TheVariants as faults
 abbrev pub starts_of : List SiteOf → List Step
 starts_of sites = map (λ x. steps.Start x.node.endpoint.eid 1) sites
 
+-- Each update is started.
+abbrev pub Starts : WorldOf → WorldOf → Type 0
+Starts w v = Run w (starts_of w.sites) v
+
 -- Each update is started, and then what comes over links is done for so many ticks.
 pub record Updates (w v : WorldOf) (ticks : ℕ) : Type 0 where
   pub steps : List Step

@@ -1,7 +1,6 @@
 //! Updating devices over links.
 
-ghost use Rattle.std.specs.Prelude.{◌≡◌, ◌≤◌, IfErr, OnOk, length};
-ghost use Rattle.fw_edge.specs.Ledgers.{OneFailed};
+ghost use Rattle.std.specs.Prelude.{◌≡◌, OnOk, length};
 ghost use Rattle.fwupd.specs.Running.{IsReached, IsUpdated, Starts};
 
 use crate::faults::{RunFault, edge_fault};
@@ -52,7 +51,7 @@ fn start_all(world: &mut World<'_, MemBank>) -> Result<(), RunFault>
 {
     for place in 0..world.device_count() {
         let Some(node) = world.device_at(place) else {
-            return Ok(());
+            return Err(RunFault::Memory);
         };
         let start = Step::Start(node.eid(), 1);
         match world.step(&start) {
@@ -75,7 +74,7 @@ pub fn update_all<L: Link, V: Watch>(
     links: &mut [L],
     watch: &mut V,
 ) -> Result<(), RunFault>
-    requires few { length links.old ≤ 16 }
+    requires { length links.old ≡ length world.old.sites }
     ensures updated { OnOk result (IsUpdated world.old world.new) }
     ensures reached { IsReached world.old world.new }
 {

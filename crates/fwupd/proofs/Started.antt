@@ -1,0 +1,78 @@
+-- Updates that are started one by one, and the steps that follow.
+use Rattle.std.proofs.Common.{◌≡◌, ◌≤◌, ◌<◌, ◌+◌, ◌++◌, ◌∙◌, ℕ, zero, suc, List, [], ◌∷◌, Some, None, append_assoc, append-nil, arith, length, map, refl, sym, ap, subst, take}
+use Rattle.std.specs.Prelude.{slice_get}
+use Rattle.std.proofs.Math.Seq.{take-length}
+use Rattle.std.proofs.lemmas.List.{map-append}
+use Rattle.std.proofs.lemmas.List.Sums.{sum_by-append}
+use Rattle.fw_edge.specs.Drives.{Drives, DrivesLiving, tick_in, ticks_in}
+use Rattle.fw_world.specs.Replays.{Leads, Run}
+use Rattle.fw_world.specs.Worlds.{SiteOf, WorldOf}
+use Rattle.fw_world.specs.declared.step.Step.{Step}
+use Rattle.fw_world.specs.declared.step.Step.TheVariants as steps
+use Rattle.fwupd.specs.Running.{IsReached, Updates, starts_of}
+
+-- a run followed by a run is a run
+run_append : (w v u : WorldOf) (ss ts : List Step) → Run w ss v → Run v ts u → Run w (ss ++ ts) u
+run_append w v u [] ts e k = subst (λ x. Run x ts u) e k
+run_append w v u (s ∷ ss) ts h k = (h.0, h.1, run_append h.0 v u ss ts h.2 k)
+
+take_next : {A : Type 0} (xs : List A) (i : ℕ) (x : A) → slice_get xs i ≡ Some x → take (suc i) xs ≡ take i xs ++ x ∷ []
+take_next [] i x e = absurd cc
+take_next (y ∷ ys) zero x e = ap (λ z. z ∷ []) (let same : Some y ≡ Some x = e in cc)
+take_next (y ∷ ys) (suc i) x e = ap (λ zs. y ∷ zs) (take_next ys i x e)
+
+-- The updates of so many devices are started. A start changes no device.
+pub record Begun (w : WorldOf) (place : ℕ) (v : WorldOf) : Type 0 where
+  pub run : Run w (starts_of (take place w.sites)) v
+  pub same : v.sites ≡ w.sites
+
+pub begun_none : (w : WorldOf) → Begun w 0 w
+begun_none w = record { run = refl; same = refl }
+
+start_of : SiteOf → Step
+start_of x = steps.Start x.node.endpoint.eid 1
+
+starts_next : (xs : List SiteOf) (place : ℕ) (x : SiteOf) → slice_get xs place ≡ Some x → starts_of (take (suc place) xs) ≡ starts_of (take place xs) ++ start_of x ∷ []
+starts_next xs place x e = ap starts_of (take_next xs place x e) ∙ map-append start_of (take place xs) (x ∷ [])
+
+pub begun_more : (w v u : WorldOf) (place : ℕ) (x : SiteOf) → Begun w place v → slice_get v.sites place ≡ Some x → Leads v (steps.Start x.node.endpoint.eid 1) u → Begun w (place + 1) u
+begun_more w v u place x h e l = record {
+  run =
+      subst (λ ss. Run w ss u) (sym (starts_next w.sites place x (ap (λ xs. slice_get xs place) (sym h.same) ∙ e)) ∙ ap (λ n. starts_of (take n w.sites)) (omega arith))
+      (run_append w v u (starts_of (take place w.sites)) (start_of x ∷ []) h.run (u, l, refl));
+  same = ap (λ y. y.sites) l.after ∙ h.same;
+}
+
+pub begun_all : (w v : WorldOf) (place : ℕ) → Begun w place v → place ≡ length v.sites → Run w (starts_of w.sites) v
+begun_all w v place h e =
+    subst (λ xs. Run w (starts_of xs) v) (ap (λ n. take n w.sites) (e ∙ ap length h.same) ∙ take-length w.sites) h.run
+
+pub begun_reached : (w v : WorldOf) (place : ℕ) → Begun w place v → IsReached w v
+begun_reached w v place h = record { steps = starts_of (take place w.sites); run = h.run }
+
+-- no tick has passed
+pub updates_none : (w v : WorldOf) → Run w (starts_of w.sites) v → Updates w v 0
+updates_none w v h = record { steps = []; run = subst (λ ss. Run w ss v) (sym (append-nil (starts_of w.sites))) h; ticks_are = refl }
+
+-- steps are taken over links, with so many ticks
+pub updates_more : (w v u : WorldOf) (ticks more total : ℕ) (after : List Step) → Updates w v ticks → Drives v [] u after → ticks_in after ≡ more → total ≡ ticks + more → Updates w u total
+updates_more w v u ticks more total after h k counts is = record {
+  steps = h.steps ++ k.steps;
+  run =
+      subst (λ ss. Run w ss u) (append_assoc (starts_of w.sites) h.steps k.steps)
+      (run_append w v u (starts_of w.sites ++ h.steps) k.steps h.run k.run);
+  ticks_are =
+      let a : ticks_in h.steps ≡ ticks = h.ticks_are in
+      let b : ticks_in k.steps ≡ more = ap ticks_in (sym k.appended) ∙ counts in
+      sum_by-append tick_in h.steps k.steps ∙ omega arith;
+}
+
+-- whatever was done, steps led there
+pub updates_reached : (w v : WorldOf) (ticks : ℕ) → Updates w v ticks → IsReached w v
+updates_reached w v ticks h = record { steps = starts_of w.sites ++ h.steps; run = h.run }
+
+pub updates_off : (w v u : WorldOf) (ticks : ℕ) (after : List Step) → Updates w v ticks → Drives v [] u after → IsReached w u
+updates_off w v u ticks after h k = record {
+  steps = (starts_of w.sites ++ h.steps) ++ k.steps;
+  run = run_append w v u (starts_of w.sites ++ h.steps) k.steps h.run k.run;
+}

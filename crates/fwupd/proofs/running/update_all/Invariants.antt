@@ -1,0 +1,11 @@
+use Rattle.std.proofs.Common.{◌≡◌, [], length}
+use Rattle.fwupd.specs.Running.{Updates}
+use Rattle.fwupd.proofs.running.update_all.Given as goal
+
+-- so many ticks have passed
+abbrev pub invariant-loop : goal.invariant-loop
+invariant-loop g l = record {
+  updates : Updates l.fn.world l.world l.counter;
+  devices : length l.links ≡ length l.world.sites;
+  none : l.steps.items ≡ [];
+}
