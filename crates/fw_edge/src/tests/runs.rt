@@ -8,13 +8,19 @@ use crate::tests::setup::{DEVICE, KEY, Small, three, world};
 use crate::{Driven, EdgeFault, Link, MemLink, drive};
 use fd_core::{Bank, State};
 use fw_package::Package;
-use fw_world::{Event, Step, replay};
+use fw_world::{Event, Step, World, replay};
 use std::alloc::{AllocError, Global};
 use std::test::Fail;
 use ua_core::{Cause, SessionState};
 
 /// Whether a device and its session stand so, and so many packets were sent between it and the agent.
-fn stands(world: &Small<'_>, device: u8, session: SessionState, state: State, sent: usize) -> bool {
+pub fn stands<B: Bank + Drop>(
+    world: &World<'_, B>,
+    device: u8,
+    session: SessionState,
+    state: State,
+    sent: usize,
+) -> bool {
     match (
         world.agent().session(device),
         world.device(device),
@@ -28,7 +34,7 @@ fn stands(world: &Small<'_>, device: u8, session: SessionState, state: State, se
 }
 
 /// Whether a device runs these bytes.
-fn runs(world: &Small<'_>, device: u8, bytes: &[u8]) -> bool {
+pub fn runs<B: Bank + Drop>(world: &World<'_, B>, device: u8, bytes: &[u8]) -> bool {
     match world.device(device) {
         Some(node) => match node.device().bank().active(KEY) {
             Some((_, image)) => image == bytes,

@@ -31,7 +31,7 @@ pub const KEY: Key = Key {
 pub type Small<'a> = World<'a, MemBank>;
 
 /// An endpoint without a UUID.
-fn endpoint(eid: u8) -> Endpoint
+pub fn endpoint(eid: u8) -> Endpoint
     ensures { result.eid ≡ eid }
 {
     Endpoint {
@@ -41,7 +41,7 @@ fn endpoint(eid: u8) -> Endpoint
 }
 
 /// The worked device's descriptors: type 0, data 34 12.
-fn descriptors() -> DescriptorList {
+pub fn descriptors() -> DescriptorList {
     let mut descriptors = DescriptorList::new();
     descriptors.push(&Descriptor {
         kind: 0,
@@ -51,7 +51,7 @@ fn descriptors() -> DescriptorList {
 }
 
 /// Stamp 1, `1.0`.
-fn label() -> Label {
+pub fn label() -> Label {
     Label::new(&Version {
         stamp: 1,
         text: Text {
