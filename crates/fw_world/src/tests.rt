@@ -3,6 +3,7 @@
 mod dice;
 mod headers;
 mod isolation;
+mod memory;
 mod packages;
 mod random;
 mod rows;

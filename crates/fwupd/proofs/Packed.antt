@@ -4,7 +4,7 @@ use Rattle.std.specs.Prelude.{string_bytes}
 use Rattle.std.specs.List.{AllByRecursion}
 use Rattle.fw_package.specs.Package.{PackageText}
 use Rattle.fw_package.specs.Reading.{package_of}
-use Rattle.fw_package.specs.declared.faults.PackageFault.{PackageFault}
+use Rattle.fw_package.specs.declared.fault.PackageFault.{PackageFault}
 use Rattle.fw_script.specs.Faults.{ReadsAs}
 use Rattle.fw_script.specs.declared.faults.ScriptCause.TheVariants as causes
 use Rattle.fw_script.specs.declared.faults.ScriptFault.{ScriptFault}

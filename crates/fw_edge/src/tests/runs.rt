@@ -1,7 +1,5 @@
 //! Runs over links.
 
-ghost use Rattle.std.specs.Prelude.{◌≤◌, length};
-
 use crate::tests::links::{BadLink, Trouble};
 use crate::tests::packages::{ONE, file, image, package};
 use crate::tests::setup::{DEVICE, KEY, Small, three, world};
@@ -69,9 +67,7 @@ fn updates<L: Link>(
     turns: u32,
     foreign: u64,
     sent: usize,
-) -> Result<bool, Fail>
-    requires { length links.old ≤ 16 }
-{
+) -> Result<bool, Fail> {
     let bytes = file(alloc, ONE)?;
     let packages = [package(&bytes)?];
     let mut world = started(alloc, &packages)?;
@@ -187,6 +183,48 @@ fn a_link_that_fails_ends_the_run_at_a_replay_of_its_steps(rt: HostRuntime) -> R
         }
     }
     assert!(rt; false, "no run without a fault");
+    Ok(())
+}
+
+/// Whether the worked world is driven over a link in memory until its update is done, or has failed since its device's bank had no
+/// memory; a run that ends early hands back the steps that it took.
+fn drives<'a>(alloc: Global, packages: &'a [Package<'a>]) -> Result<bool, AllocError> {
+    let mut world = started(alloc, packages)?;
+    let mut steps = Vec::new(alloc);
+    let mut links = [MemLink::new(alloc)];
+    if world.device_count() != 1 {
+        return Ok(false);
+    }
+    let driven = drive(&mut world, &mut links, 100, &mut steps);
+    if stands(
+        &world,
+        DEVICE,
+        SessionState::Failed(Cause::Answer),
+        State::Ready,
+        12,
+    ) {
+        return Ok(true);
+    }
+    let ends = match driven {
+        Ok(driven) => driven.turns == 12,
+        Err(fault) => fault != EdgeFault::Step,
+    };
+    Ok(ends && is_replay(alloc, packages, &world, &steps)?)
+}
+
+/// Holds whichever single allocation is refused.
+#[test]
+fn refused_memory_hands_back_the_steps_taken(rt: HostRuntime) -> Result<(), Fail> {
+    let bytes = match file(rt.alloc(), ONE) {
+        Ok(bytes) => bytes,
+        Err(_) => file(rt.alloc(), ONE)?,
+    };
+    let packages = [package(&bytes)?];
+    let held = match drives(rt.alloc(), &packages) {
+        Ok(held) => held,
+        Err(_) => drives(rt.alloc(), &packages)?,
+    };
+    assert!(rt; held);
     Ok(())
 }
 
