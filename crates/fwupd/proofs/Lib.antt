@@ -1,3 +1,4 @@
+mod Devices
 mod Digits
 mod Making
 mod Streams

@@ -16,7 +16,7 @@ mod stream;
 mod tests;
 mod text;
 
-ghost use Rattle.std.specs.Prelude.{IfOk, map};
+ghost use Rattle.std.specs.Prelude.{◌≡◌, ◌≤◌, IfOk, length, map};
 ghost use Rattle.fw_script.specs.Seen.{device_of};
 ghost use Rattle.fw_script.specs.Whole.{AreWhole};
 
@@ -191,12 +191,15 @@ fn replay(rt: &HostRuntime, config_path: &str, schedule_path: &str) -> ExitCode 
 }
 
 /// Makes a socket in a folder for each device of a world, and a link over it; the paths of those that are made are listed.
+#[tactic(auto, using(crate::proofs::Devices::stands_there))]
 fn socket_links<'a>(
     rt: &HostRuntime,
     world: &World<'_, MemBank>,
     folder: &str,
     paths: &mut Vec<String>,
-) -> Result<Vec<SocketLink>, RunFault<'a>> {
+) -> Result<Vec<SocketLink>, RunFault<'a>>
+    ensures { IfOk result (λ links. length links.items ≡ length world.now.sites) }
+{
     let alloc = rt.alloc();
     let mut links = Vec::new(alloc);
     for place in 0..world.device_count() {
@@ -227,10 +230,10 @@ fn updated<'a>(
     rt: &HostRuntime,
     world: &mut World<'_, MemBank>,
     links: &mut [SocketLink],
-) -> Result<(), RunFault<'a>> {
-    if links.len() > 16 {
-        return Ok(());
-    }
+) -> Result<(), RunFault<'a>>
+    requires few { length links.old ≤ 16 }
+    requires devices { length links.old ≡ length world.old.sites }
+{
     let end = update_all(rt.alloc(), world, links);
     if let Err(EdgeFault::Memory) = end {
         return Err(RunFault::Memory);
@@ -252,7 +255,9 @@ fn over_sockets<'a>(
     rt: &HostRuntime,
     world: &mut World<'_, MemBank>,
     folder: &str,
-) -> Result<(), RunFault<'a>> {
+) -> Result<(), RunFault<'a>>
+    requires { length world.old.sites ≤ 16 }
+{
     let mut paths = Vec::new(rt.alloc());
     let end = match socket_links(rt, world, folder, &mut paths) {
         Ok(mut links) => updated(rt, world, links.as_mut_slice()),
@@ -263,6 +268,7 @@ fn over_sockets<'a>(
 }
 
 /// Updates the devices of a configuration with its first package, over Unix sockets in a folder.
+#[tactic(auto, using(crate::proofs::Devices::few_devices))]
 fn update(rt: &HostRuntime, config_path: &str, folder: &str) -> ExitCode {
     let Config {
         agent,

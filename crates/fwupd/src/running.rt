@@ -1,6 +1,6 @@
 //! Updating devices over links.
 
-ghost use Rattle.std.specs.Prelude.{◌≤◌, length};
+ghost use Rattle.std.specs.Prelude.{◌≡◌, ◌≤◌, OnOk, length};
 
 use fd_core::MemBank;
 use fw_edge::{EdgeFault, Link, drive};
@@ -11,7 +11,10 @@ use std::alloc::Global;
 const TURNS: u32 = 80_000;
 
 /// Starts the update of each device with package 1.
-fn start_all(world: &mut World<'_, MemBank>) -> Result<(), StepFault> {
+#[tactic(auto, using(crate::proofs::Devices::start_keeps))]
+fn start_all(world: &mut World<'_, MemBank>) -> Result<(), StepFault>
+    ensures { OnOk result (length world.new.sites ≡ length world.old.sites) }
+{
     for place in 0..world.device_count() {
         let Some(node) = world.device_at(place) else {
             return Ok(());
@@ -31,7 +34,8 @@ pub fn update_all<L: Link>(
     world: &mut World<'_, MemBank>,
     links: &mut [L],
 ) -> Result<(), EdgeFault>
-    requires { length links.old ≤ 16 }
+    requires few { length links.old ≤ 16 }
+    requires devices { length links.old ≡ length world.old.sites }
 {
     let Ok(()) = start_all(world) else {
         return Err(EdgeFault::Memory);
