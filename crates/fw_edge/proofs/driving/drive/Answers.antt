@@ -9,5 +9,5 @@ returns-clause-drives g c =
 
 pub returns-clause-devices : goal.returns-clause-devices
 returns-clause-devices g c =
-    c.take_turns.ensures.links ∙ c.requires.devices
+    c.take_turns.ensures.links ∙ c.requires
     ∙ sym (as_many_sites c.args.world.now c.args.steps.now.items c.take_turns.new.world c.take_turns.new.steps.items c.take_turns.ensures.drives)
