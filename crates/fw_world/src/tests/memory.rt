@@ -5,6 +5,8 @@ use crate::tests::schedules::perfect;
 use crate::tests::setup::{DEVICE, Small, world};
 use crate::{Step, StepFault};
 use fd_core::Bank;
+use fw_package::Package;
+use std::alloc::{AllocError, Global};
 use std::test::Fail;
 use ua_core::{Cause, SessionState};
 
@@ -43,6 +45,14 @@ fn outcome(world: &Small<'_>) -> Option<(u64, SessionState)> {
     Some((node.device().bank().failures(), session.state()))
 }
 
+/// The worked world, asked for once more where memory for it is refused.
+fn asked_twice<'a>(alloc: Global, packages: &'a [Package<'a>]) -> Result<Small<'a>, AllocError> {
+    match world(alloc, packages) {
+        Ok(made) => Ok(made),
+        Err(_) => world(alloc, packages),
+    }
+}
+
 /// Holds whichever single allocation is refused.
 #[test]
 fn refused_memory_takes_no_step(rt: HostRuntime) -> Result<(), Fail> {
@@ -51,10 +61,7 @@ fn refused_memory_takes_no_step(rt: HostRuntime) -> Result<(), Fail> {
         Err(_) => file(rt.alloc(), ONE)?,
     };
     let packages = [package(&bytes)?];
-    let mut made = match world(rt.alloc(), &packages) {
-        Ok(made) => made,
-        Err(_) => world(rt.alloc(), &packages)?,
-    };
+    let mut made = asked_twice(rt.alloc(), &packages)?;
     assert!(rt; takes(&mut made, &perfect()));
     match outcome(&made) {
         Some((0, state)) => {
