@@ -1,14 +1,21 @@
 -- Files that are read one after the other.
-use Rattle.std.proofs.Common.{◌≡◌, ◌≢◌, ◌<◌, ◌++◌, ◌∙◌, ℕ, zero, suc, List, [], ◌∷◌, Option, Result, Ok, Err, IsOk, inl, inr, length, map, take, refl, sym, ap, subst, arith}
-use Rattle.std.specs.Prelude.{string_bytes}
+use Rattle.std.proofs.Common.{◌≡◌, ◌≢◌, ◌<◌, ◌+◌, ◌++◌, ◌⊎◌, ◌∙◌, ℕ, zero, suc, List, [], ◌∷◌, Option, false, true, Result, Ok, Err, IsOk, inl, inr, length, map, take, get_or, Vec, String, Global, refl, sym, ap, subst, arith}
+use Rattle.std.specs.Prelude.{drop, string_bytes}
+use Rattle.std.proofs.Math.Seq.{split_at, take-suc}
+use Rattle.std.proofs.lemmas.List.{map-append}
 use Rattle.std.specs.List.{AllByRecursion}
 use Rattle.fw_package.specs.Package.{PackageText}
 use Rattle.fw_package.specs.Reading.{package_of}
 use Rattle.fw_package.specs.declared.fault.PackageFault.{PackageFault}
+use Rattle.mctp_ctl.specs.declared.answers.Endpoint.{Endpoint}
+use Rattle.fw_script.specs.Configs.{ConfigOf, DeviceConfigOf, config_of}
 use Rattle.fw_script.specs.Faults.{ReadsAs}
 use Rattle.fw_script.specs.declared.faults.ScriptCause.TheVariants as causes
 use Rattle.fw_script.specs.declared.faults.ScriptFault.{ScriptFault}
-use Rattle.fwupd.specs.Setups.{ArePackages, ArePacked, IsFaulty, IsPackageFile, IsPacked, IsUnsaid, MayHold, PackageFails, PackagesFail, TextFault}
+use Rattle.fw_world.specs.Replays.{new_world}
+use Rattle.fw_world.specs.Worlds.{WorldOf}
+use Rattle.fwupd.specs.Nodes.{nodes_made}
+use Rattle.fwupd.specs.Setups.{ArePackages, ArePacked, IsFaulty, IsPackageFile, IsPacked, IsSetup, IsUnsaid, MayHold, PackageFails, PackagesFail, Says, TextFault}
 use Rattle.fwupd.specs.declared.faults.RunFault.{RunFault}
 use Rattle.fwupd.specs.declared.faults.RunFault.TheVariants as faults
 
@@ -19,7 +26,7 @@ unsaid_so read path text file fault (faults.Answer f) h held is = absurd h
 unsaid_so read path text file fault (faults.Unreadable name) h held is = absurd h
 unsaid_so read path text file fault (faults.Package f) h held is = absurd h
 unsaid_so read path text file fault (faults.Text name told) h held is =
-    (h.0, record { text = text; held = held; is = is h.2.1 ∙ ap Err (sym h.2.0) })
+    (h.0, record { text = text; held = held; is = is h.2 ∙ ap Err (sym h.1) })
 unsaid_so read path text file fault (faults.Step n f) h held is = absurd h
 unsaid_so read path text file fault faults.NoPackage h held is = absurd h
 unsaid_so read path text file fault (faults.Socket device) h held is = absurd h
@@ -65,7 +72,7 @@ packages_so files (path ∷ paths) (c ∷ cs) (p ∷ ps) h e = (
 -- there are such packages
 a_package : (r : Result PackageText PackageFault) → IsOk r → (p : PackageText) × (r ≡ Ok p)
 a_package (Ok p) h = (p, refl)
-a_package (Err fault) h = absurd h
+a_package (Err fault) h = absurd (let e : false ≡ true = h in cc)
 
 pub packages_there : (files : List ℕ → Option (List ℕ)) (paths contents : List (List ℕ)) → ArePacked files paths contents → (ps : List PackageText) × ArePackages files paths ps
 packages_there files [] [] h = ([], tt)
@@ -82,3 +89,39 @@ pub fails_there : (files : List ℕ → Option (List ℕ)) (paths before after c
 fails_there files paths before after contents path told e h fails =
     let there = packages_there files before contents h in
     record { before = before; path = path; after = after; packages = there.0; is = e; read = there.1; fails = fails }
+
+-- where the paths are texts
+pub packed_next : (files : List ℕ → Option (List ℕ)) (paths : List (String Global)) (i : ℕ) (p : String Global) (name : List ℕ) (contents after : List (Vec ℕ Global)) (more : Vec ℕ Global)
+    → i < length paths → p ≡ get_or paths i p → name ≡ string_bytes p → after ≡ contents ++ more ∷ []
+    → ArePacked files (map (λ q. string_bytes q) (take i paths)) (map (λ f. f.items) contents) → IsPacked (files name) more.items
+    → ArePacked files (map (λ q. string_bytes q) (take (i + 1) paths)) (map (λ f. f.items) after)
+packed_next files paths i p name contents after more lt is called e h k =
+    let next : suc i ≡ i + 1 = omega arith in
+    let taken : take (i + 1) paths ≡ take i paths ++ p ∷ [] = ap (λ n. take n paths) (sym next) ∙ take-suc paths i p lt ∙ ap (λ q. take i paths ++ q ∷ []) (sym is) in
+    subst (λ qs. ArePacked files (map (λ q. string_bytes q) qs) (map (λ f. f.items) after)) (sym taken)
+    (subst (λ fs. ArePacked files (map (λ q. string_bytes q) (take i paths ++ p ∷ [])) (map (λ f. f.items) fs)) (sym e)
+    (subst (λ ns. ArePacked files ns (map (λ f. f.items) (contents ++ more ∷ []))) (sym (map-append (λ q. string_bytes q) (take i paths) (p ∷ [])))
+    (subst (λ fs. ArePacked files (map (λ q. string_bytes q) (take i paths) ++ string_bytes p ∷ []) fs) (sym (map-append (λ f. f.items) contents (more ∷ [])))
+    (packed_more files (map (λ q. string_bytes q) (take i paths)) (map (λ f. f.items) contents) (string_bytes p) more.items h (subst (λ n. IsPacked (files n) more.items) called k)))))
+
+pub fails_at : (files : List ℕ → Option (List ℕ)) (paths : List (String Global)) (i : ℕ) (p : String Global) (name : List ℕ) (contents : List (List ℕ)) (told : RunFault)
+    → i < length paths → p ≡ get_or paths i p → name ≡ string_bytes p → ArePacked files (map (λ q. string_bytes q) (take i paths)) contents
+    → (told ≡ faults.Memory) ⊎ PackageFails files name told → (told ≡ faults.Memory) ⊎ PackagesFail files (map (λ q. string_bytes q) paths) told
+fails_at files paths i p name contents told lt is called h (inl e) = inl e
+fails_at files paths i p name contents told lt is called h (inr f) =
+    let split : paths ≡ take i paths ++ p ∷ drop (suc i) paths = split_at paths i p lt ∙ ap (λ q. take i paths ++ q ∷ drop (suc i) paths) (sym is) in
+    inr (fails_there files (map (λ q. string_bytes q) paths) (map (λ q. string_bytes q) (take i paths)) (map (λ q. string_bytes q) (drop (suc i) paths)) contents (string_bytes p) told
+    (ap (map (λ q. string_bytes q)) split ∙ map-append (λ q. string_bytes q) (take i paths) (p ∷ drop (suc i) paths)) h
+    (subst (λ n. PackageFails files n told) called f))
+
+-- a configuration's file with its packages is a world
+pub set_up : (files : List ℕ → Option (List ℕ)) (path : List ℕ) (said : ConfigOf) (agent : Endpoint) (devices : List DeviceConfigOf) (paths contents : List (List ℕ)) (ps : List PackageText) (w : WorldOf)
+    → Says config_of (files path) said → agent ≡ said.agent → devices ≡ said.devices → paths ≡ said.packages → ArePacked files paths contents
+    → map (λ p. Ok p) ps ≡ map package_of contents → w ≡ new_world agent (nodes_made agent.eid devices) ps → IsSetup files path w
+set_up files path said agent devices paths contents ps w says a d p packed e is = record {
+  config = said;
+  packages = ps;
+  says = says;
+  are = subst (λ ns. ArePackages files ns ps) p (packages_so files paths contents ps packed e);
+  world = is ∙ ap (λ x. new_world x (nodes_made x.eid devices) ps) a ∙ ap (λ ds. new_world said.agent (nodes_made said.agent.eid ds) ps) d;
+}

@@ -1,10 +1,11 @@
 -- Updates that are started one by one, and the steps that follow.
 use Rattle.std.proofs.Common.{◌≡◌, ◌≤◌, ◌<◌, ◌+◌, ◌++◌, ◌∙◌, ℕ, zero, suc, List, [], ◌∷◌, Some, None, append_assoc, append-nil, arith, length, map, refl, sym, ap, subst, take}
-use Rattle.std.specs.Prelude.{slice_get}
+use Rattle.std.specs.Prelude.{Option, option_map, slice_get}
 use Rattle.std.proofs.Math.Seq.{take-length}
 use Rattle.std.proofs.lemmas.List.{map-append}
 use Rattle.std.proofs.lemmas.List.Sums.{sum_by-append}
 use Rattle.fw_edge.specs.Drives.{Drives, DrivesLiving, tick_in, ticks_in}
+use Rattle.fw_node.specs.Nodes.{DeviceNodeOf}
 use Rattle.fw_world.specs.Replays.{Leads, Run}
 use Rattle.fw_world.specs.Worlds.{SiteOf, WorldOf}
 use Rattle.fw_world.specs.declared.step.Step.{Step}
@@ -29,7 +30,7 @@ pub record Begun (w : WorldOf) (place : ℕ) (v : WorldOf) : Type 0 where
 pub begun_none : (w : WorldOf) → Begun w 0 w
 begun_none w = record { run = refl; same = refl }
 
-start_of : SiteOf → Step
+abbrev start_of : SiteOf → Step
 start_of x = steps.Start x.node.endpoint.eid 1
 
 starts_next : (xs : List SiteOf) (place : ℕ) (x : SiteOf) → slice_get xs place ≡ Some x → starts_of (take (suc place) xs) ≡ starts_of (take place xs) ++ start_of x ∷ []
@@ -38,10 +39,23 @@ starts_next xs place x e = ap starts_of (take_next xs place x e) ∙ map-append 
 pub begun_more : (w v u : WorldOf) (place : ℕ) (x : SiteOf) → Begun w place v → slice_get v.sites place ≡ Some x → Leads v (steps.Start x.node.endpoint.eid 1) u → Begun w (place + 1) u
 begun_more w v u place x h e l = record {
   run =
-      subst (λ ss. Run w ss u) (sym (starts_next w.sites place x (ap (λ xs. slice_get xs place) (sym h.same) ∙ e)) ∙ ap (λ n. starts_of (take n w.sites)) (omega arith))
+      let next : suc place ≡ place + 1 = omega arith in
+      subst (λ ss. Run w ss u) (sym (starts_next w.sites place x (ap (λ xs. slice_get xs place) (sym h.same) ∙ e)) ∙ ap (λ n. starts_of (take n w.sites)) next)
       (run_append w v u (starts_of (take place w.sites)) (start_of x ∷ []) h.run (u, l, refl));
   same = ap (λ y. y.sites) l.after ∙ h.same;
 }
+
+-- the device that stands at a place
+node_there : (o : Option SiteOf) (n : DeviceNodeOf) → option_map (λ x. x.node) o ≡ Some n → (x : SiteOf) × (o ≡ Some x) × (x.node ≡ n)
+node_there None n e = absurd cc
+node_there (Some x) n e = (x, refl, (let same : Some x.node ≡ Some n = e in cc))
+
+pub begun_by : (w v u : WorldOf) (place device : ℕ) (n : DeviceNodeOf) → Begun w place v → option_map (λ x. x.node) (slice_get v.sites place) ≡ Some n → device ≡ n.endpoint.eid
+    → Leads v (steps.Start device 1) u → Begun w (place + 1) u
+begun_by w v u place device n h at is l =
+    let there = node_there (slice_get v.sites place) n at in
+    let own : device ≡ there.0.node.endpoint.eid = is ∙ ap (λ m. m.endpoint.eid) (sym there.2) in
+    begun_more w v u place there.0 h there.1 (subst (λ d. Leads v (steps.Start d 1) u) own l)
 
 pub begun_all : (w v : WorldOf) (place : ℕ) → Begun w place v → place ≡ length v.sites → Run w (starts_of w.sites) v
 begun_all w v place h e =
@@ -55,15 +69,17 @@ pub updates_none : (w v : WorldOf) → Run w (starts_of w.sites) v → Updates w
 updates_none w v h = record { steps = []; run = subst (λ ss. Run w ss v) (sym (append-nil (starts_of w.sites))) h; ticks_are = refl }
 
 -- steps are taken over links, with so many ticks
-pub updates_more : (w v u : WorldOf) (ticks more total : ℕ) (after : List Step) → Updates w v ticks → Drives v [] u after → ticks_in after ≡ more → total ≡ ticks + more → Updates w u total
-updates_more w v u ticks more total after h k counts is = record {
+pub updates_more : (w v u : WorldOf) (ticks more : ℕ) (before after : List Step) → Updates w v ticks → before ≡ [] → Drives v before u after → ticks_in after ≡ ticks_in before + more → Updates w u (ticks + more)
+updates_more w v u ticks more before after h none k counts = record {
   steps = h.steps ++ k.steps;
   run =
       subst (λ ss. Run w ss u) (append_assoc (starts_of w.sites) h.steps k.steps)
       (run_append w v u (starts_of w.sites ++ h.steps) k.steps h.run k.run);
   ticks_are =
       let a : ticks_in h.steps ≡ ticks = h.ticks_are in
-      let b : ticks_in k.steps ≡ more = ap ticks_in (sym k.appended) ∙ counts in
+      let all : after ≡ k.steps = k.appended ∙ ap (λ ss. ss ++ k.steps) none in
+      let none_before : ticks_in before ≡ 0 = ap ticks_in none in
+      let b : ticks_in k.steps ≡ more = ap ticks_in (sym all) ∙ counts ∙ omega arith in
       sum_by-append tick_in h.steps k.steps ∙ omega arith;
 }
 
@@ -71,8 +87,8 @@ updates_more w v u ticks more total after h k counts is = record {
 pub updates_reached : (w v : WorldOf) (ticks : ℕ) → Updates w v ticks → IsReached w v
 updates_reached w v ticks h = record { steps = starts_of w.sites ++ h.steps; run = h.run }
 
-pub updates_off : (w v u : WorldOf) (ticks : ℕ) (after : List Step) → Updates w v ticks → Drives v [] u after → IsReached w u
-updates_off w v u ticks after h k = record {
+pub updates_off : (w v u : WorldOf) (ticks : ℕ) (before after : List Step) → Updates w v ticks → Drives v before u after → IsReached w u
+updates_off w v u ticks before after h k = record {
   steps = (starts_of w.sites ++ h.steps) ++ k.steps;
   run = run_append w v u (starts_of w.sites ++ h.steps) k.steps h.run k.run;
 }

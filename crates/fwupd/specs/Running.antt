@@ -40,14 +40,25 @@ pub record IsReached (w v : WorldOf) : Type 0 where
 -- no link is opened
 abbrev pub IsUnlinked : RunFault → Type 0
 IsUnlinked (faults.Socket device) = Unit {0}
-IsUnlinked faults.Memory = Unit {0}
 IsUnlinked fault = ⊥
 
--- a run doesn't go on
+-- a run doesn't go on: what is told of the world that was reached
 abbrev pub IsBroken : RunFault → Type 0
 IsBroken (faults.Edge fault) = Unit {0}
 IsBroken faults.Trace = Unit {0}
 IsBroken fault = ⊥
+
+-- or memory was refused
+abbrev pub MayEnd : RunFault → Type 0
+MayEnd fault = (fault ≡ faults.Memory) ⊎ IsBroken fault
+
+-- Where the links of a world are driven and the run doesn't end well: the report of the world that was reached is written, or a
+-- beginning of it, or nothing.
+abbrev pub DrivingEnds : (reached : WorldOf) → RunFault → (before now : Option (List ℕ)) → Type 0
+DrivingEnds v told before now =
+    (IsBroken told × Appends before now (report_of v))
+    ⊎ (((told ≡ faults.Output) × Begins before now (report_of v))
+    ⊎ (((told ≡ faults.Memory) ⊎ IsUnlinked told) × (now ≡ before)))
 
 -- The report is written of what an update leaves of the world that a configuration's file is of.
 pub record ReportsUpdate (files : List ℕ → Option (List ℕ)) (config : List ℕ) (before now : Option (List ℕ)) : Type 0 where
@@ -78,7 +89,7 @@ pub record BreaksReport (files : List ℕ → Option (List ℕ)) (config : List 
 -- Nothing is.
 pub record ReportsNothing (files : List ℕ → Option (List ℕ)) (config : List ℕ) (told : RunFault) (before now : Option (List ℕ)) : Type 0 where
   pub kept : now ≡ before
-  pub cause : ((told ≡ faults.NoPackage) ⊎ IsUnlinked told) ⊎ SetupFails files config told
+  pub cause : (told ≡ faults.NoPackage) ⊎ (((told ≡ faults.Memory) ⊎ IsUnlinked told) ⊎ SetupFails files config told)
 
 -- How an update ends that doesn't end well.
 abbrev pub UpdateEnds : (files : List ℕ → Option (List ℕ)) (config : List ℕ) (told : RunFault) (before now : Option (List ℕ)) → Type 0

@@ -1,5 +1,7 @@
 //! Why a run ends with status 1.
 
+ghost use Rattle.fwupd.specs.Running.{MayEnd};
+
 use crate::inspection::InspectFault;
 use crate::stream::AnswerFault;
 use fw_edge::EdgeFault;
@@ -55,7 +57,9 @@ pub fn inspection_fault(fault: InspectFault) -> RunFault {
 }
 
 /// Why a run over links ended early.
-pub fn edge_fault(fault: EdgeFault) -> RunFault {
+pub fn edge_fault(fault: EdgeFault) -> RunFault
+    ensures { MayEnd result }
+{
     match fault {
         EdgeFault::Memory => RunFault::Memory,
         _ => RunFault::Edge(fault),

@@ -1,11 +1,11 @@
 //! Updating devices over links.
 
-ghost use Rattle.std.specs.Prelude.{◌≡◌, OnOk, length};
-ghost use Rattle.fwupd.specs.Running.{IsReached, IsUpdated, Starts};
+ghost use Rattle.std.specs.Prelude.{◌≡◌, IfErr, OnOk, length};
+ghost use Rattle.fwupd.specs.Running.{IsReached, IsUpdated, MayEnd, Starts};
 
 use crate::faults::{RunFault, edge_fault};
 use fd_core::MemBank;
-use fw_edge::{Link, drive};
+use fw_edge::{EdgeFault, Link, drive};
 use fw_world::{Step, StepFault, World};
 use std::alloc::Global;
 
@@ -37,7 +37,9 @@ pub trait Watch {
 }
 
 /// Why a run ends that is looked at no more.
-pub fn watch_fault(fault: WatchFault) -> RunFault {
+pub fn watch_fault(fault: WatchFault) -> RunFault
+    ensures { MayEnd result }
+{
     match fault {
         WatchFault::Unwritten => RunFault::Trace,
         WatchFault::Memory => RunFault::Memory,
@@ -47,7 +49,9 @@ pub fn watch_fault(fault: WatchFault) -> RunFault {
 /// Starts the update of each device with package 1.
 fn start_all(world: &mut World<'_, MemBank>) -> Result<(), RunFault>
     ensures started { OnOk result (Starts world.old world.new) }
+    ensures same { OnOk result (world.new.sites ≡ world.old.sites) }
     ensures reached { IsReached world.old world.new }
+    ensures fault { IfErr result MayEnd }
 {
     for place in 0..world.device_count() {
         let Some(node) = world.device_at(place) else {
@@ -57,7 +61,7 @@ fn start_all(world: &mut World<'_, MemBank>) -> Result<(), RunFault>
         match world.step(&start) {
             Ok(()) => {}
             Err(StepFault::Memory) => return Err(RunFault::Memory),
-            Err(_) => return Err(RunFault::NoPackage),
+            Err(_) => return Err(RunFault::Edge(EdgeFault::Step)),
         }
     }
     Ok(())
@@ -77,6 +81,7 @@ pub fn update_all<L: Link, V: Watch>(
     requires { length links.old ≡ length world.old.sites }
     ensures updated { OnOk result (IsUpdated world.old world.new) }
     ensures reached { IsReached world.old world.new }
+    ensures fault { IfErr result MayEnd }
 {
     match start_all(world) {
         Ok(()) => {}

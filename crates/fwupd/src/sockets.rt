@@ -42,9 +42,7 @@ impl<'a> Sockets<'a> {
     }
 }
 
-impl<'a> Wires for Sockets<'a> {
-    type Link = StreamLink<UnixStream>;
-
+impl<'a> Wires<StreamLink<UnixStream>> for Sockets<'a> {
     fn open(&mut self, device: u8) -> Result<StreamLink<UnixStream>, RunFault> {
         let folder = self.folder;
         let Ok(path) = format!(in self.rt.alloc(); "{folder}/{device}.sock") else {

@@ -1,13 +1,16 @@
 //! Updating the devices of a configuration.
 
-ghost use Rattle.std.specs.Prelude.{◌≡◌, IfErr, IfOk, OnErr, OnOk, length};
-ghost use Rattle.fwupd.specs.Running.{IsUnlinked, ReportsUpdate, UpdateEnds};
+ghost use Rattle.std.specs.Prelude.{◌≡◌, ◌⊎◌, IfErr, IfOk, OnOk, length};
+ghost use Rattle.std.specs.Io.KnownBytes.{Appends};
+ghost use Rattle.fw_script.specs.Reports.{report_of};
+ghost use Rattle.fwupd.specs.Running.{DrivingEnds, IsReached, IsUnlinked, IsUpdated, ReportsUpdate, UpdateEnds};
+ghost use Rattle.fwupd.specs.Stream.{Begins};
 
 use crate::faults::RunFault;
 use crate::files::Files;
 use crate::nodes::nodes;
 use crate::retries::write_whole;
-use crate::running::{Watch, WatchFault, update_all, watch_fault};
+use crate::running::{Watch, WatchFault, update_all};
 use crate::setups::{configuration, package_files, packages_in};
 use fd_core::MemBank;
 use fw_edge::Link;
@@ -17,25 +20,23 @@ use std::alloc::Global;
 use std::io::Write;
 
 /// Where links to devices are opened.
-pub trait Wires {
-    /// A link that is opened.
-    type Link: Link + Drop;
-
+pub trait Wires<L: Link> {
     /// Opens a link to a device.
     ///
     /// # Errors
     /// `Socket` where it can't be made, and `Memory`.
-    fn open(&mut self, device: u8) -> Result<Self::Link, RunFault>
-        ensures { IfErr result IsUnlinked };
+    fn open(&mut self, device: u8) -> Result<L, RunFault>
+        ensures { IfErr result (λ e. (e ≡ RunFault.Memory) ⊎ IsUnlinked e) };
 }
 
 /// Opens a link to each device of a world, in configured order.
-fn open_all<S: Wires>(
+fn open_all<L: Link + Drop, S: Wires<L>>(
     alloc: Global,
     world: &World<'_, MemBank>,
     wires: &mut S,
-) -> Result<Vec<S::Link>, RunFault>
-    ensures { IfOk result (λ links. length links.items ≡ length world.now.sites) }
+) -> Result<Vec<L>, RunFault>
+    ensures links { IfOk result (λ links. length links.items ≡ length world.now.sites) }
+    ensures fault { IfErr result (λ e. (e ≡ RunFault.Memory) ⊎ IsUnlinked e) }
 {
     let mut links = Vec::new(alloc);
     for place in 0..world.device_count() {
@@ -53,6 +54,67 @@ fn open_all<S: Wires>(
     Ok(links)
 }
 
+/// Writes the report of a world.
+fn write_report<W: Write>(
+    alloc: Global,
+    world: &World<'_, MemBank>,
+    writer: &mut W,
+) -> Result<(), RunFault>
+    ensures ok { OnOk result (Appends (W.contents writer.old) (W.contents writer.new) (report_of world.now)) }
+    ensures fault { IfErr result (λ e. ((e ≡ RunFault.Memory) × (W.contents writer.new ≡ W.contents writer.old)) ⊎ ((e ≡ RunFault.Output) × Begins (W.contents writer.old) (W.contents writer.new) (report_of world.now))) }
+{
+    let Ok(text) = report(alloc, world) else {
+        return Err(RunFault::Memory);
+    };
+    match write_whole(writer, &text) {
+        Ok(()) => Ok(()),
+        Err(_) => Err(RunFault::Output),
+    }
+}
+
+/// Updates each device of a new world with package 1 over a link of its own, and writes the report of what that leaves.
+fn update_over<L: Link + Drop, S: Wires<L>, V: Watch, W: Write>(
+    alloc: Global,
+    world: &mut World<'_, MemBank>,
+    wires: &mut S,
+    watch: &mut V,
+    writer: &mut W,
+) -> Result<(), RunFault>
+    ensures updated { OnOk result (IsUpdated world.old world.new) }
+    ensures written { OnOk result (Appends (W.contents writer.old) (W.contents writer.new) (report_of world.new)) }
+    ensures reached { IsReached world.old world.new }
+    ensures fault { IfErr result (λ e. DrivingEnds world.new e (W.contents writer.old) (W.contents writer.new)) }
+{
+    let mut links = match open_all(alloc, world, wires) {
+        Ok(links) => links,
+        Err(fault) => return Err(fault),
+    };
+    let end = update_all(alloc, world, links.as_mut_slice(), watch);
+    let watched = watch.end();
+    match end {
+        Ok(()) => {}
+        Err(RunFault::Memory) => return Err(RunFault::Memory),
+        Err(fault) => {
+            match write_report(alloc, world, writer) {
+                Ok(()) => {}
+                Err(other) => return Err(other),
+            }
+            return Err(fault);
+        }
+    }
+    if let Err(WatchFault::Memory) = watched {
+        return Err(RunFault::Memory);
+    }
+    match write_report(alloc, world, writer) {
+        Ok(()) => {}
+        Err(other) => return Err(other),
+    }
+    match watched {
+        Ok(()) => Ok(()),
+        Err(_) => Err(RunFault::Trace),
+    }
+}
+
 /// Updates the devices of the configuration in a file with its first package, each over a link of its own, and writes the report
 /// of what that leaves.
 ///
@@ -61,7 +123,7 @@ fn open_all<S: Wires>(
 /// where it names none; `Socket` where a link isn't opened. `Edge` where a link failed or the clock stands at its end, and `Trace`
 /// where what looks on can't write: the report is then of the world that was reached. `Output` where the report isn't written
 /// whole, and `Memory` where memory is refused; nothing is written then.
-pub fn update_files<F: Files, S: Wires, V: Watch, W: Write>(
+pub fn update_files<F: Files, L: Link + Drop, S: Wires<L>, V: Watch, W: Write>(
     alloc: Global,
     files: &F,
     config: &str,
@@ -97,35 +159,8 @@ pub fn update_files<F: Files, S: Wires, V: Watch, W: Write>(
     let Ok(mut world) = World::new(alloc, agent, nodes, packages.as_slice()) else {
         return Err(RunFault::Memory);
     };
-    let mut links = match open_all(alloc, &world, wires) {
-        Ok(links) => links,
-        Err(fault) => return Err(fault),
-    };
-    let end = update_all(alloc, &mut world, links.as_mut_slice(), watch);
-    told(alloc, &world, end, watch.end(), writer)
-}
-
-/// Writes the report of the world that a run left, and gives how the run ended.
-fn told<W: Write>(
-    alloc: Global,
-    world: &World<'_, MemBank>,
-    end: Result<(), RunFault>,
-    watched: Result<(), WatchFault>,
-    writer: &mut W,
-) -> Result<(), RunFault> {
-    if matches!(end, Err(RunFault::Memory)) || matches!(watched, Err(WatchFault::Memory)) {
-        return Err(RunFault::Memory);
-    }
-    let Ok(text) = report(alloc, world) else {
-        return Err(RunFault::Memory);
-    };
-    match write_whole(writer, &text) {
-        Ok(()) => {}
-        Err(_) => return Err(RunFault::Output),
-    }
-    match (end, watched) {
-        (Err(fault), _) => Err(fault),
-        (Ok(()), Err(_)) => Err(RunFault::Trace),
-        (Ok(()), Ok(())) => Ok(()),
+    match update_over(alloc, &mut world, wires, watch, writer) {
+        Ok(()) => Ok(()),
+        Err(fault) => Err(fault),
     }
 }

@@ -1,6 +1,6 @@
 //! Runs in which one call of the device's bank fails.
 
-ghost use Rattle.std.specs.Prelude.{◌≡◌, ◌≤◌, IfOk, length};
+ghost use Rattle.std.specs.Prelude.{◌≡◌, IfOk};
 ghost use Rattle.std.specs.List.{AllByRecursion};
 ghost use Rattle.fd_core.specs.Components.{HasComponents};
 ghost use Rattle.fd_core.specs.States.{Phase};
@@ -125,13 +125,14 @@ const FAILURES: [Failure; 5] = [
 ];
 
 /// Starts the update, and drives it over perfect links until the session is Done or Failed.
-fn update(alloc: Global, world: &mut Failing<'_>, links: &mut [MemLink]) -> Option<Driven>
-    requires { length links.old ≤ 16 }
-{
+fn update(alloc: Global, world: &mut Failing<'_>, links: &mut [MemLink]) -> Option<Driven> {
     let mut steps = Vec::new(alloc);
     match world.step(&Step::Start(DEVICE, 1)) {
         Ok(()) => {}
         Err(_) => return None,
+    }
+    if links.len() != world.device_count() {
+        return None;
     }
     match drive(world, links, 100, &mut steps) {
         Ok(driven) => Some(driven),

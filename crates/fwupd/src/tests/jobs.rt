@@ -102,9 +102,7 @@ struct MemWires {
     closed: u8,
 }
 
-impl Wires for MemWires {
-    type Link = MemLink;
-
+impl Wires<MemLink> for MemWires {
     fn open(&mut self, device: u8) -> Result<MemLink, RunFault> {
         if device == self.closed {
             return Err(RunFault::Socket(device));

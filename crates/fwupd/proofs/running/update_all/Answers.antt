@@ -1,0 +1,42 @@
+use Rattle.std.proofs.Common.{◌∙◌, ◌+◌, arith, ap, inl, length, subst, sym}
+use Rattle.fwupd.specs.Running.{Updates}
+use Rattle.fwupd.proofs.Started.{updates_more, updates_none, updates_off, updates_reached}
+use Rattle.fwupd.proofs.running.update_all.Goals as goal
+
+pub loop-init : goal.loop-init
+loop-init g c = record {
+  updates = updates_none c.args.world.now c.start_all.new.world c.in-Ok.ensures.started;
+  devices = c.requires ∙ ap length (sym c.in-Ok.ensures.same);
+  none = c.new-steps.ensures.items;
+}
+
+pub returns-in-Err-drive-clause-reached : goal.returns-in-Err-drive-clause-reached
+returns-in-Err-drive-clause-reached g c =
+    updates_off c.args.world.now c.loop.world c.drive.new.world c.loop.counter c.loop.steps.items c.drive.new.steps.items c.loop.invariant.updates c.drive.ensures.drives.drives
+
+pub returns-then-driven-eq0-clause-updated : goal.returns-then-driven-eq0-clause-updated
+returns-then-driven-eq0-clause-updated g c = record {
+  ticks = c.loop.counter + c.in-Ok-drive.driven.turns;
+  updates =
+      updates_more c.args.world.now c.loop.world c.drive.new.world c.loop.counter c.in-Ok-drive.driven.turns c.loop.steps.items c.drive.new.steps.items c.loop.invariant.updates
+      c.loop.invariant.none c.drive.ensures.drives.drives c.in-Ok-drive.ensures.ticks;
+  ended = inl (c.in-Ok-drive.ensures.ended (omega (arith, c.if-driven-eq0.true)));
+}
+
+pub returns-then-driven-eq0-clause-reached : goal.returns-then-driven-eq0-clause-reached
+returns-then-driven-eq0-clause-reached g c =
+    updates_off c.args.world.now c.loop.world c.drive.new.world c.loop.counter c.loop.steps.items c.drive.new.steps.items c.loop.invariant.updates c.drive.ensures.drives.drives
+
+pub returns-in-Err-see-clause-reached : goal.returns-in-Err-see-clause-reached
+returns-in-Err-see-clause-reached g c =
+    updates_off c.args.world.now c.loop.world c.drive.new.world c.loop.counter c.loop.steps.items c.drive.new.steps.items c.loop.invariant.updates c.drive.ensures.drives.drives
+
+pub loop-preserved : goal.loop-preserved
+loop-preserved g c = record {
+  updates =
+      subst (λ n. Updates c.args.world.now c.drive.new.world (c.loop.counter + n)) (omega (arith, c.in-Ok-drive.ensures.within, c.if-driven-eq0.false))
+      (updates_more c.args.world.now c.loop.world c.drive.new.world c.loop.counter c.in-Ok-drive.driven.turns c.loop.steps.items c.drive.new.steps.items c.loop.invariant.updates
+      c.loop.invariant.none c.drive.ensures.drives.drives c.in-Ok-drive.ensures.ticks);
+  devices = c.drive.ensures.devices;
+  none = c.clear.ensures.items;
+}
