@@ -3,4 +3,5 @@ mod Making
 mod Packed
 mod Started
 mod Streams
+mod Told
 mod Uses

@@ -7,8 +7,10 @@ use Rattle.std.specs.List.{AllByRecursion}
 use Rattle.fw_package.specs.Package.{PackageText}
 use Rattle.fw_package.specs.Reading.{package_of}
 use Rattle.fw_package.specs.declared.fault.PackageFault.{PackageFault}
-use Rattle.mctp_ctl.specs.declared.answers.Endpoint.{Endpoint}
-use Rattle.fw_script.specs.Configs.{ConfigOf, DeviceConfigOf, config_of}
+use Rattle.fw_node.specs.Nodes.{DeviceNodeOf}
+use Rattle.fw_script.specs.Configs.{config_of}
+use Rattle.fw_script.specs.Seen.{config_seen, device_of}
+use Rattle.fw_script.specs.declared.config.Config.{Config}
 use Rattle.fw_script.specs.Faults.{ReadsAs}
 use Rattle.fw_script.specs.declared.faults.ScriptCause.TheVariants as causes
 use Rattle.fw_script.specs.declared.faults.ScriptFault.{ScriptFault}
@@ -114,14 +116,34 @@ fails_at files paths i p name contents told lt is called h (inr f) =
     (ap (map (λ q. string_bytes q)) split ∙ map-append (λ q. string_bytes q) (take i paths) (p ∷ drop (suc i) paths)) h
     (subst (λ n. PackageFails files n told) called f))
 
+-- the bytes of the files, as vectors
+through : (fs : List (Vec ℕ Global)) → map (λ f. package_of f.items) fs ≡ map package_of (map (λ f. f.items) fs)
+through [] = refl
+through (f ∷ fs) = ap (λ rs. package_of f.items ∷ rs) (through fs)
+
+each_through : (fs : List (Vec ℕ Global)) → AllByRecursion (λ b. IsOk (package_of b)) (map (λ f. f.items) fs) → AllByRecursion (λ f. IsOk (package_of f.items)) fs
+each_through [] h = tt
+each_through (f ∷ fs) h = (h.0, each_through fs h.1)
+
+pub packed_slice : (files : List ℕ → Option (List ℕ)) (names : List (List ℕ)) (contents slice : List (Vec ℕ Global)) → ArePacked files names (map (λ f. f.items) contents) → slice ≡ contents
+    → AllByRecursion (λ f. IsOk (package_of f.items)) slice
+packed_slice files names contents slice h e =
+    subst (λ fs. AllByRecursion (λ f. IsOk (package_of f.items)) fs) (sym e) (each_through contents (packed_each files names (map (λ f. f.items) contents) h))
+
 -- a configuration's file with its packages is a world
-pub set_up : (files : List ℕ → Option (List ℕ)) (path : List ℕ) (said : ConfigOf) (agent : Endpoint) (devices : List DeviceConfigOf) (paths contents : List (List ℕ)) (ps : List PackageText) (w : WorldOf)
-    → Says config_of (files path) said → agent ≡ said.agent → devices ≡ said.devices → paths ≡ said.packages → ArePacked files paths contents
-    → map (λ p. Ok p) ps ≡ map package_of contents → w ≡ new_world agent (nodes_made agent.eid devices) ps → IsSetup files path w
-set_up files path said agent devices paths contents ps w says a d p packed e is = record {
-  config = said;
+pub set_up : (files : List ℕ → Option (List ℕ)) (path : List ℕ) (config : Config) (names : List (String Global)) (contents slice : List (Vec ℕ Global)) (ps packs : List PackageText)
+    (nodes : List DeviceNodeOf) (w : WorldOf) → Says config_of (files path) (config_seen config) → names ≡ config.packages.items
+    → ArePacked files (map (λ p. string_bytes p) names) (map (λ f. f.items) contents) → slice ≡ contents → map (λ p. Ok p) ps ≡ map (λ f. package_of f.items) slice
+    → nodes ≡ nodes_made config.agent.eid (map device_of config.devices.items) → packs ≡ ps → w ≡ new_world config.agent nodes packs → IsSetup files path w
+set_up files path config names contents slice ps packs nodes w says named packed same read made lent is = record {
+  config = config_seen config;
   packages = ps;
   says = says;
-  are = subst (λ ns. ArePackages files ns ps) p (packages_so files paths contents ps packed e);
-  world = is ∙ ap (λ x. new_world x (nodes_made x.eid devices) ps) a ∙ ap (λ ds. new_world said.agent (nodes_made said.agent.eid ds) ps) d;
+  are =
+      packages_so files (map (λ p. string_bytes p) config.packages.items) (map (λ f. f.items) contents) ps
+      (subst (λ ns. ArePacked files (map (λ p. string_bytes p) ns) (map (λ f. f.items) contents)) named packed)
+      (read ∙ ap (map (λ f. package_of f.items)) same ∙ through contents);
+  world =
+      is ∙ ap (λ n. new_world config.agent n packs) made
+      ∙ ap (λ q. new_world config.agent (nodes_made config.agent.eid (map device_of config.devices.items)) q) lent;
 }

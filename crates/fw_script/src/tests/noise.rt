@@ -31,6 +31,9 @@ restart 8
 sel 40
 ";
 
+/// What random texts are made of.
+const BYTES: &[u8] = b"\n #0123456789abcdefgimnoprstuvy-\xFF";
+
 /// Numbers that look random, each run the same (xorshift, 64 bits).
 #[derive(Drop)]
 struct Dice {
@@ -114,7 +117,9 @@ fn random(rt: &HostRuntime, reader: Reader, dice: &mut Dice) -> Result<bool, Fai
     for _ in 0..TEXTS {
         let mut text = Vec::new(rt.alloc());
         for _ in 0..dice.below(64) {
-            text.push(b"\n #0123456789abcdefgimnoprstuvy-\xFF"[dice.below(33)])?;
+            if let Some(byte) = BYTES.get(dice.below(BYTES.len())) {
+                text.push(*byte)?;
+            }
         }
         if let Some((line, wants_memory)) = reader.fault(rt, &text) {
             if wants_memory || line == 0 || line_at(&text, text.len()).saturating_add(1) < line {

@@ -1,0 +1,30 @@
+use Rattle.std.proofs.Common.{map}
+use Rattle.std.specs.Prelude.{string_bytes}
+use Rattle.fwupd.proofs.Packed.{packed_slice, set_up}
+use Rattle.fwupd.proofs.Told.{update_ends}
+use Rattle.fwupd.proofs.updating.update_files.Goals as goal
+
+pub packages_in-requires : goal.packages_in-requires
+packages_in-requires g c =
+    packed_slice (g.F.Files.holds c.args.files.now) (map (λ p. string_bytes p) c.as_slice.result.now) c.in-Ok-package_files.contents.items c.as_slice-2.result.now c.in-Ok-package_files.ensures.packed
+    c.as_slice-2.ensures.value
+
+pub returns-in-Ok-update_over-clause-ok : goal.returns-in-Ok-update_over-clause-ok
+returns-in-Ok-update_over-clause-ok g c = record {
+  world = c.in-Ok-new.world;
+  setup =
+      set_up (g.F.Files.holds c.args.files.now) c.args.config.now c.in-Ok.config c.as_slice.result.now c.in-Ok-package_files.contents.items c.as_slice-2.result.now c.in-Ok-packages_in.packages.items
+      c.as_slice-3.result.now c.in-Ok-nodes.nodes.items c.in-Ok-new.world c.in-Ok.ensures.says c.as_slice.ensures.value c.in-Ok-package_files.ensures.packed c.as_slice-2.ensures.value
+      c.in-Ok-packages_in.ensures.is c.in-Ok-nodes.ensures.is c.as_slice-3.ensures.value c.in-Ok-new.ensures.made;
+  left = c.update_over.new.world;
+  updated = c.in-Ok-update_over.ensures.updated;
+  written = c.in-Ok-update_over.ensures.written;
+}
+
+pub returns-clause-fault : goal.returns-clause-fault
+returns-clause-fault g c =
+    update_ends (g.F.Files.holds c.args.files.now) c.args.config.now c.in-Ok-new.world c.update_over.new.world c.in-Err-update_over.fault (g.W.Write.contents c.args.writer.now) (g.W.Write.contents c.update_over.new.writer)
+    (set_up (g.F.Files.holds c.args.files.now) c.args.config.now c.in-Ok.config c.as_slice.result.now c.in-Ok-package_files.contents.items c.as_slice-2.result.now c.in-Ok-packages_in.packages.items
+    c.as_slice-3.result.now c.in-Ok-nodes.nodes.items c.in-Ok-new.world c.in-Ok.ensures.says c.as_slice.ensures.value c.in-Ok-package_files.ensures.packed c.as_slice-2.ensures.value
+    c.in-Ok-packages_in.ensures.is c.in-Ok-nodes.ensures.is c.as_slice-3.ensures.value c.in-Ok-new.ensures.made)
+    c.update_over.ensures.reached c.in-Err-update_over.ensures.fault
