@@ -20,7 +20,7 @@ use std::alloc::Global;
 use std::io::Write;
 
 /// Where links to devices are opened.
-pub trait Wires<L: Link> {
+pub trait Wires<L> {
     /// Opens a link to a device.
     ///
     /// # Errors
