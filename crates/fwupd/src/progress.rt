@@ -58,18 +58,15 @@ impl<'a> Progress<'a> {
         Progress { rt, shown: None }
     }
 
-    /// Whether it is time to show progress.
-    fn is_due(&mut self) -> bool {
+    /// The time, where progress wasn't shown a moment ago.
+    fn due(&self) -> Option<Instant> {
         let Ok(now) = Instant::now(self.rt) else {
-            return false;
+            return None;
         };
-        if let Some(shown) = self.shown {
-            if now.duration_since(shown) < Duration::from_millis(PAUSE) {
-                return false;
-            }
+        match self.shown {
+            Some(shown) if now.duration_since(shown) < Duration::from_millis(PAUSE) => None,
+            _ => Some(now),
         }
-        self.shown = Some(now);
-        true
     }
 
     /// Shows how far a device is, if it loads an image.
@@ -89,12 +86,13 @@ impl<'a> Progress<'a> {
 
 impl<'a> Watch for Progress<'a> {
     fn see(&mut self, world: &World<'_, MemBank>) -> Result<(), WatchFault> {
-        if !self.is_due() {
+        let Some(now) = self.due() else {
             return Ok(());
-        }
+        };
         for place in 0..world.device_count() {
             if let (Some(node), Some(packets)) = (world.device_at(place), world.packets_at(place)) {
                 if self.show(node, packets) {
+                    self.shown = Some(now);
                     return Ok(());
                 }
             }
