@@ -146,14 +146,14 @@ fn package(rt: &HostRuntime) -> Result<Vec<u8>, Fail> {
 }
 
 /// What an update over links in memory writes, its fault, and how many turns were seen.
-fn updated(
+fn updated<'a>(
     rt: &HostRuntime,
-    config: &[u8],
+    config: &'a [u8],
+    package: &'a [u8],
     closed: u8,
     broken: usize,
 ) -> Result<(Vec<u8>, usize), Fail> {
-    let package = package(rt)?;
-    let files: [(&str, &[u8]); 2] = [("c", config), ("p", &package)];
+    let files: [(&'a str, &'a [u8]); 2] = [("c", config), ("p", package)];
     let mut wires = MemWires {
         alloc: rt.alloc(),
         opened: 0,
@@ -189,8 +189,9 @@ fn an_update_is_reported_turn_by_turn(rt: HostRuntime) -> Result<(), Fail> {
         (CONFIG, 0, 0, b"", b"package: none", 0),
         (whole, 0, 2, b"now 2\n", b"\ntrace", 2),
     ];
+    let package = package(&rt)?;
     for (config, closed, broken, begins, ends, turns) in table {
-        let (text, seen) = updated(&rt, config, closed, broken)?;
+        let (text, seen) = updated(&rt, config, &package, closed, broken)?;
         assert!(rt; text.starts_with(begins), "{turns} {}", text.escape_ascii());
         assert!(rt; text.ends_with(ends));
         assert_eq!(rt; seen, turns);
