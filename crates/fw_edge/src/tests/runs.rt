@@ -187,7 +187,7 @@ fn a_link_that_fails_ends_the_run_at_a_replay_of_its_steps(rt: HostRuntime) -> R
 }
 
 /// Whether the worked world is driven over a link in memory until its update is done, or has failed since its device's bank had no
-/// memory; a run that ends early hands back the steps that it took.
+/// memory; a run that ends early hands back the steps that it took. They are replayed twice where memory is refused to the first replay.
 fn drives<'a>(alloc: Global, packages: &'a [Package<'a>]) -> Result<bool, AllocError> {
     let mut world = started(alloc, packages)?;
     let mut steps = Vec::new(alloc);
@@ -209,7 +209,8 @@ fn drives<'a>(alloc: Global, packages: &'a [Package<'a>]) -> Result<bool, AllocE
         Ok(driven) => driven.turns == 12,
         Err(fault) => fault != EdgeFault::Step,
     };
-    Ok(ends && is_replay(alloc, packages, &world, &steps)?)
+    let same = is_replay(alloc, packages, &world, &steps)?;
+    Ok(ends && (same || is_replay(alloc, packages, &world, &steps)?))
 }
 
 /// Holds whichever single allocation is refused.
