@@ -53,10 +53,12 @@ fn told(world: &Small<'_>) -> bool {
     )
 }
 
-/// The worked world with its update started.
+/// The worked world with its update started, asked for twice where memory is refused.
 fn started<'a>(alloc: Global, packages: &'a [Package<'a>]) -> Result<Small<'a>, AllocError> {
     let mut world = world(alloc, packages)?;
-    let _ = world.step(&Step::Start(DEVICE, 1));
+    if world.step(&Step::Start(DEVICE, 1)).is_err() {
+        let _ = world.step(&Step::Start(DEVICE, 1));
+    }
     Ok(world)
 }
 
