@@ -1,6 +1,6 @@
 -- Where bytes are cut.
-use Rattle.std.proofs.Common.{if◌then◌else◌, length-append, ◌≡◌, ℕ, ◌+◌, ◌-◌, ◌++◌, ◌||◌, nat_lt, ◌==◌, ◌<◌, ◌≤◌, Bool, true, false, List, [], ◌∷◌, Option, Some, None, length, take, drop, refl, ap, subst, ◌∙◌, arith, sym, get_or}
-use Rattle.std.specs.List.{All, position, position_or_len, slice_split}
+use Rattle.std.proofs.Common.{length-append, ◌≡◌, ℕ, ◌+◌, ◌-◌, ◌++◌, ◌==◌, ◌<◌, ◌≤◌, true, List, [], ◌∷◌, Some, None, length, take, drop, refl, ap, subst, ◌∙◌, arith}
+use Rattle.std.specs.List.{position, position_or_len, slice_split}
 use Rattle.std.proofs.lemmas.Grind.{common_steps}
 use Rattle.std.proofs.lemmas.List.{length-drop, take_all}
 use Rattle.std.proofs.lemmas.List.Folds.{list_any-append}

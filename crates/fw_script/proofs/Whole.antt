@@ -1,9 +1,9 @@
 -- What a text makes is whole.
-use Rattle.std.proofs.Common.{◌≡◌, ◌≢◌, ◌≤◌, ◌<◌, ◌+◌, ◌++◌, ◌∙◌, ◌∷◌, ◌||◌, ◌&&◌, ◌==◌, ℕ, zero, suc, Bool, true, false, List, [], Option, Some, None, Result, Ok, Err, IfSome, is_some, length, map, nat_lt, nat_le, option_to_list, unwrap_or, if◌then◌else◌, append-nil, append_assoc, ap, sym, subst, refl, arith}
-use Rattle.std.specs.List.{AllByRecursion, list_any, list_all}
+use Rattle.std.proofs.Common.{◌≡◌, ◌≢◌, ◌≤◌, ◌+◌, ◌++◌, ◌∙◌, ◌∷◌, ◌||◌, ◌&&◌, ◌==◌, ℕ, Bool, true, false, List, [], Option, Some, None, Result, Ok, Err, IfSome, is_some, length, map, nat_lt, nat_le, option_to_list, if◌then◌else◌, append-nil, append_assoc, ap, sym, subst, refl, arith}
+use Rattle.std.specs.List.{AllByRecursion, list_all}
 use Rattle.std.specs.Char.{is_ascii_digit}
 use Rattle.std.specs.Str.Parse.{digits_value}
-use Rattle.std.proofs.lemmas.Bool.{eqb-true, leb-true}
+use Rattle.std.proofs.lemmas.Bool.{leb-true}
 use Rattle.std.proofs.lemmas.List.{map-append, length-append}
 use Rattle.std.proofs.lemmas.List.Elements.{All-from_recursion, recursion_from_All}
 use Rattle.mctp_ctl.specs.declared.answers.Endpoint.{Endpoint}
@@ -16,7 +16,6 @@ use Rattle.fwup_wire.specs.declared.values.Key.{Key}
 use Rattle.fw_world.specs.Replays.{AreDifferent}
 use Rattle.fw_script.specs.declared.faults.ScriptCause.{ScriptCause}
 use Rattle.fw_script.specs.declared.faults.ScriptCause.TheVariants as causes
-use Rattle.fw_script.specs.declared.faults.ScriptFault.{ScriptFault}
 use Rattle.fw_script.specs.declared.config.Numbers.{Numbers}
 use Rattle.fw_script.specs.declared.draft.Directive.{Directive}
 use Rattle.fw_script.specs.declared.draft.Directive.TheVariants as directives

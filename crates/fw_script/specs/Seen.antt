@@ -1,5 +1,5 @@
 -- What a configuration in the program says.
-use Rattle.std.specs.Prelude.{ℕ, List, Option, map, option_map, string_bytes}
+use Rattle.std.specs.Prelude.{map, string_bytes}
 use Rattle.fw_script.specs.Configs.{ComponentConfigOf, ConfigOf, DeviceConfigOf}
 use Rattle.fw_script.specs.declared.config.ComponentConfig.{ComponentConfig}
 use Rattle.fw_script.specs.declared.config.Config.{Config}

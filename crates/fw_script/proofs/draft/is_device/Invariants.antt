@@ -1,5 +1,4 @@
 use Rattle.std.proofs.Common.{◌≡◌, drop, map}
-use Rattle.std.specs.List.{list_any}
 use Rattle.fw_script.specs.Configs.{is_device}
 use Rattle.fw_script.specs.Seen.{device_of}
 use Rattle.fw_script.proofs.draft.is_device.Given as goal
