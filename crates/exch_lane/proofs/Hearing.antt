@@ -4,7 +4,7 @@ use Rattle.std.proofs.lemmas.Bool.{cases_lt, eqb-true, ne_eqb}
 use Rattle.pldm_exch.specs.Caller.{CallerState, IsCaller, IsOpen, Open, fresh, is_quiet, last_tag, older, rest_at, sends_at, ticked}
 use Rattle.pldm_exch.specs.Laws.{CallerStep}
 use Rattle.pldm_exch.specs.Rests.{fallen}
-use Rattle.exch_lane.specs.Clocks.{MayBeat, beat}
+use Rattle.exch_lane.specs.Clocks.{MayBeat}
 use Rattle.exch_lane.specs.Lanes.{LaneOf, asker_clock, taker_clock}
 use Rattle.pldm_exch.specs.Sides.{AskerTick}
 use Rattle.exch_lane.proofs.Below.{Laws}

@@ -1,16 +1,16 @@
 -- Each packet that can still come is one of the lane.
-use Rattle.std.proofs.Common.{◌≡◌, ◌∙◌, ◌+◌, ◌≤◌, ◌<◌, ℕ, true, false, List, Option, Some, None, IsSomeAnd, Ok, slice_get, inl, inr, refl, sym, ap}
+use Rattle.std.proofs.Common.{◌≡◌, ◌∙◌, ◌+◌, ◌≤◌, ◌<◌, ℕ, true, false, List, Option, Some, None, IsSomeAnd, Ok, inl, inr, refl, ap}
 use Rattle.std.specs.List.{AllByRecursion}
 use Rattle.std.proofs.lemmas.Bool.{eq-eqb}
 use Rattle.mctp_wire.specs.Packet as wire
 use Rattle.mctp_wire.specs.declared.layout.Head.{Head}
-use Rattle.mctp_reasm.specs.Pieces.{IsMessage, MessageOf, PacketOf, pieces, spelled}
+use Rattle.mctp_reasm.specs.Pieces.{IsMessage}
 use Rattle.exch_lane.specs.Lanes.{LaneOf, Sent}
 use Rattle.exch_lane.specs.Laws.{IsOfLane, in_lane, is_between, read_between}
 use Rattle.exch_lane.proofs.AskerRows.{few_of}
 use Rattle.exch_lane.proofs.Below.{Laws}
 use Rattle.exch_lane.proofs.Deliveries.{reply_is, request_is}
-use Rattle.exch_lane.proofs.Ghosts.{Ghost, IsExplained, IsLiving, IsOfExchange, IsPacketOf, LaneGood, ends_of}
+use Rattle.exch_lane.proofs.Ghosts.{Ghost, IsLiving, IsOfExchange, IsPacketOf, LaneGood, ends_of}
 use Rattle.exch_lane.proofs.Lifts.{all_maps}
 use Rattle.exch_lane.proofs.Pieces.{piece_reads}
 use Rattle.exch_lane.proofs.TakerTakes.{came_of}

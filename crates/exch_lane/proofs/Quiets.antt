@@ -1,5 +1,5 @@
 -- What is true of the asker after a tick that it misses, in which it is still deaf, or in which no request is open.
-use Rattle.std.proofs.Common.{◌≡◌, ◌∙◌, ◌-◌, ◌≤◌, ◌<◌, ◌==◌, ℕ, Bool, true, false, true≢false, Option, Some, None, IfSome, IsSomeAnd, length, map, get_or, inl, inr, refl, sym, ap, arith}
+use Rattle.std.proofs.Common.{◌≡◌, ◌∙◌, ◌-◌, ◌≤◌, ◌<◌, ◌==◌, ℕ, true, false, true≢false, Option, Some, None, IfSome, IsSomeAnd, length, map, get_or, inl, inr, refl, sym, ap, arith}
 use Rattle.std.proofs.lemmas.Bool.{eq-eqb, eqb-true}
 use Rattle.std.proofs.lemmas.List.{length-map}
 use Rattle.mctp_reasm.specs.Held.{held_tick}

@@ -1,7 +1,6 @@
 -- What the calls of both nodes give out, by the rows of the ends.
-use Rattle.std.specs.Prelude.{List, ℕ, Option, Some, None}
+use Rattle.std.specs.Prelude.{List, ℕ}
 use Rattle.mctp_reasm.specs.Pieces.{MessageOf}
-use Rattle.pldm_exch.specs.Caller.{Heard}
 use Rattle.pldm_exch.specs.Ends.{AskerOf, TakerOf}
 use Rattle.pldm_exch.specs.Kept.{kept_with}
 use Rattle.pldm_exch.specs.Requests.{reply_message}

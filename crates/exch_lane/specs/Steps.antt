@@ -2,7 +2,6 @@
 use Rattle.std.specs.Prelude.{◌≡◌, ◌⊎◌, ◌≤◌, ℕ, ◌+◌, ◌-◌, ◌^◌, ◌==◌, ◌&&◌, nat_lt, if◌then◌else◌, Bool, false, true, List, [], ◌∷◌, ◌++◌, length, map, Option, Some, None, is_some}
 use Rattle.mctp_reasm.specs.Held.{Held}
 use Rattle.mctp_reasm.specs.Pieces.{MessageOf, pieces, spelled}
-use Rattle.pldm_base.specs.Header.{pldm_bytes}
 use Rattle.pldm_base.specs.declared.header.PldmHead.{PldmHead}
 use Rattle.pldm_exch.specs.Caller.{abandoned, begun, may_begin}
 use Rattle.pldm_exch.specs.Kept.{kept_with}
