@@ -49,7 +49,7 @@ impl MemLink {
 }
 
 /// The same bytes once more.
-fn copy_of(packet: &RawPacket) -> RawPacket
+pub(crate) fn copy_of(packet: &RawPacket) -> RawPacket
     ensures { result.items ≡ packet.now.items }
 {
     let mut out = RawPacket::new();
