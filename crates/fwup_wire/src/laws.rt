@@ -1,6 +1,9 @@
 //! What reading and writing have to do with each other.
 
+ghost use Rattle.std.specs.Prelude.{◌≡◌, ◌∷◌, []};
 ghost use Rattle.fwup_wire.specs.Laws.{ReadsAnswers, ReadsCommands, ReadsOnlyAnswers, ReadsOnlyCommands, WritesAnswers, WritesCommands};
+
+use crate::code::{command, completion, response, text_type};
 
 /// Request data are one command at most, which is the one that is read, and what is written reads back as the same
 /// command.
@@ -18,3 +21,72 @@ pub fn answers_read_back()
     ensures only { ReadsOnlyAnswers }
     ensures written { WritesAnswers }
 {}
+
+/// The commands of `code`, in the order of their values.
+pub fn command_codes() -> [u8; 13]
+    ensures values { result ≡ 0x01 ∷ 0x02 ∷ 0x10 ∷ 0x13 ∷ 0x14 ∷ 0x15 ∷ 0x16 ∷ 0x17 ∷ 0x18 ∷ 0x1A ∷ 0x1B ∷ 0x1C ∷ 0x1D ∷ [] }
+{
+    [
+        command::QUERY_DEVICE_IDENTIFIERS,
+        command::GET_FIRMWARE_PARAMETERS,
+        command::REQUEST_UPDATE,
+        command::PASS_COMPONENT_TABLE,
+        command::UPDATE_COMPONENT,
+        command::REQUEST_FIRMWARE_DATA,
+        command::TRANSFER_COMPLETE,
+        command::VERIFY_COMPLETE,
+        command::APPLY_COMPLETE,
+        command::ACTIVATE_FIRMWARE,
+        command::GET_STATUS,
+        command::CANCEL_UPDATE_COMPONENT,
+        command::CANCEL_UPDATE,
+    ]
+}
+
+/// The completion codes of `code`, in the order of their values.
+pub fn completion_codes() -> [u8; 9]
+    ensures values { result ≡ 0x80 ∷ 0x81 ∷ 0x82 ∷ 0x83 ∷ 0x84 ∷ 0x85 ∷ 0x88 ∷ 0x89 ∷ 0x8B ∷ [] }
+{
+    [
+        completion::NOT_IN_UPDATE_MODE,
+        completion::ALREADY_IN_UPDATE_MODE,
+        completion::DATA_OUT_OF_RANGE,
+        completion::INVALID_TRANSFER_LENGTH,
+        completion::INVALID_STATE_FOR_COMMAND,
+        completion::INCOMPLETE_UPDATE,
+        completion::COMMAND_NOT_EXPECTED,
+        completion::RETRY_REQUEST_FW_DATA,
+        completion::ACTIVATION_NOT_REQUIRED,
+    ]
+}
+
+/// The text types of `code`, in the order of their values.
+pub fn text_types() -> [u8; 6]
+    ensures values { result ≡ 0 ∷ 1 ∷ 2 ∷ 3 ∷ 4 ∷ 5 ∷ [] }
+{
+    [
+        text_type::UNKNOWN,
+        text_type::ASCII,
+        text_type::UTF_8,
+        text_type::UTF_16,
+        text_type::UTF_16LE,
+        text_type::UTF_16BE,
+    ]
+}
+
+/// What a device says of a component, as `code` has it: the two responses, and the response codes in the order of
+/// their values.
+pub fn response_codes() -> ([u8; 2], [u8; 4])
+    ensures responses { result.0 ≡ 0 ∷ 1 ∷ [] }
+    ensures codes { result.1 ≡ 0x00 ∷ 0x01 ∷ 0x02 ∷ 0x06 ∷ [] }
+{
+    (
+        [response::CAN_BE_UPDATED, response::CANNOT_BE_UPDATED],
+        [
+            response::NO_RESTRICTION,
+            response::COMPARISON_STAMP_IDENTICAL,
+            response::COMPARISON_STAMP_LOWER,
+            response::NOT_SUPPORTED,
+        ],
+    )
+}

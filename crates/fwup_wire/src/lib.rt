@@ -31,7 +31,10 @@ pub use command_reading::read;
 pub use command_writing::write;
 pub use descriptor_list::{DescriptorList, MAX_DESCRIPTOR_BYTES};
 pub use descriptors::Descriptors;
-pub use laws::{answers_read_back, commands_read_back};
+pub use laws::{
+    answers_read_back, command_codes, commands_read_back, completion_codes, response_codes,
+    text_types,
+};
 pub use parameter_list::{MAX_PARAMETER_BYTES, ParameterList};
 pub use parameters::Parameters;
 pub use values::{ComponentParameters, Descriptor, Key, Text, TransferFlag, Version};
