@@ -1,21 +1,21 @@
 -- How many units pass while an end counts ticks. Only this file knows the clocks.
 use Rattle.std.proofs.Common.{◌+◌, ◌≤◌, ℕ, Bool, true, false, arith}
-use Rattle.exch_lane.specs.Clocks.{Clock, MayBeat, beat}
+use Rattle.exch_lane.specs.Clocks.{Clock, MayBeat, TimeStarts, beat, elapsed}
 
 -- what a clock may hold
 pub IsClock : Clock → Type 0
 IsClock c = Unit {0}
 
--- at most late(count) units have passed since `date`, where the end counted `count` ticks since then
-pub elapsed : Clock → ℕ → ℕ → Type 0
-elapsed c date count = c.now ≤ date + count
-
 pub beat_clock : (counts : Bool) (c : Clock) → IsClock c → MayBeat counts c → IsClock (beat counts c)
 unfolding IsClock
 beat_clock counts c h may = tt
 
+pub time_starts : TimeStarts
+unfolding elapsed
+time_starts c date h = omega arith
+
 pub elapsed_start : (c : Clock) (date : ℕ) → IsClock c → c.now ≤ date → elapsed c date 0
-unfolding elapsed IsClock
+unfolding elapsed
 elapsed_start c date ok h = omega arith
 
 pub elapsed_counted : (c : Clock) (date count : ℕ) → MayBeat true c → elapsed c date count → elapsed (beat true c) date (count + 1)

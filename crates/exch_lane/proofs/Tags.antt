@@ -1,8 +1,8 @@
 -- How one tag goes through ticks, repeats, a beginning and restarts.
 use Rattle.std.proofs.Common.{◌≡◌, ◌∙◌, ◌≤◌, ℕ, Bool, true, false, Option, Some, None, IfSome, inl, inr, refl, sym, arith}
-use Rattle.exch_lane.specs.Clocks.{Clock, MayBeat, beat}
+use Rattle.exch_lane.specs.Clocks.{Clock, MayBeat, beat, elapsed}
 use Rattle.exch_lane.proofs.AskerTicks.{asker_at_none, asker_begins, asker_beats, asker_resends, asker_restarts, nothing_held}
-use Rattle.exch_lane.proofs.Elapsed.{elapsed, within_repeats}
+use Rattle.exch_lane.proofs.Elapsed.{within_repeats}
 use Rattle.exch_lane.proofs.TakerTicks.{nothing_kept, taker_at_none, taker_begins, taker_beats, taker_resends, taker_restarts}
 use Rattle.exch_lane.proofs.Views.{Exchange, IsEmptyTag, IsExchange, IsSettled, IsSpan, IsWording, TagOf, TagView, asker_time, resent, rested, taker_time, view_ticked}
 

@@ -4,8 +4,7 @@ use Rattle.mctp_reasm.specs.Pieces.{MessageOf, PacketOf, pieces}
 use Rattle.mctp_reasm.specs.Held.{Held, held_tick}
 use Rattle.pldm_base.specs.Header.{pldm_bytes}
 use Rattle.pldm_exch.specs.Kept.{Kept, kept_tick}
-use Rattle.exch_lane.specs.Clocks.{Clock, beat}
-use Rattle.exch_lane.proofs.Elapsed.{elapsed}
+use Rattle.exch_lane.specs.Clocks.{Clock, beat, elapsed}
 
 -- who asks whom, under which tag
 pub record Ends : Type 0 where

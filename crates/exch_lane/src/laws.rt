@@ -1,5 +1,6 @@
 //! What layers above rely on: a lane is one cell.
 
+ghost use Rattle.exch_lane.specs.Clocks.{PassesWithin, TimeIsCounted, TimeStarts};
 ghost use Rattle.exch_lane.specs.Laws.{LaneIsACell};
 
 /// One direction of packets (DSP0236), tags and time is one cell: from a new lane, for every list of steps that may be
@@ -18,3 +19,13 @@ pub fn lane_is_a_cell()
     pldm_exch::callers_stay_lawful();
     pldm_exch::rests_change();
 }
+
+/// Time in a lane adds up, in ticks and units: an assembly's 8 ticks are over within 11 units, the 12 in which a request is repeated
+/// within 14, and the 24 for which an answer is kept within 29.
+pub fn time_adds_up()
+    ensures starts { TimeStarts }
+    ensures counted { TimeIsCounted }
+    ensures assembly { PassesWithin 8 11 }
+    ensures repeats { PassesWithin 12 14 }
+    ensures keeping { PassesWithin 24 29 }
+{}

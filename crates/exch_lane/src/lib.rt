@@ -16,6 +16,6 @@ mod tests;
 pub use entry::LaneEntry;
 pub use journal::SentPacket;
 pub use lane::Lane;
-pub use laws::lane_is_a_cell;
+pub use laws::{lane_is_a_cell, time_adds_up};
 pub use replay::lane_replay;
 pub use step::{End, LaneFault, LaneStep};
