@@ -3,8 +3,9 @@ use Rattle.std.proofs.Common.{◌≡◌, ◌+◌, ◌∙◌, ℕ, zero, suc, Lis
 use Rattle.std.specs.Prelude.{option_map}
 use Rattle.fw_node.specs.Agents.{AgentOf, half_for}
 use Rattle.fw_node.specs.Nodes.{DeviceNodeOf}
-use Rattle.fw_world.specs.Worlds.{SiteOf}
-use Rattle.fw_edge.specs.Drives.{are_over, is_over}
+use Rattle.fw_world.specs.Worlds.{SiteOf, WorldOf}
+use Rattle.fw_world.specs.declared.step.Step.{Step}
+use Rattle.fw_edge.specs.Drives.{all_over, are_over, is_over}
 
 -- at a place, and behind it
 over_next : (n : AgentOf) (xs : List SiteOf) (i : ℕ) (node : DeviceNodeOf) → option_map (λ x. x.node) (slice_get xs i) ≡ Some node
@@ -26,3 +27,10 @@ is_not_over n xs i node all at is_not e = sym (e ∙ over_at n xs i node at ∙ 
 pub over_later : (n : AgentOf) (xs : List SiteOf) (i : ℕ) (node : DeviceNodeOf) (all : Bool) → option_map (λ x. x.node) (slice_get xs i) ≡ Some node
     → is_over (half_for n node.endpoint.eid) ≡ true → all ≡ are_over n (drop i xs) → all ≡ are_over n (drop (i + 1) xs)
 over_later n xs i node all at is e = e ∙ over_at n xs i node at ∙ ap (λ b. b && are_over n (drop (i + 1) xs)) is
+
+-- nothing is taken from a world in which each session is over: where one is not, the world is another
+pub still_on : (w v u : WorldOf) (before mid after : List Step) (b : Bool) → (all_over w ≡ true → (v ≡ w) × (mid ≡ before)) → b ≡ all_over v → b ≡ false
+    → all_over w ≡ true → (u ≡ w) × (after ≡ before)
+still_on w v u before mid after b h is unlike over =
+    let told : all_over v ≡ true = rw (h over).0 over in
+    absurd (cc)

@@ -106,6 +106,7 @@ fn take_turns<B: Bank + Drop, L: Link>(
     ensures ticks { IfOk result (λ d. ticks_in steps.new.items ≡ ticks_in steps.old.items + d.turns) }
     ensures within { IfOk result (λ d. d.turns ≤ turns) }
     ensures ended { IfOk result (λ d. d.turns < turns → all_over world.new ≡ true) }
+    ensures over { all_over world.old ≡ true → steps.new.items ≡ steps.old.items }
     ensures kept { OnOk result (map (λ l. (L.tally l).failures) links.new ≡ map (λ l. (L.tally l).failures) links.old) }
     ensures asked { IfOk result (λ d. AllRose (2 * d.turns) (map (λ l. (L.tally l).asked) links.old) (map (λ l. (L.tally l).asked) links.new)) }
     ensures given { IfOk result (λ d. AreGiven (delivers_in steps.old.items) (delivers_in steps.new.items) d.foreign (map (λ l. (L.tally l).given) links.old) (map (λ l. (L.tally l).given) links.new)) }
@@ -153,6 +154,7 @@ pub fn drive<B: Bank + Drop, L: Link>(
     ensures ticks { IfOk result (λ d. ticks_in steps.new.items ≡ ticks_in steps.old.items + d.turns) }
     ensures within { IfOk result (λ d. d.turns ≤ turns) }
     ensures ended { IfOk result (λ d. d.turns < turns → all_over world.new ≡ true) }
+    ensures over { all_over world.old ≡ true → steps.new.items ≡ steps.old.items }
     ensures kept { OnOk result (map (λ l. (L.tally l).failures) links.new ≡ map (λ l. (L.tally l).failures) links.old) }
     ensures asked { IfOk result (λ d. AllRose (2 * d.turns) (map (λ l. (L.tally l).asked) links.old) (map (λ l. (L.tally l).asked) links.new)) }
     ensures given { IfOk result (λ d. AreGiven (delivers_in steps.old.items) (delivers_in steps.new.items) d.foreign (map (λ l. (L.tally l).given) links.old) (map (λ l. (L.tally l).given) links.new)) }

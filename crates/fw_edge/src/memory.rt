@@ -1,6 +1,6 @@
 //! A link in memory.
 
-ghost use Rattle.std.specs.Prelude.{◌≡◌, ◌++◌, ◌∷◌, [], true};
+ghost use Rattle.std.specs.Prelude.{◌≡◌, ◌++◌, ◌∷◌, [], IfNone, option_to_list, true};
 ghost use Rattle.fw_edge.specs.Links.{Asks, Fails, Sends};
 
 use crate::frame::FrameFault;
@@ -40,16 +40,33 @@ impl MemLink {
         ensures tally { self.new.tally ≡ self.old.tally }
         ensures agent { side ≡ Side.Agent → result ≡ true → self.new.down.items ≡ self.old.down.items ++ packet ∷ [] }
         ensures device { side ≡ Side.Device → result ≡ true → self.new.up.items ≡ self.old.up.items ++ packet ∷ [] }
+        ensures not_up { side ≡ Side.Agent → self.new.up.items ≡ self.old.up.items }
+        ensures not_down { side ≡ Side.Device → self.new.down.items ≡ self.old.down.items }
     {
         match side {
             Side::Agent => self.down.push_back(packet).is_ok(),
             Side::Device => self.up.push_back(packet).is_ok(),
         }
     }
+
+    /// Takes the first of the packets that are on the way to an end, if there is one.
+    fn take(&mut self, side: Side) -> Option<RawPacket>
+        ensures tally { self.new.tally ≡ self.old.tally }
+        ensures agent { side ≡ Side.Agent → self.old.up.items ≡ option_to_list result ++ self.new.up.items }
+        ensures device { side ≡ Side.Device → self.old.down.items ≡ option_to_list result ++ self.new.down.items }
+        ensures none { IfNone result ((side ≡ Side.Agent → self.old.up.items ≡ []) × (side ≡ Side.Device → self.old.down.items ≡ [])) }
+        ensures not_down { side ≡ Side.Agent → self.new.down.items ≡ self.old.down.items }
+        ensures not_up { side ≡ Side.Device → self.new.up.items ≡ self.old.up.items }
+    {
+        match side {
+            Side::Agent => self.up.pop_front(),
+            Side::Device => self.down.pop_front(),
+        }
+    }
 }
 
 /// The same bytes once more.
-fn copy_of(packet: &RawPacket) -> RawPacket
+pub(crate) fn copy_of(packet: &RawPacket) -> RawPacket
     ensures { result.items ≡ packet.now.items }
 {
     let mut out = RawPacket::new();
@@ -70,10 +87,7 @@ impl Link for MemLink {
     }
 
     fn receive(&mut self, side: Side) -> Result<Option<RawPacket>, FrameFault> {
-        let packet = match side {
-            Side::Agent => self.up.pop_front(),
-            Side::Device => self.down.pop_front(),
-        };
+        let packet = self.take(side);
         self.tally.ask(packet.is_some());
         Ok(packet)
     }

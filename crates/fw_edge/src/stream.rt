@@ -1,7 +1,7 @@
 //! A link over a byte stream.
 
-ghost use Rattle.std.specs.Prelude.{◌≡◌};
-ghost use Rattle.fw_edge.specs.Links.{Asks, Fails, Sends};
+ghost use Rattle.std.specs.Prelude.{◌≡◌, ◌+◌, IfOk, IfSome, None, Ok, OnOk};
+ghost use Rattle.fw_edge.specs.Links.{Asks, Fails, Rises, Sends};
 
 use crate::frame::{FrameFault, read_frame, write_frame};
 use crate::link::Link;
@@ -35,9 +35,11 @@ impl<S: Read + Write + Drop> StreamLink<S> {
         }
     }
 
-    /// Writes the frame of a packet at an end.
+    /// Writes the frame of a packet at an end; it is then on the way to the other.
     fn write(&mut self, side: Side, packet: &RawPacket) -> Result<(), FrameFault>
-        ensures { self.new.tally ≡ self.old.tally }
+        ensures tally { self.new.tally ≡ self.old.tally }
+        ensures agent { OnOk result (side ≡ Side.Agent → Rises self.old.down self.new.down × (self.new.up ≡ self.old.up)) }
+        ensures device { OnOk result (side ≡ Side.Device → Rises self.old.up self.new.up × (self.new.down ≡ self.old.down)) }
     {
         match side {
             Side::Agent => {
@@ -52,9 +54,13 @@ impl<S: Read + Write + Drop> StreamLink<S> {
         Ok(())
     }
 
-    /// Reads a frame at an end, if one is on the way there.
+    /// Reads a frame at an end, if one is on the way there; else it leaves the streams as they are.
     fn read(&mut self, side: Side) -> Result<Option<RawPacket>, FrameFault>
-        ensures { self.new.tally ≡ self.old.tally }
+        ensures tally { self.new.tally ≡ self.old.tally }
+        ensures no_up { side ≡ Side.Agent → self.old.up ≡ 0 → (result ≡ Ok None) × (self.new ≡ self.old) }
+        ensures no_down { side ≡ Side.Device → self.old.down ≡ 0 → (result ≡ Ok None) × (self.new ≡ self.old) }
+        ensures agent { IfOk result (λ p. IfSome p (λ _. side ≡ Side.Agent → (self.old.up ≡ self.new.up + 1) × (self.new.down ≡ self.old.down))) }
+        ensures device { IfOk result (λ p. IfSome p (λ _. side ≡ Side.Device → (self.old.down ≡ self.new.down + 1) × (self.new.up ≡ self.old.up))) }
     {
         match side {
             Side::Agent => {

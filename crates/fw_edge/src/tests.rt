@@ -7,3 +7,4 @@ mod links;
 mod packages;
 mod runs;
 mod setup;
+mod stories;

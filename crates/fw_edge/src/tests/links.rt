@@ -2,6 +2,7 @@
 
 ghost use Rattle.std.specs.Prelude.{◌≡◌};
 
+use crate::memory::copy_of;
 use crate::{FrameFault, Link, MemLink, Tally};
 use fw_world::Side;
 use mctp_wire::RawPacket;
@@ -12,6 +13,10 @@ use std::alloc::Global;
 pub enum Trouble {
     /// Loses the packet of this number, counted from 1.
     Loses(u64),
+    /// Holds back the packet of the first number, and passes it on behind that of the second.
+    Delays(u64, u64),
+    /// Passes the packet of the first number on, and once more behind that of the second.
+    Repeats(u64, u64),
     /// Loses every packet.
     LosesAll,
     /// Puts a forged packet before its first.
@@ -30,6 +35,8 @@ pub struct BadLink {
     /// The calls, and the packets, so far.
     calls: u64,
     packets: u64,
+    /// The packet that is still to come, with the end at which it was sent.
+    kept: Option<(Side, RawPacket)>,
     tally: Tally,
 }
 
@@ -48,6 +55,7 @@ impl BadLink {
             trouble,
             calls: 0,
             packets: 0,
+            kept: None,
             tally: Tally::new(),
         }
     }
@@ -71,9 +79,33 @@ impl BadLink {
             Trouble::ForgesFirst if self.packets == 1 => {
                 let _ = self.link.send(side, &forged());
             }
+            Trouble::Delays(number, _) if number == self.packets => {
+                self.kept = Some((side, copy_of(packet)));
+                return;
+            }
+            Trouble::Repeats(number, _) if number == self.packets => {
+                self.kept = Some((side, copy_of(packet)));
+            }
             _ => {}
         }
         let _ = self.link.send(side, packet);
+        self.pass_kept();
+    }
+
+    /// Passes the packet that was kept on, if it comes behind the one that was passed on last.
+    fn pass_kept(&mut self)
+        ensures { self.new.tally ≡ self.old.tally }
+    {
+        let behind = match self.trouble {
+            Trouble::Delays(_, behind) | Trouble::Repeats(_, behind) => behind,
+            _ => return,
+        };
+        if behind != self.packets {
+            return;
+        }
+        if let Some((side, packet)) = self.kept.take() {
+            let _ = self.link.send(side, &packet);
+        }
     }
 
     /// The next packet at an end.

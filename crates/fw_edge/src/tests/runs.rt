@@ -54,7 +54,7 @@ fn told(world: &Small<'_>) -> bool {
 }
 
 /// The worked world with its update started, asked for twice where memory is refused.
-fn started<'a>(alloc: Global, packages: &'a [Package<'a>]) -> Result<Small<'a>, AllocError> {
+pub fn started<'a>(alloc: Global, packages: &'a [Package<'a>]) -> Result<Small<'a>, AllocError> {
     let mut world = world(alloc, packages)?;
     if world.step(&Step::Start(DEVICE, 1)).is_err() {
         let _ = world.step(&Step::Start(DEVICE, 1));
@@ -101,6 +101,17 @@ fn over_a_link_that_loses_the_first_answer_an_update_takes_18_turns(
 ) -> Result<(), Fail> {
     let mut links = [BadLink::new(rt.alloc(), Trouble::Loses(2))];
     assert!(rt; updates(rt.alloc(), &mut links, 18, 0, 29)?);
+    Ok(())
+}
+
+/// The device asks for data at 7 to 12, in vain, since the agent waits for the answer to UpdateComponent, packet 12, which comes
+/// again at 12. Its data requests are then at 13 and 14, its completions wait for the tags of those at 7, 8 and 9: until 47 to 49.
+#[test]
+fn over_a_link_that_loses_the_answer_to_update_component_it_comes_again(
+    rt: HostRuntime,
+) -> Result<(), Fail> {
+    let mut links = [BadLink::new(rt.alloc(), Trouble::Loses(12))];
+    assert!(rt; updates(rt.alloc(), &mut links, 50, 0, 41)?);
     Ok(())
 }
 

@@ -27,6 +27,12 @@ pub const KEY: Key = Key {
     identifier: 1,
 };
 
+/// The second component of a device with two.
+const SECOND: Key = Key {
+    classification: 10,
+    identifier: 2,
+};
+
 /// A world of the tests.
 pub type Small<'a> = World<'a, MemBank>;
 
@@ -76,7 +82,29 @@ fn device(alloc: Global) -> Result<Device<MemBank>, AllocError>
     Ok(Device::new(descriptors(), components, bank))
 }
 
-/// The node of such a device.
+/// The worked device with component (10, 2) beside, which is alike.
+fn device_of_two(alloc: Global) -> Result<Device<MemBank>, AllocError>
+    ensures components { IfOk result (λ d. HasComponents d.device) }
+    ensures idle { IfOk result (λ d. d.device.phase ≡ Phase.Idle) }
+    ensures unapplied { IfOk result (λ d. AllByRecursion IsUnapplied d.device.rows) }
+{
+    let mut bank = MemBank::new(alloc);
+    let Ok(()) = bank.add(KEY, &label(), &[0xAA]) else {
+        return Err(AllocError);
+    };
+    let Ok(()) = bank.add(SECOND, &label(), &[0xAA]) else {
+        return Err(AllocError);
+    };
+    let mut components = ArrayVec::new();
+    components.push(Component { key: KEY, index: 0 });
+    components.push(Component {
+        key: SECOND,
+        index: 1,
+    });
+    Ok(Device::new(descriptors(), components, bank))
+}
+
+/// The node of the worked device.
 #[tactic(auto, using(crate::proofs::Opening::new_node))]
 fn node(alloc: Global, eid: u8) -> Result<DeviceNode<MemBank>, AllocError>
     requires { IsEid eid }
@@ -95,6 +123,35 @@ fn one(alloc: Global) -> Result<Vec<DeviceNode<MemBank>>, AllocError>
     let mut nodes = Vec::new(alloc);
     nodes.push(node)?;
     Ok(nodes)
+}
+
+/// The node of the device with two components.
+#[tactic(auto, using(crate::proofs::Opening::new_node))]
+fn node_of_two(alloc: Global, eid: u8) -> Result<DeviceNode<MemBank>, AllocError>
+    requires { IsEid eid }
+    ensures new { IfOk result (IsNewNode 8) }
+    ensures eid { IfOk result (λ n. n.endpoint.eid ≡ eid) }
+{
+    let device = device_of_two(alloc)?;
+    Ok(DeviceNode::new(endpoint(eid), 8, device))
+}
+
+/// The nodes of one device with two components.
+fn one_of_two(alloc: Global) -> Result<Vec<DeviceNode<MemBank>>, AllocError>
+    ensures { IfOk result (λ ns. AreNewNodes 8 ns.items) }
+{
+    let node = node_of_two(alloc, DEVICE)?;
+    let mut nodes = Vec::new(alloc);
+    nodes.push(node)?;
+    Ok(nodes)
+}
+
+/// The world of the agent 8 and a device with two components.
+pub fn world_of_two<'a>(
+    alloc: Global,
+    packages: &'a [Package<'a>],
+) -> Result<Small<'a>, AllocError> {
+    World::new(alloc, endpoint(8), one_of_two(alloc)?, packages)
 }
 
 /// The nodes of three devices.

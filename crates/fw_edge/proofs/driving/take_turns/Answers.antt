@@ -2,6 +2,7 @@ use Rattle.std.proofs.Common.{◌∙◌, ◌+◌, ◌*◌, arith, map, refl, sym
 use Rattle.fw_edge.specs.Drives.{delivers_in}
 use Rattle.fw_edge.specs.Ledgers.{packet_counts}
 use Rattle.fw_edge.proofs.Going.{drives_none, drives_on}
+use Rattle.fw_edge.proofs.Overs.{still_on}
 use Rattle.fw_edge.proofs.Rising.{given_none, given_on, map_length, rose_less, rose_none, rose_on}
 use Rattle.fw_edge.proofs.Sending.{sent_none, sent_turn}
 use Rattle.fw_edge.proofs.driving.take_turns.Goals as goal
@@ -11,11 +12,19 @@ returns-in-Err-clause-drives g c =
     drives_on c.args.world.now c.loop-count.world c.turn.new.world c.args.steps.now.items c.loop-count.steps.items c.turn.new.steps.items
     c.loop-count.invariant.drives c.in-Err.ensures.drives
 
+pub returns-in-Err-clause-over : goal.returns-in-Err-clause-over
+returns-in-Err-clause-over g c over =
+    (still_on c.args.world.now c.loop-count.world c.turn.new.world c.args.steps.now.items c.loop-count.steps.items c.turn.new.steps.items c.all_over.result
+    c.loop-count.invariant.over c.all_over.ensures c.if-all_over.false over).1
+
 pub loop-count-preserved : goal.loop-count-preserved
 loop-count-preserved g c = record {
   drives =
       drives_on c.args.world.now c.loop-count.world c.turn.new.world c.args.steps.now.items c.loop-count.steps.items c.turn.new.steps.items
       c.loop-count.invariant.drives c.in-Ok.ensures.goes.drives;
+  over =
+      still_on c.args.world.now c.loop-count.world c.turn.new.world c.args.steps.now.items c.loop-count.steps.items c.turn.new.steps.items c.all_over.result
+      c.loop-count.invariant.over c.all_over.ensures c.if-all_over.false;
   ticks = omega (arith, c.in-Ok.ensures.goes.ticks_rise);
   kept = c.in-Ok.ensures.kept ∙ c.loop-count.invariant.kept;
   same = c.in-Ok.ensures.links ∙ c.loop-count.invariant.same;
@@ -38,6 +47,7 @@ loop-count-preserved g c = record {
 pub loop-count-init : goal.loop-count-init
 loop-count-init g c = record {
   drives = drives_none c.args.world.now c.args.steps.now.items;
+  over = λ h. (refl, refl);
   ticks = omega arith;
   kept = refl;
   same = refl;

@@ -1,5 +1,5 @@
-use Rattle.std.proofs.Common.{◌≡◌, ◌≤◌, ◌+◌, ◌*◌, length, map}
-use Rattle.fw_edge.specs.Drives.{Drives, delivers_in, ticks_in}
+use Rattle.std.proofs.Common.{◌≡◌, ◌≤◌, ◌+◌, ◌*◌, length, map, true}
+use Rattle.fw_edge.specs.Drives.{Drives, all_over, delivers_in, ticks_in}
 use Rattle.fw_edge.specs.Ledgers.{AllRose, AllSent, AreGiven, packet_counts}
 use Rattle.fw_edge.proofs.driving.take_turns.Given as goal
 
@@ -7,6 +7,7 @@ use Rattle.fw_edge.proofs.driving.take_turns.Given as goal
 abbrev pub invariant-loop-count : goal.invariant-loop-count
 invariant-loop-count g l = record {
   drives : Drives l.fn.world l.fn.steps.items l.world l.steps.items;
+  over : all_over l.fn.world ≡ true → (l.world ≡ l.fn.world) × (l.steps.items ≡ l.fn.steps.items);
   ticks : ticks_in l.steps.items ≡ ticks_in l.fn.steps.items + l.count;
   kept : map (λ k. (g.L.Link.tally k).failures) l.links ≡ map (λ k. (g.L.Link.tally k).failures) l.fn.links;
   same : length l.links ≡ length l.fn.links;
