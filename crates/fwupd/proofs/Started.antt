@@ -13,7 +13,7 @@ use Rattle.fw_world.specs.declared.step.StepFault.TheVariants as faults
 use Rattle.fw_world.specs.declared.step.Step.{Step}
 use Rattle.fw_world.specs.declared.step.Step.TheVariants as steps
 use Rattle.fw_edge.specs.declared.driving.EdgeFault.{EdgeFault}
-use Rattle.fwupd.specs.Running.{StepsLead, IsRefusedStart, Updates, starts_of, told_by}
+use Rattle.fwupd.specs.Running.{IsRefusedStart, StepsLead, Updates, starts_of, told_by}
 use Rattle.fwupd.specs.declared.faults.RunFault.TheVariants as told
 use Rattle.fwupd.specs.declared.running.WatchFault.{WatchFault}
 use Rattle.fwupd.specs.declared.running.WatchFault.TheVariants as watches

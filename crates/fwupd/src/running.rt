@@ -2,7 +2,7 @@
 
 ghost use Rattle.std.specs.Prelude.{◌≡◌, ◌-◌, ◌^◌, ◌⊎◌, IfErr, OnOk, length, map};
 ghost use Rattle.fw_edge.specs.Ledgers.{OneFailed};
-ghost use Rattle.fwupd.specs.Running.{StepsLead, IsRefusedStart, IsUpdated, MayEnd, Starts, told_by, told_of};
+ghost use Rattle.fwupd.specs.Running.{IsRefusedStart, IsUpdated, MayEnd, Starts, StepsLead, told_by, told_of};
 
 use crate::faults::{RunFault, edge_fault};
 use fd_core::MemBank;

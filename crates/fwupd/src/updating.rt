@@ -3,7 +3,7 @@
 ghost use Rattle.std.specs.Prelude.{◌≡◌, ◌⊎◌, IfErr, IfOk, OnOk, length};
 ghost use Rattle.std.specs.Io.KnownBytes.{Appends};
 ghost use Rattle.fw_script.specs.Reports.{report_of};
-ghost use Rattle.fwupd.specs.Running.{DrivingEnds, StepsLead, IsUnlinked, IsUpdated, ReportsUpdate, UpdateEnds};
+ghost use Rattle.fwupd.specs.Running.{DrivingEnds, IsUnlinked, IsUpdated, ReportsUpdate, StepsLead, UpdateEnds};
 ghost use Rattle.fwupd.specs.Stream.{Begins};
 
 use crate::faults::RunFault;
