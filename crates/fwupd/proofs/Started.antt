@@ -1,16 +1,22 @@
 -- Updates that are started one by one, and the steps that follow.
-use Rattle.std.proofs.Common.{◌≡◌, ◌≤◌, ◌<◌, ◌+◌, ◌++◌, ◌∙◌, ℕ, zero, suc, List, [], ◌∷◌, Some, None, append_assoc, append-nil, arith, length, map, refl, sym, ap, subst, take}
+use Rattle.std.proofs.Common.{◌≡◌, ◌≤◌, ◌<◌, ◌+◌, ◌++◌, ◌∙◌, ℕ, zero, suc, List, [], ◌∷◌, Some, None, append_assoc, append-nil, arith, inl, inr, length, map, refl, sym, ap, subst, take}
 use Rattle.std.specs.Prelude.{Option, option_map, slice_get}
 use Rattle.std.proofs.Math.Seq.{take-length}
 use Rattle.std.proofs.lemmas.List.{map-append}
 use Rattle.std.proofs.lemmas.List.Sums.{sum_by-append}
 use Rattle.fw_edge.specs.Drives.{Drives, DrivesLiving, tick_in, ticks_in}
 use Rattle.fw_node.specs.Nodes.{DeviceNodeOf}
-use Rattle.fw_world.specs.Replays.{Leads, Run}
+use Rattle.fw_world.specs.Replays.{Leads, Refuses, Run, may_step}
 use Rattle.fw_world.specs.Worlds.{SiteOf, WorldOf}
+use Rattle.fw_world.specs.declared.step.StepFault.{StepFault}
+use Rattle.fw_world.specs.declared.step.StepFault.TheVariants as faults
 use Rattle.fw_world.specs.declared.step.Step.{Step}
 use Rattle.fw_world.specs.declared.step.Step.TheVariants as steps
-use Rattle.fwupd.specs.Running.{IsReached, Updates, starts_of}
+use Rattle.fw_edge.specs.declared.driving.EdgeFault.{EdgeFault}
+use Rattle.fwupd.specs.Running.{IsRefusedStart, StepsLead, Updates, starts_of, told_by}
+use Rattle.fwupd.specs.declared.faults.RunFault.TheVariants as told
+use Rattle.fwupd.specs.declared.running.WatchFault.{WatchFault}
+use Rattle.fwupd.specs.declared.running.WatchFault.TheVariants as watches
 
 -- a run followed by a run is a run
 run_append : (w v u : WorldOf) (ss ts : List Step) → Run w ss v → Run v ts u → Run w (ss ++ ts) u
@@ -61,7 +67,7 @@ pub begun_all : (w v : WorldOf) (place : ℕ) → Begun w place v → place ≡ 
 begun_all w v place h e =
     subst (λ xs. Run w (starts_of xs) v) (ap (λ n. take n w.sites) (e ∙ ap length h.same) ∙ take-length w.sites) h.run
 
-pub begun_reached : (w v : WorldOf) (place : ℕ) → Begun w place v → IsReached w v
+pub begun_reached : (w v : WorldOf) (place : ℕ) → Begun w place v → StepsLead w v
 begun_reached w v place h = record { steps = starts_of (take place w.sites); run = h.run }
 
 -- no tick has passed
@@ -84,11 +90,16 @@ updates_more w v u ticks more before after h none k counts = record {
 }
 
 -- whatever was done, steps led there
-pub updates_reached : (w v : WorldOf) (ticks : ℕ) → Updates w v ticks → IsReached w v
+pub updates_reached : (w v : WorldOf) (ticks : ℕ) → Updates w v ticks → StepsLead w v
 updates_reached w v ticks h = record { steps = starts_of w.sites ++ h.steps; run = h.run }
 
-pub updates_off : (w v u : WorldOf) (ticks : ℕ) (before after : List Step) → Updates w v ticks → Drives v before u after → IsReached w u
+pub updates_off : (w v u : WorldOf) (ticks : ℕ) (before after : List Step) → Updates w v ticks → Drives v before u after → StepsLead w u
 updates_off w v u ticks before after h k = record {
   steps = (starts_of w.sites ++ h.steps) ++ k.steps;
   run = run_append w v u (starts_of w.sites ++ h.steps) k.steps h.run k.run;
 }
+
+-- what ends the watch is told otherwise than what ends a turn
+pub watched_apart : (f : WatchFault) (e : EdgeFault) → told_by f ≡ told.Edge e → ⊥
+watched_apart watches.Unwritten e h = cc
+watched_apart watches.Memory e h = cc

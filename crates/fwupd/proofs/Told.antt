@@ -6,14 +6,14 @@ use Rattle.fw_world.specs.Worlds.{WorldOf}
 use Rattle.fw_world.specs.declared.step.Step.{Step}
 use Rattle.fw_world.specs.declared.step.StepFault.{StepFault}
 use Rattle.fwupd.specs.Replayed.{IsReplayed, IsReport, ReplayEnds, Reports}
-use Rattle.fwupd.specs.Running.{DrivingEnds, IsReached, UpdateEnds}
+use Rattle.fwupd.specs.Running.{DrivingEnds, StepsLead, UpdateEnds}
 use Rattle.fwupd.specs.Setups.{IsSetup, Says, TextFails}
 use Rattle.fwupd.specs.Stream.{Begins}
 use Rattle.fwupd.specs.declared.faults.RunFault.{RunFault}
 use Rattle.fwupd.specs.declared.faults.RunFault.TheVariants as faults
 
 -- a run over links that doesn't end well
-pub update_ends : (files : List ℕ → Option (List ℕ)) (path : List ℕ) (w v : WorldOf) (told : RunFault) (before now : Option (List ℕ)) → IsSetup files path w → IsReached w v
+pub update_ends : (files : List ℕ → Option (List ℕ)) (path : List ℕ) (w v : WorldOf) (told : RunFault) (before now : Option (List ℕ)) → IsSetup files path w → StepsLead w v
     → DrivingEnds v told before now → UpdateEnds files path told before now
 update_ends files path w v told before now setup reached (inl h) =
     inl (record { broken = h.0; world = w; setup = setup; left = v; reached = reached; written = h.1 })

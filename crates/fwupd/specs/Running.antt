@@ -1,16 +1,21 @@
 -- What a run over links makes of a world, and what is written of it.
-use Rattle.std.specs.Prelude.{ℕ, ◌≡◌, ◌≤◌, ◌++◌, ◌⊎◌, true, List, Option, map}
+use Rattle.std.specs.Prelude.{ℕ, ◌≡◌, ◌≤◌, ◌++◌, ◌⊎◌, true, List, Option, Some, map, slice_get}
 use Rattle.std.specs.Io.KnownBytes.{Appends}
 use Rattle.fw_edge.specs.Drives.{all_over, ticks_in}
+use Rattle.fw_edge.specs.declared.driving.EdgeFault.{EdgeFault}
+use Rattle.fw_edge.specs.declared.driving.EdgeFault.TheVariants as edges
 use Rattle.fw_script.specs.Reports.{report_of}
-use Rattle.fw_world.specs.Replays.{Run}
+use Rattle.fw_world.specs.Replays.{Run, may_step}
 use Rattle.fw_world.specs.Worlds.{SiteOf, WorldOf}
+use Rattle.fw_world.specs.declared.step.StepFault.{StepFault}
 use Rattle.fw_world.specs.declared.step.Step.{Step}
 use Rattle.fw_world.specs.declared.step.Step.TheVariants as steps
 use Rattle.fwupd.specs.Setups.{IsSetup, SetupFails}
 use Rattle.fwupd.specs.Stream.{Begins}
 use Rattle.fwupd.specs.declared.faults.RunFault.{RunFault}
 use Rattle.fwupd.specs.declared.faults.RunFault.TheVariants as faults
+use Rattle.fwupd.specs.declared.running.WatchFault.{WatchFault}
+use Rattle.fwupd.specs.declared.running.WatchFault.TheVariants as watches
 
 -- the update of each device is started with package 1, in configured order
 abbrev pub starts_of : List SiteOf → List Step
@@ -33,7 +38,7 @@ pub record IsUpdated (w v : WorldOf) : Type 0 where
   pub ended : (all_over v ≡ true) ⊎ (ticks ≡ 80000)
 
 -- some steps were taken
-pub record IsReached (w v : WorldOf) : Type 0 where
+pub record StepsLead (w v : WorldOf) : Type 0 where
   pub steps : List Step
   pub run : Run w steps v
 
@@ -47,6 +52,24 @@ abbrev pub IsBroken : RunFault → Type 0
 IsBroken (faults.Edge fault) = Unit {0}
 IsBroken faults.Trace = Unit {0}
 IsBroken fault = ⊥
+
+-- how a run is told of that ends within a turn
+abbrev pub told_of : EdgeFault → RunFault
+told_of edges.Memory = faults.Memory
+told_of fault = faults.Edge fault
+
+-- and where what looks on can't go on
+abbrev pub told_by : WatchFault → RunFault
+told_by watches.Unwritten = faults.Trace
+told_by watches.Memory = faults.Memory
+
+-- The start of a device's update with package 1 is not allowed.
+pub record IsRefusedStart (w : WorldOf) : Type 0 where
+  pub place : ℕ
+  pub site : SiteOf
+  pub at : slice_get w.sites place ≡ Some site
+  pub fault : StepFault
+  pub refused : may_step w (steps.Start site.node.endpoint.eid 1) ≡ Some fault
 
 -- or memory was refused
 abbrev pub MayEnd : RunFault → Type 0
@@ -74,7 +97,7 @@ pub record ReportsReached (files : List ℕ → Option (List ℕ)) (config : Lis
   pub world : WorldOf
   pub setup : IsSetup files config world
   pub left : WorldOf
-  pub reached : IsReached world left
+  pub reached : StepsLead world left
   pub written : Appends before now (report_of left)
 
 -- A beginning of it is.
@@ -83,7 +106,7 @@ pub record BreaksReport (files : List ℕ → Option (List ℕ)) (config : List 
   pub world : WorldOf
   pub setup : IsSetup files config world
   pub left : WorldOf
-  pub reached : IsReached world left
+  pub reached : StepsLead world left
   pub begun : Begins before now (report_of left)
 
 -- Nothing is.

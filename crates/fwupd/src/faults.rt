@@ -1,6 +1,7 @@
 //! Why a run ends with status 1.
 
-ghost use Rattle.fwupd.specs.Running.{MayEnd};
+ghost use Rattle.std.specs.Prelude.{◌≡◌};
+ghost use Rattle.fwupd.specs.Running.{MayEnd, told_of};
 
 use crate::inspection::InspectFault;
 use crate::stream::AnswerFault;
@@ -58,7 +59,8 @@ pub fn inspection_fault(fault: InspectFault) -> RunFault {
 
 /// Why a run over links ended early.
 pub fn edge_fault(fault: EdgeFault) -> RunFault
-    ensures { MayEnd result }
+    ensures told { result ≡ told_of fault }
+    ensures ends { MayEnd result }
 {
     match fault {
         EdgeFault::Memory => RunFault::Memory,

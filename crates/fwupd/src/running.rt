@@ -1,7 +1,8 @@
 //! Updating devices over links.
 
-ghost use Rattle.std.specs.Prelude.{◌≡◌, IfErr, OnOk, length};
-ghost use Rattle.fwupd.specs.Running.{IsReached, IsUpdated, MayEnd, Starts};
+ghost use Rattle.std.specs.Prelude.{◌≡◌, ◌-◌, ◌^◌, ◌⊎◌, IfErr, OnOk, length, map};
+ghost use Rattle.fw_edge.specs.Ledgers.{OneFailed};
+ghost use Rattle.fwupd.specs.Running.{IsRefusedStart, IsUpdated, MayEnd, Starts, StepsLead, told_by, told_of};
 
 use crate::faults::{RunFault, edge_fault};
 use fd_core::MemBank;
@@ -38,7 +39,8 @@ pub trait Watch {
 
 /// Why a run ends that is looked at no more.
 pub fn watch_fault(fault: WatchFault) -> RunFault
-    ensures { MayEnd result }
+    ensures told { result ≡ told_by fault }
+    ensures ends { MayEnd result }
 {
     match fault {
         WatchFault::Unwritten => RunFault::Trace,
@@ -50,8 +52,10 @@ pub fn watch_fault(fault: WatchFault) -> RunFault
 fn start_all(world: &mut World<'_, MemBank>) -> Result<(), RunFault>
     ensures started { OnOk result (Starts world.old world.new) }
     ensures same { OnOk result (world.new.sites ≡ world.old.sites) }
-    ensures reached { IsReached world.old world.new }
+    ensures reached { StepsLead world.old world.new }
     ensures fault { IfErr result MayEnd }
+    ensures refused { IfErr result (λ e. e ≡ RunFault.Edge EdgeFault.Step → IsRefusedStart world.new) }
+    ensures none { IfErr result (λ e. e ≡ RunFault.Edge EdgeFault.Frame → ⊥) }
 {
     for place in 0..world.device_count() {
         let Some(node) = world.device_at(place) else {
@@ -67,11 +71,20 @@ fn start_all(world: &mut World<'_, MemBank>) -> Result<(), RunFault>
     Ok(())
 }
 
+/// Why a run ends whose turn ended early. What the turn left is seen all the same, whatever becomes of what is told of it.
+fn broken_off<V: Watch>(world: &World<'_, MemBank>, watch: &mut V, fault: EdgeFault) -> RunFault
+    ensures { result ≡ told_of fault }
+{
+    let _ = watch.see(world);
+    edge_fault(fault)
+}
+
 /// Updates each device of a new world with package 1 over its link, turn by turn, until each session is Done or Failed, and at
-/// most for 80,000 turns.
+/// most for 80,000 turns. Each turn is seen by what looks on, the one too in which a link fails.
 ///
 /// # Errors
-/// `Edge` where a link failed or the clock stands at its end, `Memory` where memory was refused, and what ends the watch.
+/// `Edge` where a link failed, a start is refused or the clock stands at its end, `Memory` where memory was refused, and what ends
+/// the watch.
 pub fn update_all<L: Link, V: Watch>(
     alloc: Global,
     world: &mut World<'_, MemBank>,
@@ -80,8 +93,11 @@ pub fn update_all<L: Link, V: Watch>(
 ) -> Result<(), RunFault>
     requires { length links.old ≡ length world.old.sites }
     ensures updated { OnOk result (IsUpdated world.old world.new) }
-    ensures reached { IsReached world.old world.new }
+    ensures reached { StepsLead world.old world.new }
     ensures fault { IfErr result MayEnd }
+    ensures kept { OnOk result (map (λ l. (L.tally l).failures) links.new ≡ map (λ l. (L.tally l).failures) links.old) }
+    ensures frame { IfErr result (λ e. e ≡ RunFault.Edge EdgeFault.Frame → OneFailed (map (λ l. (L.tally l).failures) links.old) (map (λ l. (L.tally l).failures) links.new)) }
+    ensures step { IfErr result (λ e. e ≡ RunFault.Edge EdgeFault.Step → IsRefusedStart world.new ⊎ (world.new.now ≡ 2 ^ 32 - 1)) }
 {
     match start_all(world) {
         Ok(()) => {}
@@ -91,7 +107,7 @@ pub fn update_all<L: Link, V: Watch>(
     for _ in 0..TURNS {
         let driven = match drive(world, links, 1, &mut steps) {
             Ok(driven) => driven,
-            Err(fault) => return Err(edge_fault(fault)),
+            Err(fault) => return Err(broken_off(world, watch, fault)),
         };
         if driven.turns == 0 {
             return Ok(());

@@ -3,7 +3,7 @@
 ghost use Rattle.std.specs.Prelude.{◌≡◌, ◌⊎◌, IfErr, IfOk, OnOk, length};
 ghost use Rattle.std.specs.Io.KnownBytes.{Appends};
 ghost use Rattle.fw_script.specs.Reports.{report_of};
-ghost use Rattle.fwupd.specs.Running.{DrivingEnds, IsReached, IsUnlinked, IsUpdated, ReportsUpdate, UpdateEnds};
+ghost use Rattle.fwupd.specs.Running.{DrivingEnds, IsUnlinked, IsUpdated, ReportsUpdate, StepsLead, UpdateEnds};
 ghost use Rattle.fwupd.specs.Stream.{Begins};
 
 use crate::faults::RunFault;
@@ -82,7 +82,7 @@ fn update_over<L: Link + Drop, S: Wires<L>, V: Watch, W: Write>(
 ) -> Result<(), RunFault>
     ensures updated { OnOk result (IsUpdated world.old world.new) }
     ensures written { OnOk result (Appends (W.contents writer.old) (W.contents writer.new) (report_of world.new)) }
-    ensures reached { IsReached world.old world.new }
+    ensures reached { StepsLead world.old world.new }
     ensures fault { IfErr result (λ e. DrivingEnds world.new e (W.contents writer.old) (W.contents writer.new)) }
 {
     let mut links = match open_all(alloc, world, wires) {

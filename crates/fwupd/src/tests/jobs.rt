@@ -8,9 +8,10 @@ use crate::replaying::replay_files;
 use crate::running::{Watch, WatchFault};
 use crate::updating::{Wires, update_files};
 use fd_core::MemBank;
-use fw_edge::MemLink;
+use fw_edge::{Link, MemLink, StreamLink};
 use fw_world::World;
 use std::alloc::Global;
+use std::os::unix::net::UnixStream;
 use std::test::Fail;
 
 /// Files in memory: a path and the bytes of each.
@@ -112,6 +113,35 @@ impl Wires<MemLink> for MemWires {
     }
 }
 
+/// A link whose device's end is closed.
+#[derive(Drop)]
+struct CutWires {
+    /// Where what the agent's end takes comes out.
+    taken: UnixStream,
+    link: Option<StreamLink<UnixStream>>,
+}
+
+impl CutWires {
+    /// The link, to be opened once.
+    fn new(rt: &HostRuntime) -> Result<CutWires, Fail> {
+        let (agent, taken) = UnixStream::pair(rt)?;
+        let (device, _) = UnixStream::pair(rt)?;
+        Ok(CutWires {
+            taken,
+            link: Some(StreamLink::new(agent, device)),
+        })
+    }
+}
+
+impl Wires<StreamLink<UnixStream>> for CutWires {
+    fn open(&mut self, device: u8) -> Result<StreamLink<UnixStream>, RunFault> {
+        match self.link.take() {
+            Some(link) => Ok(link),
+            None => Err(RunFault::Socket(device)),
+        }
+    }
+}
+
 /// Counts the turns that it sees, and can't tell of the one of this number.
 #[derive(Drop)]
 struct Counter {
@@ -145,56 +175,71 @@ fn package(rt: &HostRuntime) -> Result<Vec<u8>, Fail> {
     Ok(bytes)
 }
 
-/// What an update over links in memory writes, its fault, and how many turns were seen.
-fn updated<'a>(
+/// What an update over these links writes, its fault, and how many turns were seen.
+fn updated<'a, L: Link + Drop, S: Wires<L>>(
     rt: &HostRuntime,
     config: &'a [u8],
     package: &'a [u8],
-    closed: u8,
+    wires: &mut S,
     broken: usize,
 ) -> Result<(Vec<u8>, usize), Fail> {
     let files: [(&'a str, &'a [u8]); 2] = [("c", config), ("p", package)];
-    let mut wires = MemWires {
-        alloc: rt.alloc(),
-        opened: 0,
-        closed,
-    };
     let mut watch = Counter { turns: 0, broken };
     let mut written = Vec::new(rt.alloc());
     let end = update_files(
         rt.alloc(),
         &MemFiles { files: &files },
         "c",
-        &mut wires,
+        wires,
         &mut watch,
         &mut written,
     );
     Ok((outcome(rt, end, written)?, watch.turns))
 }
 
+/// The configuration, with a package.
+const WHOLE: &[u8] = b"agent 8 00000000-0000-0000-0000-000000000000\n\
+    device 9 00000000-0000-0000-0000-000000000000\n\
+    descriptor 0000 3412\n\
+    component 10 1 0 1 1.0 AA\n\
+    package p\n";
+
 #[test]
 fn an_update_is_reported_turn_by_turn(rt: HostRuntime) -> Result<(), Fail> {
-    let whole = b"agent 8 00000000-0000-0000-0000-000000000000\n\
-        device 9 00000000-0000-0000-0000-000000000000\n\
-        descriptor 0000 3412\n\
-        component 10 1 0 1 1.0 AA\n\
-        package p\n";
     let report = b"now 12\nagent 8 up\ndevice 9 up ACTIVATE session Done sent 27\n\
         active 9 10 1 241 000102030405060708090A0B0C0D0E0F..\nlog 3 last -\n\
         applied 9 10 1 241\nrecorded 9 1 1\nactivated 9 10 1 241\n"
         .as_slice();
     let table: [(&[u8], u8, usize, &[u8], &[u8], usize); 4] = [
-        (whole, 0, 0, report, b"", 12),
-        (whole, 9, 0, b"", b"socket: 9", 0),
+        (WHOLE, 0, 0, report, b"", 12),
+        (WHOLE, 9, 0, b"", b"socket: 9", 0),
         (CONFIG, 0, 0, b"", b"package: none", 0),
-        (whole, 0, 2, b"now 2\n", b"\ntrace", 2),
+        (WHOLE, 0, 2, b"now 2\n", b"\ntrace", 2),
     ];
     let package = package(&rt)?;
     for (config, closed, broken, begins, ends, turns) in table {
-        let (text, seen) = updated(&rt, config, &package, closed, broken)?;
+        let mut wires = MemWires {
+            alloc: rt.alloc(),
+            opened: 0,
+            closed,
+        };
+        let (text, seen) = updated(&rt, config, &package, &mut wires, broken)?;
         assert!(rt; text.starts_with(begins), "{turns} {}", text.escape_ascii());
         assert!(rt; text.ends_with(ends));
         assert_eq!(rt; seen, turns);
     }
+    Ok(())
+}
+
+#[test]
+fn a_turn_in_which_a_link_fails_is_seen(rt: HostRuntime) -> Result<(), Fail> {
+    let mut wires = CutWires::new(&rt)?;
+    let package = package(&rt)?;
+    let (text, seen) = updated(&rt, WHOLE, &package, &mut wires, 0)?;
+    let report = b"now 1\nagent 8 up\ndevice 9 up IDLE session Query sent 1\n\
+        active 9 10 1 1 AA\nlog 1 last -\nedge: Frame"
+        .as_slice();
+    assert_eq!(rt; text.as_slice(), report);
+    assert_eq!(rt; seen, 1);
     Ok(())
 }

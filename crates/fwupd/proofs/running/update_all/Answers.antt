@@ -1,6 +1,7 @@
-use Rattle.std.proofs.Common.{◌∙◌, ◌+◌, arith, ap, inl, length, subst, sym}
+use Rattle.std.proofs.Common.{◌∙◌, ◌+◌, arith, ap, inl, length, refl, subst, sym}
 use Rattle.fwupd.specs.Running.{Updates}
-use Rattle.fwupd.proofs.Started.{updates_more, updates_none, updates_off, updates_reached}
+use Rattle.fwupd.proofs.Started.{updates_more, updates_none, updates_off, updates_reached, watched_apart}
+use Rattle.fw_edge.specs.declared.driving.EdgeFault.TheVariants as edges
 use Rattle.fwupd.proofs.running.update_all.Goals as goal
 
 pub loop-init : goal.loop-init
@@ -8,6 +9,7 @@ loop-init g c = record {
   updates = updates_none c.args.world.now c.start_all.new.world c.in-Ok.ensures.started;
   devices = c.requires ∙ ap length (sym c.in-Ok.ensures.same);
   none = c.new-steps.ensures.items;
+  kept = refl;
 }
 
 pub returns-in-Err-drive-clause-reached : goal.returns-in-Err-drive-clause-reached
@@ -31,6 +33,12 @@ pub returns-in-Err-see-clause-reached : goal.returns-in-Err-see-clause-reached
 returns-in-Err-see-clause-reached g c =
     updates_off c.args.world.now c.loop.world c.drive.new.world c.loop.counter c.loop.steps.items c.drive.new.steps.items c.loop.invariant.updates c.drive.ensures.drives.drives
 
+pub returns-in-Err-see-clause-frame : goal.returns-in-Err-see-clause-frame
+returns-in-Err-see-clause-frame g c e = absurd (watched_apart c.in-Err-see.fault edges.Frame (sym c.watch_fault.ensures.told ∙ e))
+
+pub returns-in-Err-see-clause-step : goal.returns-in-Err-see-clause-step
+returns-in-Err-see-clause-step g c e = absurd (watched_apart c.in-Err-see.fault edges.Step (sym c.watch_fault.ensures.told ∙ e))
+
 pub loop-preserved : goal.loop-preserved
 loop-preserved g c = record {
   updates =
@@ -39,4 +47,5 @@ loop-preserved g c = record {
       c.loop.invariant.none c.drive.ensures.drives.drives c.in-Ok-drive.ensures.ticks);
   devices = c.drive.ensures.devices;
   none = c.clear.ensures.items;
+  kept = c.in-Ok-drive.ensures.kept ∙ c.loop.invariant.kept;
 }

@@ -1,4 +1,4 @@
-use Rattle.std.proofs.Common.{◌≡◌, [], length}
+use Rattle.std.proofs.Common.{◌≡◌, [], length, map}
 use Rattle.fwupd.specs.Running.{Updates}
 use Rattle.fwupd.proofs.running.update_all.Given as goal
 
@@ -8,4 +8,5 @@ invariant-loop g l = record {
   updates : Updates l.fn.world l.world l.counter;
   devices : length l.links ≡ length l.world.sites;
   none : l.steps.items ≡ [];
+  kept : map (λ k. (g.L.Link.tally k).failures) l.links ≡ map (λ k. (g.L.Link.tally k).failures) l.fn.links;
 }
