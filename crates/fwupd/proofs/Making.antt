@@ -8,7 +8,6 @@ use Rattle.fd_core.specs.Banks.{AreApart}
 use Rattle.fd_core.specs.Components.{HasComponents}
 use Rattle.fd_core.specs.Images.{RowOf, key_of}
 use Rattle.fwup_wire.specs.declared.values.Key.{Key}
-use Rattle.fd_core.specs.States.{Phase}
 use Rattle.fw_message.specs.Laws.{IsUnapplied}
 use Rattle.fw_node.specs.Nodes.{DeviceNodeOf}
 use Rattle.fw_script.specs.Configs.{ComponentConfigOf, DeviceConfigOf}

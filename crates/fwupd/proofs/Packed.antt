@@ -1,5 +1,5 @@
 -- Files that are read one after the other.
-use Rattle.std.proofs.Common.{◌≡◌, ◌≢◌, ◌<◌, ◌+◌, ◌++◌, ◌⊎◌, ◌∙◌, ℕ, zero, suc, List, [], ◌∷◌, Option, false, true, Result, Ok, Err, IsOk, inl, inr, length, map, take, get_or, Vec, String, Global, refl, sym, ap, subst, arith}
+use Rattle.std.proofs.Common.{◌≡◌, ◌≢◌, ◌<◌, ◌+◌, ◌++◌, ◌⊎◌, ◌∙◌, ℕ, suc, List, [], ◌∷◌, Option, false, true, Result, Ok, Err, IsOk, inl, inr, length, map, take, get_or, Vec, String, Global, refl, sym, ap, subst, arith}
 use Rattle.std.specs.Prelude.{drop, string_bytes}
 use Rattle.std.proofs.Math.Seq.{split_at, take-suc}
 use Rattle.std.proofs.lemmas.List.{map-append}
@@ -11,13 +11,12 @@ use Rattle.fw_node.specs.Nodes.{DeviceNodeOf}
 use Rattle.fw_script.specs.Configs.{config_of}
 use Rattle.fw_script.specs.Seen.{config_seen, device_of}
 use Rattle.fw_script.specs.declared.config.Config.{Config}
-use Rattle.fw_script.specs.Faults.{ReadsAs}
 use Rattle.fw_script.specs.declared.faults.ScriptCause.TheVariants as causes
 use Rattle.fw_script.specs.declared.faults.ScriptFault.{ScriptFault}
 use Rattle.fw_world.specs.Replays.{new_world}
 use Rattle.fw_world.specs.Worlds.{WorldOf}
 use Rattle.fwupd.specs.Nodes.{nodes_made}
-use Rattle.fwupd.specs.Setups.{ArePackages, ArePacked, IsFaulty, IsPackageFile, IsPacked, IsSetup, IsUnsaid, MayHold, PackageFails, PackagesFail, Says, TextFault}
+use Rattle.fwupd.specs.Setups.{ArePackages, ArePacked, IsPacked, IsSetup, IsUnsaid, MayHold, PackageFails, PackagesFail, Says, TextFault}
 use Rattle.fwupd.specs.declared.faults.RunFault.{RunFault}
 use Rattle.fwupd.specs.declared.faults.RunFault.TheVariants as faults
 

@@ -1,19 +1,17 @@
 -- Updates that are started one by one, and the steps that follow.
-use Rattle.std.proofs.Common.{◌≡◌, ◌≤◌, ◌<◌, ◌+◌, ◌++◌, ◌∙◌, ℕ, zero, suc, List, [], ◌∷◌, Some, None, append_assoc, append-nil, arith, inl, inr, length, map, refl, sym, ap, subst, take}
+use Rattle.std.proofs.Common.{◌≡◌, ◌+◌, ◌++◌, ◌∙◌, ℕ, zero, suc, List, [], ◌∷◌, Some, None, append_assoc, append-nil, arith, length, refl, sym, ap, subst, take}
 use Rattle.std.specs.Prelude.{Option, option_map, slice_get}
 use Rattle.std.proofs.Math.Seq.{take-length}
 use Rattle.std.proofs.lemmas.List.{map-append}
 use Rattle.std.proofs.lemmas.List.Sums.{sum_by-append}
-use Rattle.fw_edge.specs.Drives.{Drives, DrivesLiving, tick_in, ticks_in}
+use Rattle.fw_edge.specs.Drives.{Drives, tick_in, ticks_in}
 use Rattle.fw_node.specs.Nodes.{DeviceNodeOf}
-use Rattle.fw_world.specs.Replays.{Leads, Refuses, Run, may_step}
+use Rattle.fw_world.specs.Replays.{Leads, Run}
 use Rattle.fw_world.specs.Worlds.{SiteOf, WorldOf}
-use Rattle.fw_world.specs.declared.step.StepFault.{StepFault}
-use Rattle.fw_world.specs.declared.step.StepFault.TheVariants as faults
 use Rattle.fw_world.specs.declared.step.Step.{Step}
 use Rattle.fw_world.specs.declared.step.Step.TheVariants as steps
 use Rattle.fw_edge.specs.declared.driving.EdgeFault.{EdgeFault}
-use Rattle.fwupd.specs.Running.{IsRefusedStart, StepsLead, Updates, starts_of, told_by}
+use Rattle.fwupd.specs.Running.{StepsLead, Updates, starts_of, told_by}
 use Rattle.fwupd.specs.declared.faults.RunFault.TheVariants as told
 use Rattle.fwupd.specs.declared.running.WatchFault.{WatchFault}
 use Rattle.fwupd.specs.declared.running.WatchFault.TheVariants as watches

@@ -1,5 +1,5 @@
 -- What is told of a job on a world.
-use Rattle.std.proofs.Common.{◌≡◌, ◌⊎◌, ◌<◌, ◌+◌, ℕ, List, Option, None, Some, inl, inr, length, refl, sym, ap, subst}
+use Rattle.std.proofs.Common.{◌≡◌, ◌⊎◌, ◌<◌, ◌+◌, ℕ, List, Option, None, Some, inl, inr, length, refl, ap, subst}
 use Rattle.std.specs.Io.KnownBytes.{Appends}
 use Rattle.fw_script.specs.Schedules.{script_of}
 use Rattle.fw_world.specs.Worlds.{WorldOf}

@@ -1,5 +1,5 @@
 -- What a run over links makes of a world, and what is written of it.
-use Rattle.std.specs.Prelude.{ℕ, ◌≡◌, ◌≤◌, ◌++◌, ◌⊎◌, true, List, Option, Some, map, slice_get}
+use Rattle.std.specs.Prelude.{ℕ, ◌≡◌, ◌++◌, ◌⊎◌, true, List, Option, Some, map, slice_get}
 use Rattle.std.specs.Io.KnownBytes.{Appends}
 use Rattle.fw_edge.specs.Drives.{all_over, ticks_in}
 use Rattle.fw_edge.specs.declared.driving.EdgeFault.{EdgeFault}

@@ -1,6 +1,6 @@
 use Rattle.std.proofs.Common.{◌∙◌, ◌+◌, arith, ap, inl, length, refl, subst, sym}
 use Rattle.fwupd.specs.Running.{Updates}
-use Rattle.fwupd.proofs.Started.{updates_more, updates_none, updates_off, updates_reached, watched_apart}
+use Rattle.fwupd.proofs.Started.{updates_more, updates_none, updates_off, watched_apart}
 use Rattle.fw_edge.specs.declared.driving.EdgeFault.TheVariants as edges
 use Rattle.fwupd.proofs.running.update_all.Goals as goal
 
