@@ -11,11 +11,9 @@ use crate::drops::DropCause;
 use mctp_ctl::{CONTROL, Endpoint};
 use mctp_wire::{Head, RawPacket};
 use pldm_base::{
-    PldmHead, Reply, Role, TYPE_BASE, TYPE_FIRMWARE_UPDATE, Tid, answer_base, completion,
+    MESSAGE_TYPE, PldmHead, Reply, Role, TYPE_BASE, TYPE_FIRMWARE_UPDATE, Tid, answer_base,
+    completion,
 };
-
-/// The message type of PLDM: the first byte of its messages.
-const PLDM: u8 = 0x01;
 
 /// An MCTP endpoint and PLDM terminus that holds no firmware device.
 #[derive(Clone, Copy, Debug)]
@@ -71,7 +69,7 @@ impl Responder {
                 Some(answer) => Ok(self.packet(head, answer.as_slice())),
                 None => Err(DropCause::Message),
             },
-            [PLDM, ..] => self.answer_pldm(head, message),
+            [MESSAGE_TYPE, ..] => self.answer_pldm(head, message),
             _ => Err(DropCause::Kind),
         }
     }

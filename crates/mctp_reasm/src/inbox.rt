@@ -10,7 +10,7 @@ use mctp_wire::{Head, Packet};
 use std::marker::Model;
 
 /// Tags of a direction: the tag of a message has three bits (DSP0236).
-const TAGS: usize = 8;
+pub const TAGS: usize = 8;
 
 /// The assemblies of the messages that a node hears from one peer, one a tag: of that peer's requests (TO set), or of its
 /// replies (TO clear).

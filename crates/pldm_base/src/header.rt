@@ -18,7 +18,7 @@ pub const TYPE_BASE: u8 = 0;
 pub const TYPE_FIRMWARE_UPDATE: u8 = 5;
 
 /// The MCTP message type of PLDM, with the integrity check bit clear.
-const MESSAGE_TYPE: u8 = 0x01;
+pub const MESSAGE_TYPE: u8 = 0x01;
 
 /// The place of the request bit in the second byte.
 const RQ_BIT: u32 = 7;

@@ -3,9 +3,8 @@
 ghost use Rattle.std.specs.Prelude.{◌≡◌};
 ghost use Rattle.pldm_exch.specs.Kept.{AreKept, answerer_tick, kept_tick, kept_with, none_kept, request_heard};
 
-use crate::rests::TAGS;
 use crate::times::HOLD;
-use mctp_reasm::Message;
+use mctp_reasm::{Message, TAGS};
 use std::marker::Model;
 
 /// An answer, the identifier of its request, and the ticks since it was kept.

@@ -4,9 +4,9 @@ ghost use Rattle.std.specs.Prelude.{◌≡◌, ◌≤◌, ◌%◌, length, List,
 ghost use Rattle.pldm_exch.specs.Caller.{IsAnswerTo, IsCaller, abandoned, answer_body, answer_heard, asking, begun, caller_tick, fresh, is_answer_head, is_quiet, may_begin, sends_at};
 ghost use Rattle.pldm_exch.specs.Fields.{open_of};
 
-use crate::rests::{Rests, TAGS};
+use crate::rests::Rests;
 use crate::times::{GIVEN_UP, RETRY};
-use mctp_reasm::Message;
+use mctp_reasm::{Message, TAGS};
 use pldm_base::{PldmHead, Reply};
 use std::marker::Model;
 

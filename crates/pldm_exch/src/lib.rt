@@ -20,7 +20,7 @@ pub use laws::{
     answers_are_kept, answers_stay_lawful, callers_stay_lawful, eight_requests_rest, kept_change,
     open_requests_repeat, repeats_answer_the_request, rests_change, rests_outlast_sendings,
 };
+pub use mctp_reasm::TAGS;
 pub use request::{Brought, Request};
-pub use rests::TAGS;
 pub use taker::Taker;
 pub use times::{DEAF, GIVEN_UP, HOLD, LIFE, RETIRE, RETRY};

@@ -4,10 +4,8 @@ ghost use Rattle.std.specs.Prelude.{◌≡◌, ◌<◌, ◌==◌, get_or, slice_
 ghost use Rattle.pldm_exch.specs.Rests.{AreRests, fallen, no_rests};
 
 use crate::times::RETIRE;
+use mctp_reasm::TAGS;
 use std::marker::Model;
-
-/// Tags of a direction: the tag of a message has three bits (DSP0236).
-pub const TAGS: usize = 8;
 
 /// The ticks until each of the eight tags may be used again: 0 to 40.
 #[derive(Debug, Drop)]
