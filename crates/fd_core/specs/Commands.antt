@@ -246,6 +246,14 @@ switch_by v SwitchRow.Switch =
 abbrev pub switch_take : DeviceState → Bool → Taken
 switch_take v works = switch_by v (switch_row v.components v.rows v.phase works)
 
+-- whether ActivateFirmware activates now, where the bank's call works
+abbrev pub is_switch : SwitchRow → Bool
+is_switch (SwitchRow.RefuseSwitch code) = false
+is_switch SwitchRow.Switch = true
+
+abbrev pub may_activate : DeviceState → Bool
+may_activate v = is_switch (switch_row v.components v.rows v.phase true)
+
 -- CancelUpdate
 
 pub data CancelRow : Type 0 where

@@ -3,8 +3,10 @@ mod Allowing
 pub mod Apart
 pub mod Applied
 mod Closings
+mod Completing
 pub mod Counted
 mod Finding
+mod Growing
 pub mod Moments
 mod Noting
 mod Openings

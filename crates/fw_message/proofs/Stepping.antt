@@ -67,7 +67,7 @@ device_refuses w pairs p place s e nodes is at found h =
     let node : node_at w.nodes (device_of s) ≡ Some p.node = at_node w.nodes (device_of s) place p.node at' here in
     let has : HasNode w s = rw (is, node) refl in
     elim h [
-      | inl r ↦ rw r.0 (r.1, has, λ works. rw is (world_allows w (device_of s) place (pair_step works s) p.node at' here (r.2 works)))
+      | inl r ↦ rw r.0 (rw node r.1, has, λ works. rw is (world_allows w (device_of s) place (pair_step works s) p.node at' here (r.2 works)))
       | inr r ↦ rw r.0 (refused_as w s has (λ works. rw is (world_refuses w (device_of s) place (pair_step works s) p.node at' here (r.1 works))))
     ]
 

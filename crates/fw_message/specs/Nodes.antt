@@ -1,7 +1,10 @@
 -- A device with its session as the world keeps them.
-use Rattle.std.specs.Prelude.{◌&&◌, ℕ, Bool, false, is_some, not, true, List, [], Option, Some, None}
+use Rattle.std.specs.Prelude.{◌&&◌, ◌==◌, ℕ, Bool, false, is_some, not, true, List, [], Option, Some, None}
+use Rattle.fd_core.specs.Commands.{may_activate}
 use Rattle.fd_core.specs.Images.{Put, puts}
 use Rattle.fd_core.specs.States.{DeviceState}
+use Rattle.ua_core.specs.declared.state.SessionState.{SessionState}
+use Rattle.ua_core.specs.declared.state.SessionState.TheVariants as stands
 use Rattle.fw_message.specs.Pairs.{HeldOf, PairOf, is_empty}
 use Rattle.fwup_wire.specs.Values.{AnswerOf, CommandOf}
 use Rattle.fw_message.specs.Worlds.{NodeOf}
@@ -38,6 +41,24 @@ waits (Some h) = not (is_some h.reply)
 -- a device that is told so of its own requests may take what the agent asked
 abbrev pub may_take : PairOf → Bool → Bool
 may_take m quiet = waits m.down && not (quiet && not (is_empty m.up))
+
+-- whether the device activates if it takes this command and its bank works
+abbrev pub follows : DeviceState → CommandOf → Bool
+follows v (CommandOf.ActivateFirmware self_contained) = may_activate v
+follows v c = false
+
+abbrev pub follows_cell : DeviceState → Option HeldOf → Bool
+follows_cell v None = false
+follows_cell v (Some h) = follows v h.command
+
+-- whether a session makes a record of this command: a good ApplyComplete, in Apply
+abbrev pub is_completion : CommandOf → SessionState → Bool
+is_completion (CommandOf.ApplyComplete result method) stands.Apply = result == 0
+is_completion c state = false
+
+abbrev pub completes : SessionState → Option HeldOf → Bool
+completes state None = false
+completes state (Some h) = is_completion h.command state
 
 -- what ActivateFirmware activates, if it is taken
 abbrev pub put_by : DeviceState → CommandOf → List Put

@@ -41,6 +41,15 @@ pub record Stepped : Type 0 where
   pub after : PairOf
   pub noted : List EntryOf
 
+abbrev pub has_entry : List EntryOf → Bool
+has_entry [] = false
+has_entry (e ∷ es) = true
+
+-- whether a step adds to the history, if it may be taken
+abbrev pub adds : Option Stepped → Bool
+adds None = false
+adds (Some t) = has_entry t.noted
+
 -- A step of a pair. `quiet` is what a device is told in a Take: that it has no command of its own under way. `works` says
 -- whether the one call of its bank that the step makes succeeds.
 pub data StepOf : Type 0 where

@@ -3,7 +3,7 @@ use Rattle.std.specs.Prelude.{ℕ, ◌≡◌, ◌==◌, ◌+◌, ◌||◌, is_so
 use Rattle.fw_package.specs.Package.{PackageText}
 use Rattle.fw_message.specs.Nodes.{CountedOf}
 use Rattle.fd_core.specs.Banks.{Rose}
-use Rattle.fw_message.specs.Worlds.{NodeOf, WorldOf, agent_restarted, device_of, named_step, needs_memory, node_at, refusal_of, restarts_agent, world_after}
+use Rattle.fw_message.specs.Worlds.{NodeOf, WorldOf, agent_restarted, device_of, named_step, needs_memory, node_at, refusal_of, restarts_agent, stepped_at, world_after}
 use Rattle.fw_message.specs.declared.step.MessageStep.{MessageStep}
 use Rattle.fw_message.specs.declared.step.MessageStepFault.{MessageStepFault}
 use Rattle.fw_message.specs.declared.step.MessageStepFault.TheVariants as faults
@@ -52,5 +52,6 @@ HasNode w s = (restarts_agent w.agent s || is_some (node_at w.nodes (device_of s
 abbrev pub Refuses : WorldOf → MessageStep → MessageStepFault → Type 0
 Refuses w s faults.NoSuchNode = (restarts_agent w.agent s ≡ false) × (node_at w.nodes (device_of s) ≡ None)
 Refuses w s faults.Memory =
-    (needs_memory s ≡ true) × HasNode w s × ((works : Bool) → is_some (world_after w (named_step w.agent works s)) ≡ true)
+    (needs_memory s (stepped_at w.packages s (node_at w.nodes (device_of s))) ≡ true) × HasNode w s
+    × ((works : Bool) → is_some (world_after w (named_step w.agent works s)) ≡ true)
 Refuses w s fault = (fault ≡ refusal_of s) × HasNode w s × ((works : Bool) → world_after w (named_step w.agent works s) ≡ None)

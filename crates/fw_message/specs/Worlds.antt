@@ -3,7 +3,7 @@ use Rattle.std.specs.Prelude.{ℕ, ◌≡◌, ◌⊎◌, ◌==◌, Bool, true, f
 use Rattle.std.specs.Option.{option_map}
 use Rattle.fw_package.specs.Package.{PackageText}
 use Rattle.fw_message.specs.History.{EntryOf}
-use Rattle.fw_message.specs.Pairs.{PairOf, StepOf, Stepped, pair_after}
+use Rattle.fw_message.specs.Pairs.{PairOf, StepOf, Stepped, adds, pair_after}
 use Rattle.fw_message.specs.declared.side.Side.TheVariants as sides
 use Rattle.fw_message.specs.declared.side.Way.TheVariants as ways
 use Rattle.fw_message.specs.declared.step.MessageStep.{MessageStep}
@@ -119,6 +119,11 @@ pair_step works (steps.Verdict device verdict) = StepOf.Judge verdict works
 pair_step works (steps.TimeOut device side) = StepOf.TimeOut side
 pair_step works (steps.Restart device) = StepOf.Restart sides.Device
 
+-- what a step makes of its device's pair where its call of the bank works, if there is such a device and the step may be taken
+abbrev pub stepped_at : List PackageText → MessageStep → Option NodeOf → Option Stepped
+stepped_at packages s None = None
+stepped_at packages s (Some n) = pair_after packages n.pair (pair_step true s)
+
 abbrev pub restarts_agent : ℕ → MessageStep → Bool
 restarts_agent agent (steps.Restart node) = node == agent
 restarts_agent agent s = false
@@ -134,16 +139,15 @@ refusal_of (steps.Activate device) = faults.Refused
 refusal_of (steps.Verdict device verdict) = faults.Refused
 refusal_of s = faults.NotNow
 
--- a step that may add to the history or to the records of a session needs memory for that
-abbrev pub needs_memory : MessageStep → Bool
-needs_memory (steps.Take device way quiet) = true
-needs_memory (steps.Start device number) = true
-needs_memory (steps.Verdict device verdict) = true
-needs_memory s = false
+-- What needs memory, by what a step makes of the pair where its call of the bank works: a Start, for the records of its session,
+-- and a step that adds to the history, for what it adds.
+abbrev pub needs_memory : MessageStep → Option Stepped → Bool
+needs_memory (steps.Start device number) stepped = true
+needs_memory s stepped = adds stepped
 
 -- Why a device's step isn't taken, by what it makes of the pair: it isn't allowed, whether the bank works or not; or it is,
 -- and memory that it needs is refused.
 abbrev pub IsRefusal : MessageStep → MessageStepFault → (Bool → Option Stepped) → Type 0
 IsRefusal s e after =
-    ((e ≡ faults.Memory) × (needs_memory s ≡ true) × ((works : Bool) → is_some (after works) ≡ true))
+    ((e ≡ faults.Memory) × (needs_memory s (after true) ≡ true) × ((works : Bool) → is_some (after works) ≡ true))
     ⊎ ((e ≡ refusal_of s) × ((works : Bool) → after works ≡ None))

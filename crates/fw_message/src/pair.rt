@@ -13,8 +13,10 @@ use std::alloc::Global;
 use std::marker::Model;
 use ua_core::Session;
 
+mod adding;
 mod asking;
 mod calling;
+mod quiet;
 mod serving;
 mod stepping;
 mod waiting;

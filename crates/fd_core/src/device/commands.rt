@@ -2,7 +2,7 @@
 
 ghost use Rattle.std.specs.Prelude.{◌≡◌, ◌≤◌, true, false};
 ghost use Rattle.fd_core.specs.Banks.{Rose};
-ghost use Rattle.fd_core.specs.Commands.{IsTaken, answer_works, cancel_take, declined as offer_declined, offer_take, request_take, return_take, switch_take, table_take, taken_up as offer_taken_up};
+ghost use Rattle.fd_core.specs.Commands.{IsTaken, answer_works, cancel_take, declined as offer_declined, may_activate, offer_take, request_take, return_take, switch_take, table_take, taken_up as offer_taken_up};
 ghost use Rattle.fwup_wire.specs.Answers.{IsAnswerWritable};
 ghost use Rattle.fwup_wire.specs.Values.{AnswerOf};
 ghost use Rattle.fwup_wire.specs.Lent.{answer_of, entry_of, offer_of, request_of};
@@ -170,6 +170,16 @@ impl<B: Bank> Device<B> {
         }
         self.course.go(State::Activate);
         Answer::ActivateFirmware { time: NO_TIME }
+    }
+
+    /// Whether ActivateFirmware activates now, if the bank works: the device is ready, has all of its table applied that nothing
+    /// stands against, and has something applied.
+    pub fn may_activate(&self) -> bool
+        ensures { result ≡ may_activate self.now.device }
+    {
+        self.course.state == State::Ready
+            && !misses_one(&self.bank, &self.update.table)
+            && has_any(&self.bank, &self.components)
     }
 
     /// CancelUpdate.

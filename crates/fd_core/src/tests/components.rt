@@ -75,7 +75,7 @@ fn activates_only_a_whole_update(rt: HostRuntime) -> Result<(), Fail> {
         [0x85].as_slice(),
         "the second component isn't applied"
     );
-    assert!(rt; has_applied(&device));
+    assert!(rt; has_applied(&device) && !device.may_activate());
     let mut other = offer(2, 0, false);
     other[2] = 2;
     let reply = ask(&mut device, 0x14, &other, true);
@@ -86,6 +86,7 @@ fn activates_only_a_whole_update(rt: HostRuntime) -> Result<(), Fail> {
     );
     assert!(rt; is_done(&device));
     advance_between(&mut device, DOWNLOADED, COMPLETE, 0);
+    assert!(rt; device.may_activate());
     let reply = ask(&mut device, 0x1A, &[0], true);
     assert_eq!(rt; reply.as_slice(), [0, 0, 0].as_slice());
     match device.bank().active(OTHER) {

@@ -3,18 +3,18 @@
 ghost use Rattle.std.specs.Prelude.{[], ◌≡◌, ◌≤◌, ◌∷◌, Bool, length, vec_capacity, IfNone, IfOk, IfSome, None, Some, false, if◌then◌else◌, is_some, map, option_map, option_to_list, true};
 ghost use Rattle.fd_core.specs.Images.{applied_of, row_of};
 ghost use Rattle.fd_core.specs.States.{staged_of};
-ghost use Rattle.fd_core.specs.Steps.{applied_by, device_verdict};
+ghost use Rattle.fd_core.specs.Steps.{applied_by};
 ghost use Rattle.fd_core.specs.Wishes.{has_failed};
 ghost use Rattle.fw_message.specs.Entries.{put_of};
 ghost use Rattle.fw_message.specs.History.{EntryOf};
-ghost use Rattle.fw_message.specs.Nodes.{is_activation, may_take, to_activate, waits};
+ghost use Rattle.fw_message.specs.Nodes.{is_activation, to_activate};
 ghost use Rattle.fd_core.specs.Banks.{Rose};
 ghost use Rattle.fw_message.specs.Pairs.{StepOf, activated_down, quietly, step_of};
 
 use crate::entry::Image;
 use crate::images::applied_images;
 use crate::pair::Pair;
-use crate::verdicts::{awaits, copied, has_failed, room_for};
+use crate::verdicts::{copied, has_failed, room_for};
 use fd_core::{Bank, Device, Verdict};
 use fw_package::Package;
 use fwup_wire::{Answer, Command};
@@ -69,26 +69,6 @@ impl<'a, B: Bank> Pair<'a, B> {
         let works = !matches!(reply.as_slice(), [ERROR, ..]);
         held.take(reply);
         Some(works)
-    }
-
-    /// Whether what the agent asked waits to be taken by a device that is told so of its own requests.
-    pub fn may_take(&self, quiet: bool) -> bool
-        ensures { result ≡ may_take self.now.node.pair quiet }
-    {
-        match &self.down {
-            Some(held) => !held.is_taken() && !(quiet && self.up.is_some()),
-            None => false,
-        }
-    }
-
-    /// Whether what the device asked waits to be taken.
-    pub fn waits_up(&self) -> bool
-        ensures { result ≡ waits self.now.node.pair.up }
-    {
-        match &self.up {
-            Some(held) => !held.is_taken(),
-            None => false,
-        }
     }
 
     /// A copy of what the device activates if it takes what the agent asked: nothing, unless that is ActivateFirmware.
@@ -169,13 +149,6 @@ impl<'a, B: Bank> Pair<'a, B> {
             return Some((works, None));
         };
         Some((works, copied(self.device.bank(), key, room)))
-    }
-
-    /// Whether the device waits for this verdict.
-    pub fn awaits(&self, verdict: Verdict) -> bool
-        ensures { (works : Bool) → is_some (device_verdict self.now.node.pair.device verdict works) ≡ result }
-    {
-        awaits(&self.device, verdict)
     }
 
     /// The session learns the answer that it waits for. False where there is none.

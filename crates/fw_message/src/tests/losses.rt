@@ -6,8 +6,8 @@ use crate::tests::seeing::{
 };
 use crate::tests::setup::{KEY, ONE, Small, join, opening, package};
 use crate::tests::steps::{
-    ASKED, DEVICE, DROP_DOWN, GIVE_UP_DOWN, START, TAKE_DOWN, WHOLE, go_on, led, replay, takes,
-    takes_worked, worked,
+    ACTIVATING, APPLY, ASKED, COMPLETE_ASKED, DEVICE, DROP_DOWN, GIVE_UP_DOWN, START, TAKE_DOWN,
+    WHOLE, go_on, led, replay, takes, takes_worked, worked,
 };
 use crate::{MessageStep, MessageStepFault, Way};
 use fd_core::State;
@@ -75,12 +75,17 @@ fn is_same(world: &Small<'_>, before: &Glance) -> bool {
     look_at(world) == *before
 }
 
-/// Whether a step is taken, at once or, where its memory is refused and nothing changes, at the second try.
-fn takes_again(world: &mut Small<'_>, step: MessageStep) -> bool {
+/// The worked steps that take memory: Start, the verdict ApplyOk, and the Takes of ApplyComplete and of ActivateFirmware.
+const NEEDY: [usize; 4] = [0, APPLY, COMPLETE_ASKED, ACTIVATING + 1];
+
+/// Whether a worked step is taken, at once or, where it takes memory, that is refused and nothing changes, at the second try.
+fn takes_again(world: &mut Small<'_>, number: usize, step: MessageStep) -> bool {
     let before = look_at(world);
     match replay(world, &[step]) {
         Ok(()) => true,
-        Err((0, MessageStepFault::Memory)) => is_same(world, &before) && takes(world, &[step]),
+        Err((0, MessageStepFault::Memory)) => {
+            NEEDY.contains(&number) && is_same(world, &before) && takes(world, &[step])
+        }
         Err(_) => false,
     }
 }
@@ -96,8 +101,8 @@ fn joined<'a>(alloc: Global, packages: &'a [Package<'a>]) -> Result<Small<'a>, M
 
 /// Takes the worked steps until the device's bank fails, if it does and has answered so. Whether each is taken.
 fn takes_until_failed(world: &mut Small<'_>) -> bool {
-    for step in worked(DEVICE) {
-        if !takes_again(world, step) {
+    for (number, step) in worked(DEVICE).iter().enumerate() {
+        if !takes_again(world, number, *step) {
             return false;
         }
         if failures(world, DEVICE) > 0 && world.cell(DEVICE, Way::Down).is_none() {
