@@ -18,7 +18,7 @@ use fd_core::Bank;
 ///
 /// # Errors
 /// The number of the step that isn't taken, counted from 0, and why: `NoSuchNode`, else `NotNow` or `Refused`, else
-/// `Memory`. The world is then the one after the steps before it.
+/// `Memory`, at a Start or a step that adds to the history. The world is then the one after the steps before it.
 pub fn message_replay<B: Bank + Drop>(
     world: &mut MessageWorld<'_, B>,
     steps: &[MessageStep],
