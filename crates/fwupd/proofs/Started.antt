@@ -1,6 +1,6 @@
 -- Updates that are started one by one, and the steps that follow.
-use Rattle.std.proofs.Common.{◌≡◌, ◌+◌, ◌++◌, ◌∙◌, ℕ, zero, suc, List, [], ◌∷◌, Some, None, append_assoc, append-nil, arith, length, refl, sym, ap, subst, take}
-use Rattle.std.specs.Prelude.{Option, option_map, slice_get}
+use Rattle.std.proofs.Common.{◌≡◌, ◌⊎◌, ◌+◌, ◌-◌, ◌^◌, ◌++◌, ◌∙◌, ℕ, zero, suc, List, [], ◌∷◌, Some, None, Bool, true, Result, Ok, Err, inl, inr, append_assoc, append-nil, arith, length, refl, sym, ap, subst, take}
+use Rattle.std.specs.Prelude.{IfErr, OnOk, Option, option_map, slice_get}
 use Rattle.std.proofs.Math.Seq.{take-length}
 use Rattle.std.proofs.lemmas.List.{map-append}
 use Rattle.std.proofs.lemmas.List.Sums.{sum_by-append}
@@ -11,7 +11,9 @@ use Rattle.fw_world.specs.Worlds.{SiteOf, WorldOf}
 use Rattle.fw_world.specs.declared.step.Step.{Step}
 use Rattle.fw_world.specs.declared.step.Step.TheVariants as steps
 use Rattle.fw_edge.specs.declared.driving.EdgeFault.{EdgeFault}
-use Rattle.fwupd.specs.Running.{StepsLead, Updates, starts_of, told_by}
+use Rattle.fw_edge.specs.declared.driving.EdgeFault.TheVariants as edges
+use Rattle.fwupd.specs.Running.{IsCaused, IsRefusedStart, IsUnlinked, MayEnd, StepsLead, Updates, fault_after, starts_of, told_by, told_of}
+use Rattle.fwupd.specs.declared.faults.RunFault.{RunFault}
 use Rattle.fwupd.specs.declared.faults.RunFault.TheVariants as told
 use Rattle.fwupd.specs.declared.running.WatchFault.{WatchFault}
 use Rattle.fwupd.specs.declared.running.WatchFault.TheVariants as watches
@@ -101,3 +103,38 @@ updates_off w v u ticks before after h k = record {
 pub watched_apart : (f : WatchFault) (e : EdgeFault) → told_by f ≡ told.Edge e → ⊥
 watched_apart watches.Unwritten e h = cc
 watched_apart watches.Memory e h = cc
+
+pub turned_apart : (e : EdgeFault) → told_of e ≡ told.Trace → ⊥
+turned_apart edges.Frame h = cc
+turned_apart edges.Step h = cc
+turned_apart edges.Memory h = cc
+
+-- what looks on can't be written
+pub unwritten_by : (f : WatchFault) (old mid new : Option WatchFault) → told_by f ≡ told.Trace → mid ≡ old → new ≡ fault_after mid f → new ≡ fault_after old watches.Unwritten
+unwritten_by watches.Unwritten old mid new e same is = is ∙ ap (λ o. fault_after o watches.Unwritten) same
+unwritten_by watches.Memory old mid new e same is = absurd (let h : told.Memory ≡ told.Trace = e in cc)
+
+-- and that stays its first fault
+first_stays : (first : Option WatchFault) (f g : WatchFault) → fault_after (fault_after first f) g ≡ fault_after first f
+first_stays None f g = refl
+first_stays (Some first) f g = refl
+
+pub unwritten_still : {T : Type 0} (r : Result T WatchFault) (old mid new : Option WatchFault) → mid ≡ fault_after old watches.Unwritten → OnOk r (new ≡ mid) → IfErr r (λ e. new ≡ fault_after mid e)
+    → new ≡ fault_after old watches.Unwritten
+unwritten_still (Ok x) old mid new e same after = same ∙ e
+unwritten_still (Err f) old mid new e same after = after ∙ ap (λ o. fault_after o f) e ∙ first_stays old watches.Unwritten f
+
+-- the cause of an update's end
+pub update_caused : (v : WorldOf) (fault : RunFault) (old new : Option WatchFault) → MayEnd fault → (fault ≡ told.Edge edges.Step → IsRefusedStart v ⊎ (v.now ≡ 2 ^ 32 - 1))
+    → (fault ≡ told.Trace → new ≡ fault_after old watches.Unwritten) → (fault ≡ told.Memory) ⊎ IsCaused v fault old new
+update_caused v fault old new (inl e) step unwritten = inl e
+update_caused v fault old new (inr b) step unwritten = inr (record { broken = b; stopped = step; unwritten = unwritten })
+
+-- a device to which no link is opened
+pub unlinked_at : (w : WorldOf) (lacks : ℕ → Bool) (place device : ℕ) (n : DeviceNodeOf) (fault : RunFault) → option_map (λ x. x.node) (slice_get w.sites place) ≡ Some n → device ≡ n.endpoint.eid
+    → (fault ≡ told.Memory) ⊎ ((fault ≡ told.Socket device) × (lacks device ≡ true)) → (fault ≡ told.Memory) ⊎ IsUnlinked w lacks fault
+unlinked_at w lacks place device n fault at is (inl e) = inl e
+unlinked_at w lacks place device n fault at is (inr h) =
+    let there = node_there (slice_get w.sites place) n at in
+    let own : device ≡ there.0.node.endpoint.eid = is ∙ ap (λ m. m.endpoint.eid) (sym there.2) in
+    inr (record { place = place; site = there.0; at = there.1; is = h.0 ∙ ap (λ d. told.Socket d) own; lacking = subst (λ d. lacks d ≡ true) own h.1 })

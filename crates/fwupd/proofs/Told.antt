@@ -1,41 +1,48 @@
 -- What is told of a job on a world.
-use Rattle.std.proofs.Common.{◌≡◌, ◌⊎◌, ◌<◌, ◌+◌, ℕ, List, Option, None, Some, inl, inr, length, refl, ap, subst}
-use Rattle.std.specs.Io.KnownBytes.{Appends}
+use Rattle.std.proofs.Common.{◌≡◌, ◌⊎◌, ◌<◌, ◌+◌, ℕ, Bool, List, Option, None, Some, inl, inr, length, refl, ap, subst}
 use Rattle.fw_script.specs.Schedules.{script_of}
 use Rattle.fw_world.specs.Worlds.{WorldOf}
 use Rattle.fw_world.specs.declared.step.Step.{Step}
 use Rattle.fw_world.specs.declared.step.StepFault.{StepFault}
 use Rattle.fwupd.specs.Replayed.{IsReplayed, IsReport, ReplayEnds, Reports}
-use Rattle.fwupd.specs.Running.{DrivingEnds, StepsLead, UpdateEnds}
-use Rattle.fwupd.specs.Setups.{IsSetup, Says, TextFails}
-use Rattle.fwupd.specs.Stream.{Begins}
+use Rattle.fwupd.specs.Outputs.{FailsToPrint, OutputOf, Prints}
+use Rattle.fwupd.specs.Running.{DrivingEnds, IsUnlinked, LacksLink, StepsLead, UpdateEnds}
+use Rattle.fwupd.specs.Setups.{FileOf, IsSetup, NamesNone, Says, SetupFails, TextFails}
 use Rattle.fwupd.specs.declared.faults.RunFault.{RunFault}
 use Rattle.fwupd.specs.declared.faults.RunFault.TheVariants as faults
+use Rattle.fwupd.specs.declared.running.WatchFault.{WatchFault}
+
+-- no link is opened
+unopened : (files : List ℕ → FileOf) (path : List ℕ) (lacks : ℕ → Bool) (w : WorldOf) (told : RunFault) → IsSetup files path w → (told ≡ faults.Memory) ⊎ IsUnlinked w lacks told
+    → (told ≡ faults.Memory) ⊎ (SetupFails files path told ⊎ (((told ≡ faults.NoPackage) × NamesNone files path) ⊎ LacksLink files path lacks told))
+unopened files path lacks w told setup (inl e) = inl e
+unopened files path lacks w told setup (inr u) = inr (inr (inr (record { world = w; setup = setup; unlinked = u })))
 
 -- a run over links that doesn't end well
-pub update_ends : (files : List ℕ → Option (List ℕ)) (path : List ℕ) (w v : WorldOf) (told : RunFault) (before now : Option (List ℕ)) → IsSetup files path w → StepsLead w v
-    → DrivingEnds v told before now → UpdateEnds files path told before now
-update_ends files path w v told before now setup reached (inl h) =
-    inl (record { broken = h.0; world = w; setup = setup; left = v; reached = reached; written = h.1 })
-update_ends files path w v told before now setup reached (inr (inl h)) =
+pub update_ends : (files : List ℕ → FileOf) (path : List ℕ) (lacks : ℕ → Bool) (w v : WorldOf) (told : RunFault) (seen_before seen_now : Option WatchFault) (before now : OutputOf)
+    → IsSetup files path w → StepsLead w v → DrivingEnds lacks w v told seen_before seen_now before now → UpdateEnds files path lacks told seen_before seen_now before now
+update_ends files path lacks w v told seen_before seen_now before now setup reached (inl h) =
+    inl (record { world = w; setup = setup; left = v; reached = reached; caused = h.0; written = h.1 })
+update_ends files path lacks w v told seen_before seen_now before now setup reached (inr (inl h)) =
     inr (inl (record { is = h.0; world = w; setup = setup; left = v; reached = reached; begun = h.1 }))
-update_ends files path w v told before now setup reached (inr (inr h)) = inr (inr (record { kept = h.1; cause = inr (inl h.0) }))
+update_ends files path lacks w v told seen_before seen_now before now setup reached (inr (inr h)) =
+    inr (inr (record { kept = h.1; cause = unopened files path lacks w told setup h.0 }))
 
 -- a replay whose schedule isn't read
-pub schedule_ends : (files : List ℕ → Option (List ℕ)) (config schedule : List ℕ) (w : WorldOf) (told : RunFault) (before : Option (List ℕ)) → IsSetup files config w
+pub schedule_ends : (files : List ℕ → FileOf) (config schedule : List ℕ) (w : WorldOf) (told : RunFault) (before : OutputOf) → IsSetup files config w
     → (told ≡ faults.Memory) ⊎ TextFails script_of files schedule told → ReplayEnds files config schedule told before before
 schedule_ends files config schedule w told before setup (inl e) = inr (inr (record { kept = refl; cause = inl e }))
 schedule_ends files config schedule w told before setup (inr f) = inr (inr (record { kept = refl; cause = inr (inr (record { world = w; setup = setup; fails = f })) }))
 
 -- the report of what its steps leave
-pub report_there : (files : List ℕ → Option (List ℕ)) (config schedule : List ℕ) (w : WorldOf) (steps slice : List Step) (fault : Option (ℕ × StepFault)) (text : List ℕ)
+pub report_there : (files : List ℕ → FileOf) (config schedule : List ℕ) (w : WorldOf) (steps slice : List Step) (fault : Option (ℕ × StepFault)) (text : List ℕ)
     → IsSetup files config w → Says script_of (files schedule) steps → slice ≡ steps → IsReplayed w slice fault text → IsReport files config schedule fault text
 report_there files config schedule w steps slice fault text setup says same h =
     record { world = w; setup = setup; steps = steps; says = says; replayed = subst (λ ss. IsReplayed w ss fault text) same h }
 
 -- it isn't written whole
-pub breaks_off : (files : List ℕ → Option (List ℕ)) (config schedule : List ℕ) (fault : Option (ℕ × StepFault)) (text : List ℕ) (before now : Option (List ℕ))
-    → IsReport files config schedule fault text → Begins before now text → ReplayEnds files config schedule faults.Output before now
+pub breaks_off : (files : List ℕ → FileOf) (config schedule : List ℕ) (fault : Option (ℕ × StepFault)) (text : List ℕ) (before now : OutputOf)
+    → IsReport files config schedule fault text → FailsToPrint before now text → ReplayEnds files config schedule faults.Output before now
 breaks_off files config schedule fault text before now report begun = inr (inl (record { is = refl; fault = fault; text = text; report = report; begun = begun }))
 
 -- a step isn't taken
@@ -43,8 +50,8 @@ pub place_within : (w : WorldOf) (steps : List Step) (fault : Option (ℕ × Ste
     → place < length steps
 place_within w steps fault text place why h e = (subst (λ f. IsReplayed w steps f text) e h).left.0
 
-pub step_ends : (files : List ℕ → Option (List ℕ)) (config schedule : List ℕ) (fault : Option (ℕ × StepFault)) (text : List ℕ) (place number : ℕ) (why : StepFault) (before now : Option (List ℕ))
-    → IsReport files config schedule fault text → fault ≡ Some (place, why) → number ≡ place + 1 → Appends before now text
+pub step_ends : (files : List ℕ → FileOf) (config schedule : List ℕ) (fault : Option (ℕ × StepFault)) (text : List ℕ) (place number : ℕ) (why : StepFault) (before now : OutputOf)
+    → IsReport files config schedule fault text → fault ≡ Some (place, why) → number ≡ place + 1 → Prints before now text
     → ReplayEnds files config schedule (faults.Step number why) before now
 step_ends files config schedule fault text place number why before now report e is written = inl (record {
   place = place;
@@ -54,7 +61,7 @@ step_ends files config schedule fault text place number why before now report e 
 })
 
 -- all are
-pub replay_reports : (files : List ℕ → Option (List ℕ)) (config schedule : List ℕ) (fault : Option (ℕ × StepFault)) (text : List ℕ) (before now : Option (List ℕ))
-    → IsReport files config schedule fault text → fault ≡ None → Appends before now text → Reports files config schedule None before now
+pub replay_reports : (files : List ℕ → FileOf) (config schedule : List ℕ) (fault : Option (ℕ × StepFault)) (text : List ℕ) (before now : OutputOf)
+    → IsReport files config schedule fault text → fault ≡ None → Prints before now text → Reports files config schedule None before now
 replay_reports files config schedule fault text before now report e written =
     record { text = text; report = subst (λ f. IsReport files config schedule f text) e report; written = written }

@@ -2,6 +2,7 @@ pub mod Answers
 pub mod Inspection
 pub mod Lines
 pub mod Nodes
+pub mod Outputs
 pub mod Replayed
 pub mod Running
 pub mod Setups

@@ -1,14 +1,13 @@
 -- What a replay leaves, and what is written of it.
 use Rattle.std.specs.Prelude.{ℕ, ◌≡◌, ◌<◌, ◌+◌, ◌⊎◌, IfSome, List, Option, Some, None, length, slice_get, take}
-use Rattle.std.specs.Io.KnownBytes.{Appends}
 use Rattle.fw_script.specs.Reports.{report_of}
 use Rattle.fw_script.specs.Schedules.{script_of}
 use Rattle.fw_world.specs.Replays.{Refuses, Run}
 use Rattle.fw_world.specs.Worlds.{WorldOf}
 use Rattle.fw_world.specs.declared.step.Step.{Step}
 use Rattle.fw_world.specs.declared.step.StepFault.{StepFault}
-use Rattle.fwupd.specs.Setups.{IsSetup, Says, SetupFails, TextFails}
-use Rattle.fwupd.specs.Stream.{Begins}
+use Rattle.fwupd.specs.Outputs.{FailsToPrint, OutputOf, Prints}
+use Rattle.fwupd.specs.Setups.{FileOf, IsSetup, Says, SetupFails, TextFails}
 use Rattle.fwupd.specs.declared.faults.RunFault.{RunFault}
 use Rattle.fwupd.specs.declared.faults.RunFault.TheVariants as faults
 
@@ -24,7 +23,7 @@ pub record IsReplayed (w : WorldOf) (steps : List Step) (fault : Option (ℕ × 
   pub report : text ≡ report_of world
 
 -- The report of what the steps in a schedule's file leave of the world that a configuration's file is of.
-pub record IsReport (files : List ℕ → Option (List ℕ)) (config schedule : List ℕ) (fault : Option (ℕ × StepFault)) (text : List ℕ) : Type 0 where
+pub record IsReport (files : List ℕ → FileOf) (config schedule : List ℕ) (fault : Option (ℕ × StepFault)) (text : List ℕ) : Type 0 where
   pub world : WorldOf
   pub setup : IsSetup files config world
   pub steps : List Step
@@ -32,38 +31,38 @@ pub record IsReport (files : List ℕ → Option (List ℕ)) (config schedule : 
   pub replayed : IsReplayed world steps fault text
 
 -- It is written.
-pub record Reports (files : List ℕ → Option (List ℕ)) (config schedule : List ℕ) (fault : Option (ℕ × StepFault)) (before now : Option (List ℕ)) : Type 0 where
+pub record Reports (files : List ℕ → FileOf) (config schedule : List ℕ) (fault : Option (ℕ × StepFault)) (before now : OutputOf) : Type 0 where
   pub text : List ℕ
   pub report : IsReport files config schedule fault text
-  pub written : Appends before now text
+  pub written : Prints before now text
 
 -- It is, and a step, numbered from 1, isn't taken.
-pub record ReportsStep (files : List ℕ → Option (List ℕ)) (config schedule : List ℕ) (told : RunFault) (before now : Option (List ℕ)) : Type 0 where
+pub record ReportsStep (files : List ℕ → FileOf) (config schedule : List ℕ) (told : RunFault) (before now : OutputOf) : Type 0 where
   pub place : ℕ
   pub fault : StepFault
   pub is : told ≡ faults.Step (place + 1) fault
   pub reports : Reports files config schedule (Some (place, fault)) before now
 
 -- A beginning of it is.
-pub record BreaksOff (files : List ℕ → Option (List ℕ)) (config schedule : List ℕ) (told : RunFault) (before now : Option (List ℕ)) : Type 0 where
+pub record BreaksOff (files : List ℕ → FileOf) (config schedule : List ℕ) (told : RunFault) (before now : OutputOf) : Type 0 where
   pub is : told ≡ faults.Output
   pub fault : Option (ℕ × StepFault)
   pub text : List ℕ
   pub report : IsReport files config schedule fault text
-  pub begun : Begins before now text
+  pub begun : FailsToPrint before now text
 
 -- the world is there, and the schedule isn't
-pub record ScheduleFails (files : List ℕ → Option (List ℕ)) (config schedule : List ℕ) (told : RunFault) : Type 0 where
+pub record ScheduleFails (files : List ℕ → FileOf) (config schedule : List ℕ) (told : RunFault) : Type 0 where
   pub world : WorldOf
   pub setup : IsSetup files config world
   pub fails : TextFails script_of files schedule told
 
 -- Nothing is written: memory was refused, or one of the files isn't what it should be, the first in their order.
-pub record StopsBefore (files : List ℕ → Option (List ℕ)) (config schedule : List ℕ) (told : RunFault) (before now : Option (List ℕ)) : Type 0 where
+pub record StopsBefore (files : List ℕ → FileOf) (config schedule : List ℕ) (told : RunFault) (before now : OutputOf) : Type 0 where
   pub kept : now ≡ before
   pub cause : (told ≡ faults.Memory) ⊎ (SetupFails files config told ⊎ ScheduleFails files config schedule told)
 
 -- How a replay ends that doesn't end well.
-abbrev pub ReplayEnds : (files : List ℕ → Option (List ℕ)) (config schedule : List ℕ) (told : RunFault) (before now : Option (List ℕ)) → Type 0
+abbrev pub ReplayEnds : (files : List ℕ → FileOf) (config schedule : List ℕ) (told : RunFault) (before now : OutputOf) → Type 0
 ReplayEnds files config schedule told before now =
     ReportsStep files config schedule told before now ⊎ (BreaksOff files config schedule told before now ⊎ StopsBefore files config schedule told before now)

@@ -1,6 +1,5 @@
 -- What a run over links makes of a world, and what is written of it.
-use Rattle.std.specs.Prelude.{ℕ, ◌≡◌, ◌++◌, ◌⊎◌, true, List, Option, Some, map, slice_get}
-use Rattle.std.specs.Io.KnownBytes.{Appends}
+use Rattle.std.specs.Prelude.{ℕ, ◌≡◌, ◌-◌, ◌^◌, ◌++◌, ◌⊎◌, Bool, true, List, Option, None, Some, map, slice_get}
 use Rattle.fw_edge.specs.Drives.{all_over, ticks_in}
 use Rattle.fw_edge.specs.declared.driving.EdgeFault.{EdgeFault}
 use Rattle.fw_edge.specs.declared.driving.EdgeFault.TheVariants as edges
@@ -10,8 +9,8 @@ use Rattle.fw_world.specs.Worlds.{SiteOf, WorldOf}
 use Rattle.fw_world.specs.declared.step.StepFault.{StepFault}
 use Rattle.fw_world.specs.declared.step.Step.{Step}
 use Rattle.fw_world.specs.declared.step.Step.TheVariants as steps
-use Rattle.fwupd.specs.Setups.{IsSetup, SetupFails}
-use Rattle.fwupd.specs.Stream.{Begins}
+use Rattle.fwupd.specs.Outputs.{FailsToPrint, OutputOf, Prints}
+use Rattle.fwupd.specs.Setups.{FileOf, IsSetup, NamesNone, SetupFails}
 use Rattle.fwupd.specs.declared.faults.RunFault.{RunFault}
 use Rattle.fwupd.specs.declared.faults.RunFault.TheVariants as faults
 use Rattle.fwupd.specs.declared.running.WatchFault.{WatchFault}
@@ -42,11 +41,6 @@ pub record StepsLead (w v : WorldOf) : Type 0 where
   pub steps : List Step
   pub run : Run w steps v
 
--- no link is opened
-abbrev pub IsUnlinked : RunFault → Type 0
-IsUnlinked (faults.Socket device) = Unit {0}
-IsUnlinked fault = ⊥
-
 -- a run doesn't go on: what is told of the world that was reached
 abbrev pub IsBroken : RunFault → Type 0
 IsBroken (faults.Edge fault) = Unit {0}
@@ -75,46 +69,71 @@ pub record IsRefusedStart (w : WorldOf) : Type 0 where
 abbrev pub MayEnd : RunFault → Type 0
 MayEnd fault = (fault ≡ faults.Memory) ⊎ IsBroken fault
 
+-- The first fault of what looks on stays.
+abbrev pub fault_after : Option WatchFault → WatchFault → Option WatchFault
+fault_after None fault = Some fault
+fault_after (Some first) fault = Some first
+
+-- Why a run doesn't go on is so: a start is refused or the clock stands at its end, and what looks on can't be written.
+pub record IsCaused (v : WorldOf) (told : RunFault) (seen_before seen_now : Option WatchFault) : Type 0 where
+  pub broken : IsBroken told
+  pub stopped : told ≡ faults.Edge edges.Step → IsRefusedStart v ⊎ (v.now ≡ 2 ^ 32 - 1)
+  pub unwritten : told ≡ faults.Trace → seen_now ≡ fault_after seen_before watches.Unwritten
+
+-- No link to this device of a world is opened, and it may be lacking.
+pub record IsUnlinked (w : WorldOf) (lacks : ℕ → Bool) (told : RunFault) : Type 0 where
+  pub place : ℕ
+  pub site : SiteOf
+  pub at : slice_get w.sites place ≡ Some site
+  pub is : told ≡ faults.Socket site.node.endpoint.eid
+  pub lacking : lacks site.node.endpoint.eid ≡ true
+
 -- Where the links of a world are driven and the run doesn't end well: the report of the world that was reached is written, or a
 -- beginning of it, or nothing.
-abbrev pub DrivingEnds : (reached : WorldOf) → RunFault → (before now : Option (List ℕ)) → Type 0
-DrivingEnds v told before now =
-    (IsBroken told × Appends before now (report_of v))
-    ⊎ (((told ≡ faults.Output) × Begins before now (report_of v))
-    ⊎ (((told ≡ faults.Memory) ⊎ IsUnlinked told) × (now ≡ before)))
+abbrev pub DrivingEnds : (lacks : ℕ → Bool) (w v : WorldOf) → RunFault → (seen_before seen_now : Option WatchFault) (before now : OutputOf) → Type 0
+DrivingEnds lacks w v told seen_before seen_now before now =
+    (IsCaused v told seen_before seen_now × Prints before now (report_of v))
+    ⊎ (((told ≡ faults.Output) × FailsToPrint before now (report_of v)) ⊎ (((told ≡ faults.Memory) ⊎ IsUnlinked w lacks told) × (now ≡ before)))
 
--- The report is written of what an update leaves of the world that a configuration's file is of.
-pub record ReportsUpdate (files : List ℕ → Option (List ℕ)) (config : List ℕ) (before now : Option (List ℕ)) : Type 0 where
+-- The report is written of what an update leaves of the world that a configuration's file is of, and what looks on had no fault.
+pub record ReportsUpdate (files : List ℕ → FileOf) (config : List ℕ) (seen_before seen_now : Option WatchFault) (before now : OutputOf) : Type 0 where
   pub world : WorldOf
   pub setup : IsSetup files config world
   pub left : WorldOf
   pub updated : IsUpdated world left
-  pub written : Appends before now (report_of left)
+  pub seen : seen_now ≡ seen_before
+  pub written : Prints before now (report_of left)
 
 -- It is written of what was reached.
-pub record ReportsReached (files : List ℕ → Option (List ℕ)) (config : List ℕ) (told : RunFault) (before now : Option (List ℕ)) : Type 0 where
-  pub broken : IsBroken told
+pub record ReportsReached (files : List ℕ → FileOf) (config : List ℕ) (told : RunFault) (seen_before seen_now : Option WatchFault) (before now : OutputOf) : Type 0 where
   pub world : WorldOf
   pub setup : IsSetup files config world
   pub left : WorldOf
   pub reached : StepsLead world left
-  pub written : Appends before now (report_of left)
+  pub caused : IsCaused left told seen_before seen_now
+  pub written : Prints before now (report_of left)
 
 -- A beginning of it is.
-pub record BreaksReport (files : List ℕ → Option (List ℕ)) (config : List ℕ) (told : RunFault) (before now : Option (List ℕ)) : Type 0 where
+pub record BreaksReport (files : List ℕ → FileOf) (config : List ℕ) (told : RunFault) (before now : OutputOf) : Type 0 where
   pub is : told ≡ faults.Output
   pub world : WorldOf
   pub setup : IsSetup files config world
   pub left : WorldOf
   pub reached : StepsLead world left
-  pub begun : Begins before now (report_of left)
+  pub begun : FailsToPrint before now (report_of left)
 
--- Nothing is.
-pub record ReportsNothing (files : List ℕ → Option (List ℕ)) (config : List ℕ) (told : RunFault) (before now : Option (List ℕ)) : Type 0 where
+-- No link to a device of the configuration is opened.
+pub record LacksLink (files : List ℕ → FileOf) (config : List ℕ) (lacks : ℕ → Bool) (told : RunFault) : Type 0 where
+  pub world : WorldOf
+  pub setup : IsSetup files config world
+  pub unlinked : IsUnlinked world lacks told
+
+-- Nothing is written: memory was refused, or there is no world, no package or no link.
+pub record ReportsNothing (files : List ℕ → FileOf) (config : List ℕ) (lacks : ℕ → Bool) (told : RunFault) (before now : OutputOf) : Type 0 where
   pub kept : now ≡ before
-  pub cause : (told ≡ faults.NoPackage) ⊎ (((told ≡ faults.Memory) ⊎ IsUnlinked told) ⊎ SetupFails files config told)
+  pub cause : (told ≡ faults.Memory) ⊎ (SetupFails files config told ⊎ (((told ≡ faults.NoPackage) × NamesNone files config) ⊎ LacksLink files config lacks told))
 
 -- How an update ends that doesn't end well.
-abbrev pub UpdateEnds : (files : List ℕ → Option (List ℕ)) (config : List ℕ) (told : RunFault) (before now : Option (List ℕ)) → Type 0
-UpdateEnds files config told before now =
-    ReportsReached files config told before now ⊎ (BreaksReport files config told before now ⊎ ReportsNothing files config told before now)
+abbrev pub UpdateEnds : (files : List ℕ → FileOf) (config : List ℕ) (lacks : ℕ → Bool) (told : RunFault) (seen_before seen_now : Option WatchFault) (before now : OutputOf) → Type 0
+UpdateEnds files config lacks told seen_before seen_now before now =
+    ReportsReached files config told seen_before seen_now before now ⊎ (BreaksReport files config told before now ⊎ ReportsNothing files config lacks told before now)

@@ -1,7 +1,7 @@
 //! The files that a job reads.
 
-ghost use Rattle.std.specs.Prelude.{IfOk, List, None, Option, ℕ};
-ghost use Rattle.fwupd.specs.Setups.{MayHold};
+ghost use Rattle.std.specs.Prelude.{◌≡◌, IfErr, IfOk, List, true, ℕ};
+ghost use Rattle.fwupd.specs.Setups.{FileOf, MayHold, any_file};
 
 use std::alloc::Global;
 use std::fs::File;
@@ -18,14 +18,15 @@ pub enum FileFault {
 
 /// Where files are read from.
 pub trait Files {
-    ghost holds: { Self → List ℕ → Option (List ℕ) };
+    ghost holds: { Self → List ℕ → FileOf };
 
     /// The bytes of the file of a path.
     ///
     /// # Errors
     /// The file can't be read, or memory for its bytes is refused.
     fn contents(&self, alloc: Global, path: &str) -> Result<Vec<u8>, FileFault>
-        ensures { IfOk result (λ bytes. MayHold (holds self.now path.now) bytes.items) };
+        ensures held { IfOk result (λ bytes. MayHold (holds self.now path.now) bytes.items) }
+        ensures fails { IfErr result (λ e. e ≡ FileFault.Unreadable → (holds self.now path.now).may_fail ≡ true) };
 }
 
 /// The files of the system, of which nothing is known before they are read.
@@ -55,7 +56,7 @@ impl<'a> SystemFiles<'a> {
 }
 
 impl<'a> Files for SystemFiles<'a> {
-    ghost holds = { λ f path. None };
+    ghost holds = { λ f path. any_file };
 
     fn contents(&self, alloc: Global, path: &str) -> Result<Vec<u8>, FileFault> {
         match self.read(alloc, path) {

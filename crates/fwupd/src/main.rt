@@ -7,6 +7,7 @@ mod faults;
 mod files;
 mod inspection;
 mod nodes;
+mod output;
 mod progress;
 mod replaying;
 mod responder;
@@ -27,6 +28,7 @@ use command_line::{Job, Show};
 use faults::{RunFault, inspection_fault};
 use files::{Files, SystemFiles};
 use mctp_ctl::Endpoint;
+use output::Output;
 use replaying::replay_files;
 use setups::unread;
 use sockets::Sockets;
@@ -74,7 +76,7 @@ fn replay(rt: &HostRuntime, config: &str, schedule: &str) -> Result<(), RunFault
         &SystemFiles::new(rt),
         config,
         schedule,
-        &mut io::writer(rt),
+        &mut Output::new(io::writer(rt)),
     )
 }
 
@@ -87,7 +89,7 @@ fn update(rt: &HostRuntime, config: &str, folder: &str, show: Show<'_>) -> Resul
         config,
         &mut Sockets::new(rt, folder),
         &mut onlookers,
-        &mut io::writer(rt),
+        &mut Output::new(io::writer(rt)),
     )
 }
 

@@ -1,6 +1,5 @@
 //! How far a run is, shown on a terminal.
 
-use crate::running::{Watch, WatchFault};
 use exch_lane::SentPacket;
 use fd_core::MemBank;
 use fw_node::DeviceNode;
@@ -82,27 +81,62 @@ impl<'a> Progress<'a> {
         );
         true
     }
-}
 
-impl<'a> Watch for Progress<'a> {
-    fn see(&mut self, world: &World<'_, MemBank>) -> Result<(), WatchFault> {
+    /// Shows what a turn left, where it wasn't shown a moment ago.
+    pub fn see(&mut self, world: &World<'_, MemBank>) {
         let Some(now) = self.due() else {
-            return Ok(());
+            return;
         };
         for place in 0..world.device_count() {
             if let (Some(node), Some(packets)) = (world.device_at(place), world.packets_at(place)) {
                 if self.show(node, packets) {
                     self.shown = Some(now);
-                    return Ok(());
+                    return;
                 }
             }
         }
-        Ok(())
     }
 
-    fn end(&mut self) -> Result<(), WatchFault> {
+    /// Takes away what is shown.
+    pub fn end(&mut self) {
         if self.shown.is_some() {
             let _ = eprint!(self.rt; "\r{BLANK}\r");
+        }
+    }
+}
+
+#[cfg(test)]
+mod tests {
+    use super::*;
+    use mctp_wire::RawPacket;
+    use std::test::Fail;
+
+    /// The packets that these digits spell.
+    fn packets_of(rt: &HostRuntime, all: &[&[u8]]) -> Result<Vec<SentPacket>, Fail> {
+        let mut packets = Vec::new(rt.alloc());
+        for digits in all {
+            let mut bytes = RawPacket::new();
+            let _ = bytes.try_extend_from_slice(&hex::decode(rt.alloc(), *digits)?);
+            packets.push(SentPacket { date: 1, bytes })?;
+        }
+        Ok(packets)
+    }
+
+    #[test]
+    fn progress_is_where_the_last_request_for_bytes_ends(rt: HostRuntime) -> Result<(), Fail> {
+        let first = b"010809C80180051500000000F0000000".as_slice();
+        let last = b"010809C801810515F000000001000000".as_slice();
+        let answer = b"010908C00100051500AA".as_slice();
+        let other = b"01080AC80180051500000000F0000000".as_slice();
+        let table: [(&[&[u8]], u32); 5] = [
+            (&[], 0),
+            (&[other, answer], 0),
+            (&[first, answer], 240),
+            (&[first, other], 240),
+            (&[first, answer, last], 241),
+        ];
+        for (packets, want) in table {
+            assert_eq!(rt; asked(&packets_of(&rt, packets)?, 9), want);
         }
         Ok(())
     }

@@ -10,7 +10,7 @@ ghost use Rattle.fwupd.specs.Replayed.{IsReplayed, ReplayEnds, Reports};
 use crate::faults::RunFault;
 use crate::files::Files;
 use crate::nodes::nodes;
-use crate::retries::write_whole;
+use crate::output::Output;
 use crate::setups::{configuration, package_files, packages_in, schedule};
 use fw_package::Package;
 use fw_script::{Config, DeviceConfig, report};
@@ -63,10 +63,10 @@ pub fn replay_files<F: Files, W: Write>(
     files: &F,
     config: &str,
     steps: &str,
-    writer: &mut W,
+    output: &mut Output<W>,
 ) -> Result<(), RunFault>
-    ensures ok { OnOk result (Reports (F.holds files.now) config.now steps.now None (W.contents writer.old) (W.contents writer.new)) }
-    ensures fault { IfErr result (λ e. ReplayEnds (F.holds files.now) config.now steps.now e (W.contents writer.old) (W.contents writer.new)) }
+    ensures ok { OnOk result (Reports (F.holds files.now) config.now steps.now None output.old output.new) }
+    ensures fault { IfErr result (λ e. ReplayEnds (F.holds files.now) config.now steps.now e output.old output.new) }
 {
     let Config {
         agent,
@@ -91,7 +91,7 @@ pub fn replay_files<F: Files, W: Write>(
     let Ok(outcome) = replayed(alloc, agent, devices, packages.as_slice(), steps.as_slice()) else {
         return Err(RunFault::Memory);
     };
-    match write_whole(writer, &outcome.report) {
+    match output.write(&outcome.report) {
         Ok(()) => {}
         Err(_) => return Err(RunFault::Output),
     }

@@ -1,8 +1,8 @@
 //! Updating devices over links.
 
-ghost use Rattle.std.specs.Prelude.{◌≡◌, ◌-◌, ◌^◌, ◌⊎◌, IfErr, OnOk, length, map};
+ghost use Rattle.std.specs.Prelude.{◌≡◌, ◌-◌, ◌^◌, ◌⊎◌, IfErr, OnOk, Option, length, map};
 ghost use Rattle.fw_edge.specs.Ledgers.{OneFailed};
-ghost use Rattle.fwupd.specs.Running.{IsRefusedStart, IsUpdated, MayEnd, Starts, StepsLead, told_by, told_of};
+ghost use Rattle.fwupd.specs.Running.{IsCaused, IsRefusedStart, IsUpdated, MayEnd, Starts, StepsLead, fault_after, told_by, told_of};
 
 use crate::faults::{RunFault, edge_fault};
 use fd_core::MemBank;
@@ -22,19 +22,37 @@ pub enum WatchFault {
     Memory,
 }
 
-/// What looks on while devices are updated.
+/// What looks on while devices are updated. It keeps the first fault that it had.
 pub trait Watch {
+    ghost use Rattle.fwupd.specs.declared.running.WatchFault.{WatchFault};
+
+    ghost fault: { Self → Option WatchFault };
+
     /// Sees what a turn left.
     ///
     /// # Errors
     /// What it tells of it can't be written, or memory is refused.
-    fn see(&mut self, world: &World<'_, MemBank>) -> Result<(), WatchFault>;
+    fn see(&mut self, world: &World<'_, MemBank>) -> Result<(), WatchFault>
+        ensures ok { OnOk result (fault self.new ≡ fault self.old) }
+        ensures err { IfErr result (λ e. fault self.new ≡ fault_after (fault self.old) e) };
 
     /// The run has ended.
     ///
     /// # Errors
     /// As for a turn.
-    fn end(&mut self) -> Result<(), WatchFault>;
+    fn end(&mut self) -> Result<(), WatchFault>
+        ensures ok { OnOk result (fault self.new ≡ fault self.old) }
+        ensures err { IfErr result (λ e. fault self.new ≡ fault_after (fault self.old) e) };
+}
+
+/// The first fault of what looks on, after another one.
+pub fn first_fault(first: Option<WatchFault>, fault: WatchFault) -> Option<WatchFault>
+    ensures { result ≡ fault_after first fault }
+{
+    match first {
+        Some(first) => Some(first),
+        None => Some(fault),
+    }
 }
 
 /// Why a run ends that is looked at no more.
@@ -56,6 +74,7 @@ fn start_all(world: &mut World<'_, MemBank>) -> Result<(), RunFault>
     ensures fault { IfErr result MayEnd }
     ensures refused { IfErr result (λ e. e ≡ RunFault.Edge EdgeFault.Step → IsRefusedStart world.new) }
     ensures none { IfErr result (λ e. e ≡ RunFault.Edge EdgeFault.Frame → ⊥) }
+    ensures unseen { IfErr result (λ e. e ≡ RunFault.Trace → ⊥) }
 {
     for place in 0..world.device_count() {
         let Some(node) = world.device_at(place) else {
@@ -98,6 +117,8 @@ pub fn update_all<L: Link, V: Watch>(
     ensures kept { OnOk result (map (λ l. (L.tally l).failures) links.new ≡ map (λ l. (L.tally l).failures) links.old) }
     ensures frame { IfErr result (λ e. e ≡ RunFault.Edge EdgeFault.Frame → OneFailed (map (λ l. (L.tally l).failures) links.old) (map (λ l. (L.tally l).failures) links.new)) }
     ensures step { IfErr result (λ e. e ≡ RunFault.Edge EdgeFault.Step → IsRefusedStart world.new ⊎ (world.new.now ≡ 2 ^ 32 - 1)) }
+    ensures seen { OnOk result (V.fault watch.new ≡ V.fault watch.old) }
+    ensures unwritten { IfErr result (λ e. e ≡ RunFault.Trace → V.fault watch.new ≡ fault_after (V.fault watch.old) WatchFault.Unwritten) }
 {
     match start_all(world) {
         Ok(()) => {}
@@ -119,4 +140,32 @@ pub fn update_all<L: Link, V: Watch>(
         steps.clear();
     }
     Ok(())
+}
+
+/// Updates each device of a new world, and lets what looks on end, whatever becomes of the update.
+///
+/// # Errors
+/// That of the update, and else what ends the watch.
+pub fn update_watched<L: Link, V: Watch>(
+    alloc: Global,
+    world: &mut World<'_, MemBank>,
+    links: &mut [L],
+    watch: &mut V,
+) -> Result<(), RunFault>
+    requires { length links.old ≡ length world.old.sites }
+    ensures updated { OnOk result (IsUpdated world.old world.new) }
+    ensures reached { StepsLead world.old world.new }
+    ensures seen { OnOk result (V.fault watch.new ≡ V.fault watch.old) }
+    ensures fault { IfErr result (λ e. (e ≡ RunFault.Memory) ⊎ IsCaused world.new e (V.fault watch.old) (V.fault watch.new)) }
+{
+    let end = update_all(alloc, world, links, watch);
+    let watched = watch.end();
+    match end {
+        Ok(()) => {}
+        Err(fault) => return Err(fault),
+    }
+    match watched {
+        Ok(()) => Ok(()),
+        Err(fault) => Err(watch_fault(fault)),
+    }
 }

@@ -7,7 +7,7 @@ ghost use Rattle.fw_script.specs.Configs.{config_of};
 ghost use Rattle.fw_script.specs.Schedules.{script_of};
 ghost use Rattle.fw_script.specs.Seen.{config_seen, device_of};
 ghost use Rattle.fw_script.specs.Whole.{AreWhole};
-ghost use Rattle.fwupd.specs.Setups.{ArePacked, IsPacked, IsUnread, PackageFails, PackagesFail, Says, TextFails, TextFault};
+ghost use Rattle.fwupd.specs.Setups.{ArePacked, IsPacked, IsUnreadable, PackageFails, PackagesFail, Says, TextFails, TextFault};
 
 use crate::faults::RunFault;
 use crate::files::{FileFault, Files};
@@ -18,7 +18,7 @@ use std::alloc::Global;
 
 /// What is told of a file that isn't read.
 pub fn unread(alloc: Global, path: &str, fault: FileFault) -> RunFault
-    ensures { (result ≡ RunFault.Memory) ⊎ IsUnread path.now result }
+    ensures { (result ≡ RunFault.Memory) ⊎ ((fault ≡ FileFault.Unreadable) × IsUnreadable path.now result) }
 {
     match (fault, String::from_str(alloc, path)) {
         (FileFault::Unreadable, Ok(name)) => RunFault::Unreadable(name),
@@ -40,6 +40,7 @@ fn unsaid(alloc: Global, path: &str, fault: ScriptFault) -> RunFault
 ///
 /// # Errors
 /// The file can't be read, its text's first fault, or `Memory`.
+#[tactic(auto, using(crate::proofs::Packed::unread_text))]
 pub fn configuration<F: Files>(alloc: Global, files: &F, path: &str) -> Result<Config, RunFault>
     ensures says { IfOk result (λ c. Says config_of (F.holds files.now path.now) (config_seen c)) }
     ensures whole { IfOk result (λ c. AreWhole c.agent.eid (map device_of c.devices.items)) }
@@ -59,6 +60,7 @@ pub fn configuration<F: Files>(alloc: Global, files: &F, path: &str) -> Result<C
 ///
 /// # Errors
 /// The file can't be read, its text's first fault, or `Memory`.
+#[tactic(auto, using(crate::proofs::Packed::unread_text))]
 pub fn schedule<F: Files>(alloc: Global, files: &F, path: &str) -> Result<Vec<Step>, RunFault>
     ensures says { IfOk result (λ steps. Says script_of (F.holds files.now path.now) steps.items) }
     ensures fault { IfErr result (λ e. (e ≡ RunFault.Memory) ⊎ TextFails script_of (F.holds files.now) path.now e) }
@@ -74,6 +76,7 @@ pub fn schedule<F: Files>(alloc: Global, files: &F, path: &str) -> Result<Vec<St
 }
 
 /// The bytes of the package in the file of a path.
+#[tactic(auto, using(crate::proofs::Packed::unread_package))]
 fn package_file<F: Files>(alloc: Global, files: &F, path: &str) -> Result<Vec<u8>, RunFault>
     ensures packed { IfOk result (λ bytes. IsPacked (F.holds files.now path.now) bytes.items) }
     ensures fault { IfErr result (λ e. (e ≡ RunFault.Memory) ⊎ PackageFails (F.holds files.now) path.now e) }

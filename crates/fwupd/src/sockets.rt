@@ -1,5 +1,7 @@
 //! Links over Unix sockets.
 
+ghost use Rattle.std.specs.Prelude.{true};
+
 use crate::faults::RunFault;
 use crate::updating::Wires;
 use fw_edge::StreamLink;
@@ -43,6 +45,8 @@ impl<'a> Sockets<'a> {
 }
 
 impl<'a> Wires<StreamLink<UnixStream>> for Sockets<'a> {
+    ghost lacks = { λ s device. true };
+
     fn open(&mut self, device: u8) -> Result<StreamLink<UnixStream>, RunFault> {
         let folder = self.folder;
         let Ok(path) = format!(in self.rt.alloc(); "{folder}/{device}.sock") else {

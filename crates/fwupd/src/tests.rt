@@ -49,15 +49,20 @@ impl<'a> Read for InterruptedReader<'a> {
     }
 }
 
-/// Holds what was flushed, and counts the flushes that had something to flush.
+/// Is interrupted twice before each write that it takes, and counts the flushes that had something to flush.
 #[derive(Drop)]
 struct FlushedWriter {
+    tries: usize,
     flushes: usize,
     waiting: usize,
 }
 
 impl Write for FlushedWriter {
     fn write(&mut self, buffer: &[u8]) -> io::Result<usize> {
+        self.tries = self.tries.saturating_add(1);
+        if self.tries % 3 != 0 {
+            return Err(io::Error::from(io::ErrorKind::Interrupted));
+        }
         self.waiting = buffer.len();
         Ok(buffer.len())
     }
@@ -121,12 +126,13 @@ fn a_broken_reader_leaves_the_answers_before(rt: HostRuntime) {
 }
 
 #[test]
-fn an_interrupted_read_is_tried_again_and_each_answer_is_flushed(rt: HostRuntime) {
+fn what_is_interrupted_is_tried_again_and_each_answer_is_flushed(rt: HostRuntime) {
     let mut input = InterruptedReader {
         rest: b"02\n0109\n03".as_slice(),
         ready: false,
     };
     let mut writer = FlushedWriter {
+        tries: 0,
         flushes: 0,
         waiting: 0,
     };

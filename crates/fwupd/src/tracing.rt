@@ -1,6 +1,6 @@
 //! The packets of a run, written as they go out.
 
-use crate::running::{Watch, WatchFault};
+use crate::running::WatchFault;
 use arrayvec::ArrayVec;
 use exch_lane::SentPacket;
 use fd_core::MemBank;
@@ -79,17 +79,23 @@ impl<W: Write + Drop> Trace<W> {
             Err(_) => Err(WatchFault::Unwritten),
         }
     }
-}
 
-impl<W: Write + Drop> Watch for Trace<W> {
-    fn see(&mut self, world: &World<'_, MemBank>) -> Result<(), WatchFault> {
+    /// Writes the packets that a turn sent.
+    ///
+    /// # Errors
+    /// They can't be written, or memory for their lines is refused.
+    pub fn see(&mut self, world: &World<'_, MemBank>) -> Result<(), WatchFault> {
         for place in 0..world.device_count() {
             self.write_pair(world, place)?;
         }
         Ok(())
     }
 
-    fn end(&mut self) -> Result<(), WatchFault> {
+    /// Writes what is held back.
+    ///
+    /// # Errors
+    /// It can't be written.
+    pub fn end(&mut self) -> Result<(), WatchFault> {
         match self.writer.flush() {
             Ok(()) => Ok(()),
             Err(_) => Err(WatchFault::Unwritten),

@@ -1,16 +1,15 @@
 //! Updating the devices of a configuration.
 
-ghost use Rattle.std.specs.Prelude.{◌≡◌, ◌⊎◌, IfErr, IfOk, OnOk, length};
-ghost use Rattle.std.specs.Io.KnownBytes.{Appends};
+ghost use Rattle.std.specs.Prelude.{◌≡◌, ◌⊎◌, Bool, IfErr, IfOk, OnOk, length, true, ℕ};
 ghost use Rattle.fw_script.specs.Reports.{report_of};
+ghost use Rattle.fwupd.specs.Outputs.{FailsToPrint, Prints};
 ghost use Rattle.fwupd.specs.Running.{DrivingEnds, IsUnlinked, IsUpdated, ReportsUpdate, StepsLead, UpdateEnds};
-ghost use Rattle.fwupd.specs.Stream.{Begins};
 
 use crate::faults::RunFault;
 use crate::files::Files;
 use crate::nodes::nodes;
-use crate::retries::write_whole;
-use crate::running::{Watch, WatchFault, update_all};
+use crate::output::Output;
+use crate::running::{Watch, update_watched};
 use crate::setups::{configuration, package_files, packages_in};
 use fd_core::MemBank;
 use fw_edge::Link;
@@ -19,14 +18,17 @@ use fw_world::World;
 use std::alloc::Global;
 use std::io::Write;
 
-/// Where links to devices are opened.
+/// Where links to devices are opened. It is known before to which devices they may be lacking.
 pub trait Wires<L> {
+    ghost lacks: { Self → ℕ → Bool };
+
     /// Opens a link to a device.
     ///
     /// # Errors
     /// `Socket` where it can't be made, and `Memory`.
     fn open(&mut self, device: u8) -> Result<L, RunFault>
-        ensures { IfErr result (λ e. (e ≡ RunFault.Memory) ⊎ IsUnlinked e) };
+        ensures same { lacks self.new ≡ lacks self.old }
+        ensures fault { IfErr result (λ e. (e ≡ RunFault.Memory) ⊎ ((e ≡ RunFault.Socket device) × (lacks self.old device ≡ true))) };
 }
 
 /// Opens a link to each device of a world, in configured order.
@@ -36,7 +38,7 @@ fn open_all<L: Link + Drop, S: Wires<L>>(
     wires: &mut S,
 ) -> Result<Vec<L>, RunFault>
     ensures links { IfOk result (λ links. length links.items ≡ length world.now.sites) }
-    ensures fault { IfErr result (λ e. (e ≡ RunFault.Memory) ⊎ IsUnlinked e) }
+    ensures fault { IfErr result (λ e. (e ≡ RunFault.Memory) ⊎ IsUnlinked world.now (S.lacks wires.old) e) }
 {
     let mut links = Vec::new(alloc);
     for place in 0..world.device_count() {
@@ -58,17 +60,17 @@ fn open_all<L: Link + Drop, S: Wires<L>>(
 fn write_report<W: Write>(
     alloc: Global,
     world: &World<'_, MemBank>,
-    writer: &mut W,
+    output: &mut Output<W>,
 ) -> Result<(), RunFault>
-    ensures ok { OnOk result (Appends (W.contents writer.old) (W.contents writer.new) (report_of world.now)) }
-    ensures fault { IfErr result (λ e. ((e ≡ RunFault.Memory) × (W.contents writer.new ≡ W.contents writer.old)) ⊎ ((e ≡ RunFault.Output) × Begins (W.contents writer.old) (W.contents writer.new) (report_of world.now))) }
+    ensures ok { OnOk result (Prints output.old output.new (report_of world.now)) }
+    ensures fault { IfErr result (λ e. ((e ≡ RunFault.Memory) × (output.new ≡ output.old)) ⊎ ((e ≡ RunFault.Output) × FailsToPrint output.old output.new (report_of world.now))) }
 {
     let Ok(text) = report(alloc, world) else {
         return Err(RunFault::Memory);
     };
-    match write_whole(writer, &text) {
+    match output.write(&text) {
         Ok(()) => Ok(()),
-        Err(_) => Err(RunFault::Output),
+        Err(fault) => Err(fault),
     }
 }
 
@@ -78,40 +80,32 @@ fn update_over<L: Link + Drop, S: Wires<L>, V: Watch, W: Write>(
     world: &mut World<'_, MemBank>,
     wires: &mut S,
     watch: &mut V,
-    writer: &mut W,
+    output: &mut Output<W>,
 ) -> Result<(), RunFault>
     ensures updated { OnOk result (IsUpdated world.old world.new) }
-    ensures written { OnOk result (Appends (W.contents writer.old) (W.contents writer.new) (report_of world.new)) }
+    ensures seen { OnOk result (V.fault watch.new ≡ V.fault watch.old) }
+    ensures written { OnOk result (Prints output.old output.new (report_of world.new)) }
     ensures reached { StepsLead world.old world.new }
-    ensures fault { IfErr result (λ e. DrivingEnds world.new e (W.contents writer.old) (W.contents writer.new)) }
+    ensures fault { IfErr result (λ e. DrivingEnds (S.lacks wires.old) world.old world.new e (V.fault watch.old) (V.fault watch.new) output.old output.new) }
 {
     let mut links = match open_all(alloc, world, wires) {
         Ok(links) => links,
         Err(fault) => return Err(fault),
     };
-    let end = update_all(alloc, world, links.as_mut_slice(), watch);
-    let watched = watch.end();
-    match end {
+    match update_watched(alloc, world, links.as_mut_slice(), watch) {
         Ok(()) => {}
         Err(RunFault::Memory) => return Err(RunFault::Memory),
         Err(fault) => {
-            match write_report(alloc, world, writer) {
+            match write_report(alloc, world, output) {
                 Ok(()) => {}
                 Err(other) => return Err(other),
             }
             return Err(fault);
         }
     }
-    if let Err(WatchFault::Memory) = watched {
-        return Err(RunFault::Memory);
-    }
-    match write_report(alloc, world, writer) {
-        Ok(()) => {}
-        Err(other) => return Err(other),
-    }
-    match watched {
+    match write_report(alloc, world, output) {
         Ok(()) => Ok(()),
-        Err(_) => Err(RunFault::Trace),
+        Err(fault) => Err(fault),
     }
 }
 
@@ -119,8 +113,8 @@ fn update_over<L: Link + Drop, S: Wires<L>, V: Watch, W: Write>(
 /// of what that leaves.
 ///
 /// # Errors
-/// The first fault, in this order: of the configuration's file, of the packages that it names, one after the other; `NoPackage`
-/// where it names none; `Socket` where a link isn't opened. `Edge` where a link failed or the clock stands at its end, and `Trace`
+/// The first fault, in this order: of the configuration's file; `NoPackage` where it names no package; of the packages that it
+/// names, one after the other; `Socket` where a link isn't opened. `Edge` where a link failed or the clock stands at its end, and `Trace`
 /// where what looks on can't write: the report is then of the world that was reached. `Output` where the report isn't written
 /// whole, and `Memory` where memory is refused; nothing is written then.
 pub fn update_files<F: Files, L: Link + Drop, S: Wires<L>, V: Watch, W: Write>(
@@ -129,10 +123,10 @@ pub fn update_files<F: Files, L: Link + Drop, S: Wires<L>, V: Watch, W: Write>(
     config: &str,
     wires: &mut S,
     watch: &mut V,
-    writer: &mut W,
+    output: &mut Output<W>,
 ) -> Result<(), RunFault>
-    ensures ok { OnOk result (ReportsUpdate (F.holds files.now) config.now (W.contents writer.old) (W.contents writer.new)) }
-    ensures fault { IfErr result (λ e. UpdateEnds (F.holds files.now) config.now e (W.contents writer.old) (W.contents writer.new)) }
+    ensures ok { OnOk result (ReportsUpdate (F.holds files.now) config.now (V.fault watch.old) (V.fault watch.new) output.old output.new) }
+    ensures fault { IfErr result (λ e. UpdateEnds (F.holds files.now) config.now (S.lacks wires.old) e (V.fault watch.old) (V.fault watch.new) output.old output.new) }
 {
     let Config {
         agent,
@@ -142,6 +136,9 @@ pub fn update_files<F: Files, L: Link + Drop, S: Wires<L>, V: Watch, W: Write>(
         Ok(config) => config,
         Err(fault) => return Err(fault),
     };
+    if paths.is_empty() {
+        return Err(RunFault::NoPackage);
+    }
     let contents = match package_files(alloc, files, paths.as_slice()) {
         Ok(contents) => contents,
         Err(fault) => return Err(fault),
@@ -150,16 +147,13 @@ pub fn update_files<F: Files, L: Link + Drop, S: Wires<L>, V: Watch, W: Write>(
         Ok(packages) => packages,
         Err(fault) => return Err(fault),
     };
-    if packages.is_empty() {
-        return Err(RunFault::NoPackage);
-    }
     let Ok(nodes) = nodes(alloc, agent.eid, devices) else {
         return Err(RunFault::Memory);
     };
     let Ok(mut world) = World::new(alloc, agent, nodes, packages.as_slice()) else {
         return Err(RunFault::Memory);
     };
-    match update_over(alloc, &mut world, wires, watch, writer) {
+    match update_over(alloc, &mut world, wires, watch, output) {
         Ok(()) => Ok(()),
         Err(fault) => Err(fault),
     }

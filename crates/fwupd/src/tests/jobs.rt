@@ -1,11 +1,13 @@
 //! Jobs over files in memory.
 
-ghost use Rattle.std.specs.Prelude.{None};
+ghost use Rattle.std.specs.Prelude.{true};
+ghost use Rattle.fwupd.specs.Setups.{any_file};
 
 use crate::faults::RunFault;
 use crate::files::{FileFault, Files};
+use crate::output::Output;
 use crate::replaying::replay_files;
-use crate::running::{Watch, WatchFault};
+use crate::running::{Watch, WatchFault, first_fault};
 use crate::updating::{Wires, update_files};
 use fd_core::MemBank;
 use fw_edge::{Link, MemLink, StreamLink};
@@ -21,7 +23,7 @@ struct MemFiles<'a> {
 }
 
 impl<'a> Files for MemFiles<'a> {
-    ghost holds = { λ f path. None };
+    ghost holds = { λ f path. any_file };
 
     fn contents(&self, alloc: Global, path: &str) -> Result<Vec<u8>, FileFault> {
         for (name, bytes) in self.files {
@@ -54,9 +56,9 @@ fn outcome(rt: &HostRuntime, end: Result<(), RunFault>, written: Vec<u8>) -> Res
 
 /// What a replay of these files writes, and its fault.
 fn replayed(rt: &HostRuntime, files: &[(&str, &[u8])]) -> Result<Vec<u8>, Fail> {
-    let mut written = Vec::new(rt.alloc());
-    let end = replay_files(rt.alloc(), &MemFiles { files }, "c", "s", &mut written);
-    outcome(rt, end, written)
+    let mut output = Output::new(Vec::new(rt.alloc()));
+    let end = replay_files(rt.alloc(), &MemFiles { files }, "c", "s", &mut output);
+    outcome(rt, end, output.writer)
 }
 
 #[test]
@@ -104,6 +106,8 @@ struct MemWires {
 }
 
 impl Wires<MemLink> for MemWires {
+    ghost lacks = { λ w device. true };
+
     fn open(&mut self, device: u8) -> Result<MemLink, RunFault> {
         if device == self.closed {
             return Err(RunFault::Socket(device));
@@ -134,6 +138,8 @@ impl CutWires {
 }
 
 impl Wires<StreamLink<UnixStream>> for CutWires {
+    ghost lacks = { λ w device. true };
+
     fn open(&mut self, device: u8) -> Result<StreamLink<UnixStream>, RunFault> {
         match self.link.take() {
             Some(link) => Ok(link),
@@ -147,12 +153,16 @@ impl Wires<StreamLink<UnixStream>> for CutWires {
 struct Counter {
     turns: usize,
     broken: usize,
+    fault: Option<WatchFault>,
 }
 
 impl Watch for Counter {
+    ghost fault = { λ c. c.fault };
+
     fn see(&mut self, _world: &World<'_, MemBank>) -> Result<(), WatchFault> {
         self.turns = self.turns.saturating_add(1);
         if self.turns == self.broken {
+            self.fault = first_fault(self.fault, WatchFault::Unwritten);
             return Err(WatchFault::Unwritten);
         }
         Ok(())
@@ -184,17 +194,21 @@ fn updated<'a, L: Link + Drop, S: Wires<L>>(
     broken: usize,
 ) -> Result<(Vec<u8>, usize), Fail> {
     let files: [(&'a str, &'a [u8]); 2] = [("c", config), ("p", package)];
-    let mut watch = Counter { turns: 0, broken };
-    let mut written = Vec::new(rt.alloc());
+    let mut watch = Counter {
+        turns: 0,
+        broken,
+        fault: None,
+    };
+    let mut output = Output::new(Vec::new(rt.alloc()));
     let end = update_files(
         rt.alloc(),
         &MemFiles { files: &files },
         "c",
         wires,
         &mut watch,
-        &mut written,
+        &mut output,
     );
-    Ok((outcome(rt, end, written)?, watch.turns))
+    Ok((outcome(rt, end, output.writer)?, watch.turns))
 }
 
 /// The configuration, with a package.

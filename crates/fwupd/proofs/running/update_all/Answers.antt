@@ -1,6 +1,6 @@
 use Rattle.std.proofs.Common.{◌∙◌, ◌+◌, arith, ap, inl, length, refl, subst, sym}
 use Rattle.fwupd.specs.Running.{Updates}
-use Rattle.fwupd.proofs.Started.{updates_more, updates_none, updates_off, watched_apart}
+use Rattle.fwupd.proofs.Started.{turned_apart, unwritten_by, updates_more, updates_none, updates_off, watched_apart}
 use Rattle.fw_edge.specs.declared.driving.EdgeFault.TheVariants as edges
 use Rattle.fwupd.proofs.running.update_all.Goals as goal
 
@@ -9,6 +9,7 @@ loop-init g c = record {
   updates = updates_none c.args.world.now c.start_all.new.world c.in-Ok.ensures.started;
   devices = c.requires ∙ ap length (sym c.in-Ok.ensures.same);
   none = c.new-steps.ensures.items;
+  seen = refl;
   kept = refl;
 }
 
@@ -39,6 +40,14 @@ returns-in-Err-see-clause-frame g c e = absurd (watched_apart c.in-Err-see.fault
 pub returns-in-Err-see-clause-step : goal.returns-in-Err-see-clause-step
 returns-in-Err-see-clause-step g c e = absurd (watched_apart c.in-Err-see.fault edges.Step (sym c.watch_fault.ensures.told ∙ e))
 
+pub returns-in-Err-drive-clause-unwritten : goal.returns-in-Err-drive-clause-unwritten
+returns-in-Err-drive-clause-unwritten g c e = absurd (turned_apart c.in-Err-drive.fault (sym c.broken_off.ensures ∙ e))
+
+pub returns-in-Err-see-clause-unwritten : goal.returns-in-Err-see-clause-unwritten
+returns-in-Err-see-clause-unwritten g c e =
+    unwritten_by c.in-Err-see.fault (g.V.Watch.fault c.args.watch.now) (g.V.Watch.fault c.loop.watch) (g.V.Watch.fault c.see.new.self) (sym c.watch_fault.ensures.told ∙ e) c.loop.invariant.seen
+    c.in-Err-see.ensures.err
+
 pub loop-preserved : goal.loop-preserved
 loop-preserved g c = record {
   updates =
@@ -47,5 +56,6 @@ loop-preserved g c = record {
       c.loop.invariant.none c.drive.ensures.drives.drives c.in-Ok-drive.ensures.ticks);
   devices = c.drive.ensures.devices;
   none = c.clear.ensures.items;
+  seen = c.in-Ok-see.ensures.ok ∙ c.loop.invariant.seen;
   kept = c.in-Ok-drive.ensures.kept ∙ c.loop.invariant.kept;
 }

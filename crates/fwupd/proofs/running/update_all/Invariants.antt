@@ -8,5 +8,6 @@ invariant-loop g l = record {
   updates : Updates l.fn.world l.world l.counter;
   devices : length l.links ≡ length l.world.sites;
   none : l.steps.items ≡ [];
+  seen : g.V.Watch.fault l.watch ≡ g.V.Watch.fault l.fn.watch;
   kept : map (λ k. (g.L.Link.tally k).failures) l.links ≡ map (λ k. (g.L.Link.tally k).failures) l.fn.links;
 }

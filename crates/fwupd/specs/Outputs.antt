@@ -1,0 +1,19 @@
+-- Where the report of a run is written.
+use Rattle.std.specs.Prelude.{ℕ, ◌≡◌, Bool, true, List, Option}
+use Rattle.std.specs.Io.KnownBytes.{Appends}
+use Rattle.fwupd.specs.Stream.{Begins}
+
+-- Whether a write failed, and what is written, where that is known.
+pub record OutputOf : Type 0 where
+  pub is_broken : Bool
+  pub written : Option (List ℕ)
+
+-- This text was written.
+pub record Prints (before now : OutputOf) (text : List ℕ) : Type 0 where
+  pub whole : now.is_broken ≡ before.is_broken
+  pub written : Appends before.written now.written text
+
+-- Its write failed, after a beginning of it.
+pub record FailsToPrint (before now : OutputOf) (text : List ℕ) : Type 0 where
+  pub failed : now.is_broken ≡ true
+  pub begun : Begins before.written now.written text
