@@ -3,9 +3,10 @@
 ghost use Rattle.std.specs.Iterator.{YieldsFirstBy, item_count};
 ghost use Rattle.std.specs.Prelude.{◌≡◌, ◌+◌, ◌<◌, ◌≤◌, length, drop, IsSome};
 ghost use Rattle.std.specs.Result.{result_map_both};
-ghost use Rattle.fw_package.specs.Components.{component_of, components_of};
+ghost use Rattle.fw_package.specs.Components.{component_of, components_of, place_of};
 ghost use Rattle.fw_package.specs.Layout.{after_component, after_components, text_size_of};
 ghost use Rattle.fw_package.specs.Lent.{component_seen};
+ghost use Rattle.fw_package.specs.Package.{text_of};
 
 use crate::fault::PackageFault;
 use crate::layout::{COMPONENT_SIZE, COMPONENT_TEXT_LENGTH, skip_components};
@@ -71,12 +72,20 @@ impl<'a> Component<'a> {
             stamp: LittleEndian::read_u32(&bytes[STAMP..]),
             options: LittleEndian::read_u16(&bytes[OPTIONS..]),
             offset,
-            text: Text {
-                kind: bytes[TEXT_TYPE],
-                bytes: &bytes[COMPONENT_SIZE..component_size(bytes)],
-            },
+            text: version_text(bytes),
             image: &file[offset..offset + size],
         })
+    }
+}
+
+/// The version text of the component with which these bytes begin.
+fn version_text(bytes: &[u8]) -> Text<'_>
+    requires { IsSome (after_component bytes.now) }
+    ensures { text_of result ≡ (place_of bytes.now).text }
+{
+    Text {
+        kind: bytes[TEXT_TYPE],
+        bytes: &bytes[COMPONENT_SIZE..component_size(bytes)],
     }
 }
 
