@@ -117,14 +117,14 @@ fn refused_memory_leaves_the_lane(rt: HostRuntime) {
             let step = step.get(..1).unwrap_or(&[]);
             let before = (lane.now(), lane.packets().len(), lane.history().len());
             if let Err(refused) = lane_replay(&mut lane, step) {
-                assert_eq!(rt; refused, (0, LaneFault::Memory));
+                assert!(rt; refused == (0, LaneFault::Memory));
                 let after = (lane.now(), lane.packets().len(), lane.history().len());
-                assert_eq!(rt; after, before);
-                assert_eq!(rt; lane_replay(&mut lane, step), Ok(()));
+                assert!(rt; after == before);
+                assert!(rt; lane_replay(&mut lane, step) == Ok(()));
             }
         }
     }
-    assert_eq!(rt; (lane.packets().len(), lane.now()), (40, 8));
-    assert_eq!(rt; lane.history().len(), 24);
+    assert!(rt; (lane.packets().len(), lane.now()) == (40, 8));
+    assert!(rt; lane.history().len() == 24);
     assert!(rt; is_of_a_cell(lane.history()));
 }

@@ -36,7 +36,7 @@ fn learnt(reply: &[u8]) -> LaneEntry {
 
 /// Takes steps that the lane allows.
 fn takes(lane: &mut Lane, steps: &[LaneStep], rt: &impl Abort) {
-    assert_eq!(rt; lane_replay(lane, steps), Ok(()));
+    assert!(rt; lane_replay(lane, steps) == Ok(()));
 }
 
 /// So many ticks.
@@ -50,12 +50,9 @@ fn ticks(lane: &mut Lane, count: u32, rt: &impl Abort) {
 fn refuses(lane: &mut Lane, step: LaneStep, fault: LaneFault, rt: &impl Abort) {
     let before = (lane.now(), lane.packets().len(), lane.history().len());
     let state = (lane.is_open(), lane.is_quiet(), lane.can_begin());
-    assert_eq!(rt; lane_replay(lane, &[step]), Err((0, fault)));
-    assert_eq!(rt;
-        (lane.now(), lane.packets().len(), lane.history().len()),
-        before
-    );
-    assert_eq!(rt; (lane.is_open(), lane.is_quiet(), lane.can_begin()), state);
+    assert!(rt; lane_replay(lane, &[step]) == Err((0, fault)));
+    assert!(rt; (lane.now(), lane.packets().len(), lane.history().len()) == before);
+    assert!(rt; (lane.is_open(), lane.is_quiet(), lane.can_begin()) == state);
 }
 
 /// The date and the bytes of a packet.
@@ -83,19 +80,19 @@ fn a_repeated_request_gets_its_first_reply_again(rt: HostRuntime) {
     );
     let request = [0x01, 9, 8, 0xC8, 0x01, 0x80, 0x05, 0x10, 0xF0, 0x00];
     let reply = [0x01, 8, 9, 0xC0, 0x01, 0x00, 0x05, 0x10, 0x00, 0x01];
-    assert_eq!(rt; lane.packets().len(), 4);
-    assert_eq!(rt; sent(&lane, 1, &rt), (0, request.as_slice()));
-    assert_eq!(rt; sent(&lane, 2, &rt), (0, reply.as_slice()));
-    assert_eq!(rt; sent(&lane, 3, &rt), (6, request.as_slice()));
-    assert_eq!(rt; sent(&lane, 4, &rt), (6, reply.as_slice()));
-    assert_eq!(rt;
-        lane.history(),
-        [
-            asked(0x10, &[0xF0, 0x00]),
-            taken(0x10, &[0xF0, 0x00], &[0x00, 0x01]),
-            learnt(&[0x00, 0x01])
-        ]
-        .as_slice()
+    assert!(rt; lane.packets().len() == 4);
+    assert!(rt; sent(&lane, 1, &rt) == (0, request.as_slice()));
+    assert!(rt; sent(&lane, 2, &rt) == (0, reply.as_slice()));
+    assert!(rt; sent(&lane, 3, &rt) == (6, request.as_slice()));
+    assert!(rt; sent(&lane, 4, &rt) == (6, reply.as_slice()));
+    assert!(rt;
+        lane.history()
+            == [
+                asked(0x10, &[0xF0, 0x00]),
+                taken(0x10, &[0xF0, 0x00], &[0x00, 0x01]),
+                learnt(&[0x00, 0x01])
+            ]
+            .as_slice()
     );
 }
 
@@ -105,7 +102,7 @@ fn pieces_of_a_sending_and_of_its_repeat_mix(rt: HostRuntime) {
     let mut lane = Lane::new(rt.alloc(), 8, 9);
     takes(&mut lane, &[begin(0x13, &body)], &rt);
     ticks(&mut lane, 6, &rt);
-    assert_eq!(rt; lane.packets().len(), 4);
+    assert!(rt; lane.packets().len() == 4);
     // a second piece alone; the first of the repeat with the second of the first sending; and the other way round
     takes(
         &mut lane,
@@ -118,14 +115,11 @@ fn pieces_of_a_sending_and_of_its_repeat_mix(rt: HostRuntime) {
         ],
         &rt,
     );
-    assert_eq!(rt;
-        lane.history(),
-        [asked(0x13, &body), taken(0x13, &body, &[0x00])].as_slice()
-    );
+    assert!(rt; lane.history() == [asked(0x13, &body), taken(0x13, &body, &[0x00])].as_slice());
     let reply = [0x01, 8, 9, 0xC0, 0x01, 0x00, 0x05, 0x13, 0x00];
-    assert_eq!(rt; lane.packets().len(), 6);
-    assert_eq!(rt; sent(&lane, 5, &rt), (6, reply.as_slice()));
-    assert_eq!(rt; sent(&lane, 6, &rt), (6, reply.as_slice()));
+    assert!(rt; lane.packets().len() == 6);
+    assert!(rt; sent(&lane, 5, &rt) == (6, reply.as_slice()));
+    assert!(rt; sent(&lane, 6, &rt) == (6, reply.as_slice()));
 }
 
 #[test]
@@ -150,24 +144,24 @@ fn an_asker_that_starts_anew_is_deaf_for_40_ticks(rt: HostRuntime) {
     }
     assert!(rt; !lane.is_deaf(End::Asker) && lane.can_begin());
     // it neither repeated nor learnt; its next request has the first tag and identifier again, and is new to the taker
-    assert_eq!(rt; lane.packets().len(), 2);
+    assert!(rt; lane.packets().len() == 2);
     takes(
         &mut lane,
         &[begin(0x02, &[]), to_taker(3, &[0x00, 0x02]), to_asker(4)],
         &rt,
     );
     let request = [0x01, 9, 8, 0xC8, 0x01, 0x80, 0x05, 0x02];
-    assert_eq!(rt; sent(&lane, 3, &rt), (40, request.as_slice()));
-    assert_eq!(rt;
-        lane.history(),
-        [
-            asked(0x01, &[]),
-            taken(0x01, &[], &[0x00]),
-            asked(0x02, &[]),
-            taken(0x02, &[], &[0x00, 0x02]),
-            learnt(&[0x00, 0x02])
-        ]
-        .as_slice()
+    assert!(rt; sent(&lane, 3, &rt) == (40, request.as_slice()));
+    assert!(rt;
+        lane.history()
+            == [
+                asked(0x01, &[]),
+                taken(0x01, &[], &[0x00]),
+                asked(0x02, &[]),
+                taken(0x02, &[], &[0x00, 0x02]),
+                learnt(&[0x00, 0x02])
+            ]
+            .as_slice()
     );
 }
 
@@ -194,6 +188,6 @@ fn faults_are_named_and_change_nothing(rt: HostRuntime) {
     refuses(&mut lane, to_taker(1, &[0x00]), LaneFault::Dead, &rt);
     // the steps before a fault are taken
     let steps = [LaneStep::Abandon, LaneStep::Tick, LaneStep::Abandon];
-    assert_eq!(rt; lane_replay(&mut lane, &steps), Err((2, LaneFault::NotNow)));
-    assert_eq!(rt; (lane.now(), lane.is_open()), (10, false));
+    assert!(rt; lane_replay(&mut lane, &steps) == Err((2, LaneFault::NotNow)));
+    assert!(rt; (lane.now(), lane.is_open()) == (10, false));
 }

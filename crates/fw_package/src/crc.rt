@@ -48,7 +48,7 @@ mod tests {
 
     #[test]
     fn gives_the_check_value(rt: HostRuntime) {
-        assert_eq!(rt; crc32(b"123456789"), 0xCBF4_3926);
-        assert_eq!(rt; crc32(&[]), 0);
+        assert!(rt; crc32(b"123456789") == 0xCBF4_3926);
+        assert!(rt; crc32(&[]) == 0);
     }
 }

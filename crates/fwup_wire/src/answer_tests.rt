@@ -90,8 +90,8 @@ fn read_and_written<'a>(
 ) -> Result<Answer<'a>, Malformed> {
     let answer = read_answer(byte, bytes)?;
     assert!(rt; answer.is_writable());
-    assert_eq!(rt; write_answer(&answer).as_slice(), bytes);
-    assert_eq!(rt; answer.code(), bytes.first().copied().unwrap_or(1));
+    assert!(rt; write_answer(&answer).as_slice() == bytes);
+    assert!(rt; answer.code() == bytes.first().copied().unwrap_or(1));
     Ok(answer)
 }
 
@@ -120,7 +120,7 @@ fn reads_answers_without_lists(rt: HostRuntime) -> Result<(), Fail> {
         response: response::CANNOT_BE_UPDATED,
         code: response::NOT_SUPPORTED,
     };
-    assert_eq!(rt; told, unsupported);
+    assert!(rt; told == unsupported);
     let declined = [0, 1, 1, 0, 0, 0, 0, 0x2C, 0x01];
     let Answer::UpdateComponent(told) = read_and_written(&rt, command::UPDATE_COMPONENT, &declined)?
     else {
@@ -133,7 +133,7 @@ fn reads_answers_without_lists(rt: HostRuntime) -> Result<(), Fail> {
         force: false,
         time: 300,
     };
-    assert_eq!(rt; told, same_stamp);
+    assert!(rt; told == same_stamp);
     let Answer::ActivateFirmware { time } = read_and_written(
         &rt,
         command::ACTIVATE_FIRMWARE,
@@ -143,7 +143,7 @@ fn reads_answers_without_lists(rt: HostRuntime) -> Result<(), Fail> {
         assert!(rt; false, "another answer");
         return Ok(());
     };
-    assert_eq!(rt; time, 258);
+    assert!(rt; time == 258);
     Ok(())
 }
 
@@ -162,7 +162,7 @@ fn ends_refusals_at_the_code(rt: HostRuntime) -> Result<(), Fail> {
     ] {
         for code in codes {
             match read_and_written(&rt, byte, &[code])? {
-                Answer::Refused { code: told } => assert_eq!(rt; told, code),
+                Answer::Refused { code: told } => assert!(rt; told == code),
                 _ => assert!(rt; false, "another answer"),
             }
             assert!(rt; read_answer(byte, &[code, 0]).is_err(), "more bytes");
@@ -209,8 +209,8 @@ fn reads_and_puts_together_descriptors(rt: HostRuntime) -> Result<(), Fail> {
             assert!(rt; false, "{situation}");
             return Ok(());
         };
-        assert_eq!(rt; descriptors.len(), count, "{situation}");
-        assert_eq!(rt; descriptors.is_empty(), count == 0, "{situation}");
+        assert!(rt; descriptors.len() == count, "{situation}");
+        assert!(rt; descriptors.is_empty() == (count == 0), "{situation}");
         let mut list = DescriptorList::new();
         for (told, descriptor) in descriptors.iter().zip(all) {
             assert!(rt; told == descriptor, "{situation}");
@@ -219,7 +219,7 @@ fn reads_and_puts_together_descriptors(rt: HostRuntime) -> Result<(), Fail> {
         }
         let answer = Answer::QueryDeviceIdentifiers(list.lent());
         assert!(rt; answer.is_writable(), "{situation}");
-        assert_eq!(rt; write_answer(&answer).as_slice(), bytes, "{situation}");
+        assert!(rt; write_answer(&answer).as_slice() == bytes, "{situation}");
     }
     Ok(())
 }
@@ -243,7 +243,7 @@ fn reads_and_puts_together_components(rt: HostRuntime) -> Result<(), Fail> {
             assert!(rt; false, "{situation}");
             return Ok(());
         };
-        assert_eq!(rt; told.len(), parts.len(), "{situation}");
+        assert!(rt; told.len() == parts.len(), "{situation}");
         assert!(rt; !told.is_empty(), "{situation}");
         let mut list = ParameterList::new();
         for (told, component) in told.iter().zip(all) {
@@ -255,9 +255,8 @@ fn reads_and_puts_together_components(rt: HostRuntime) -> Result<(), Fail> {
         }
         let answer = Answer::GetFirmwareParameters(list.lent());
         assert!(rt; answer.is_writable(), "{situation}");
-        assert_eq!(rt;
-            write_answer(&answer).as_slice(),
-            bytes.as_slice(),
+        assert!(rt;
+            write_answer(&answer).as_slice() == bytes.as_slice(),
             "{situation}"
         );
     }

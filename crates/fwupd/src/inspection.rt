@@ -262,7 +262,7 @@ mod tests {
             component 1 class 65535 ident 2 stamp 01020304 options 0003 offset 0 size 0 \
             version \"a \\x22b\\x22 \\x5C \\x1F\\x7F\\xC3\\xA9 ~\"\n";
         match inspect(rt.alloc(), &package) {
-            Ok(text) => assert_eq!(rt; text.as_slice(), want.as_slice()),
+            Ok(text) => assert!(rt; text.as_slice() == want.as_slice()),
             Err(_) => assert!(rt; false),
         }
         Ok(())
@@ -280,7 +280,7 @@ mod tests {
             let cut = package.get(..size).unwrap_or(&[]);
             match inspect(rt.alloc(), cut) {
                 Ok(_) => assert!(rt; false, "{size}"),
-                Err(e) => assert_eq!(rt; e, InspectFault::Package(fault), "{size}"),
+                Err(e) => assert!(rt; e == InspectFault::Package(fault), "{size}"),
             }
         }
         if let Some(byte) = package.get_mut(25) {
@@ -288,7 +288,7 @@ mod tests {
         }
         match inspect(rt.alloc(), &package) {
             Ok(_) => assert!(rt; false),
-            Err(e) => assert_eq!(rt; e, InspectFault::Package(PackageFault::Checksum)),
+            Err(e) => assert!(rt; e == InspectFault::Package(PackageFault::Checksum)),
         }
         Ok(())
     }
@@ -308,7 +308,7 @@ mod tests {
     fn refused_memory_refuses_the_inspection(rt: HostRuntime) {
         match inspect(rt.alloc(), &PACKAGE) {
             Ok(text) => assert!(rt; text.ends_with(b"version \"v\"\n")),
-            Err(fault) => assert_eq!(rt; fault, InspectFault::Memory),
+            Err(fault) => assert!(rt; fault == InspectFault::Memory),
         }
     }
 }

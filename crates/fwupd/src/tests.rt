@@ -110,7 +110,7 @@ fn answers_control_and_base_commands_in_one_run(rt: HostRuntime) -> Result<(), F
         010809C20102030120\n\
         010809C30103000905\n\
         drop Message\n";
-    assert_eq!(rt; answers_to(&rt, input)?.as_slice(), want.as_slice());
+    assert!(rt; answers_to(&rt, input)?.as_slice() == want.as_slice());
     Ok(())
 }
 
@@ -122,7 +122,7 @@ fn a_broken_reader_leaves_the_answers_before(rt: HostRuntime) {
     };
     let outcome = answer_stream(rt.alloc(), &mut input, &mut out, 9, Uuid::nil());
     assert!(rt; matches!(outcome, Err(AnswerFault::Read)));
-    assert_eq!(rt; out.as_slice(), b"drop Short\n".as_slice());
+    assert!(rt; out.as_slice() == b"drop Short\n".as_slice());
 }
 
 #[test]
@@ -138,7 +138,7 @@ fn what_is_interrupted_is_tried_again_and_each_answer_is_flushed(rt: HostRuntime
     };
     let outcome = answer_stream(rt.alloc(), &mut input, &mut writer, 9, Uuid::nil());
     assert!(rt; outcome.is_ok());
-    assert_eq!(rt; writer.flushes, 3);
+    assert!(rt; writer.flushes == 3);
 }
 
 #[test]
@@ -148,7 +148,7 @@ fn a_broken_writer_stops_the_run(rt: HostRuntime) {
     let mut input = b"02\n01\n03\n".as_slice();
     let outcome = answer_stream(rt.alloc(), &mut input, &mut writer, 9, Uuid::nil());
     assert!(rt; matches!(outcome, Err(AnswerFault::Write)));
-    assert_eq!(rt; room.as_slice(), b"drop Short\ndrop ".as_slice());
+    assert!(rt; room.as_slice() == b"drop Short\ndrop ".as_slice());
 }
 
 #[test]
@@ -157,11 +157,11 @@ fn reads_so_many_bytes_and_not_one_more(rt: HostRuntime) {
     let mut most = io::repeat(b'0').take(16_777_216);
     let outcome = answer_stream(rt.alloc(), &mut most, &mut out, 9, Uuid::nil());
     assert!(rt; outcome.is_ok());
-    assert_eq!(rt; out.as_slice(), b"drop Version\n".as_slice());
+    assert!(rt; out.as_slice() == b"drop Version\n".as_slice());
     let mut one_more = io::repeat(b'0').take(16_777_217);
     let outcome = answer_stream(rt.alloc(), &mut one_more, &mut out, 9, Uuid::nil());
     assert!(rt; matches!(outcome, Err(AnswerFault::Read)));
-    assert_eq!(rt; out.as_slice(), b"drop Version\n".as_slice());
+    assert!(rt; out.as_slice() == b"drop Version\n".as_slice());
 }
 
 /// Holds whichever single allocation is refused.
@@ -181,9 +181,9 @@ fn refused_memory_leaves_whole_answers(rt: HostRuntime) {
         b"drop Short\n010809C000000200090100\n010809C000000F05\n",
     ];
     match outcome {
-        Ok(()) => assert_eq!(rt; written, answers[3]),
+        Ok(()) => assert!(rt; written == answers[3]),
         Err(fault) => {
-            assert_eq!(rt; fault, AnswerFault::Memory);
+            assert!(rt; fault == AnswerFault::Memory);
             assert!(rt; answers[..3].contains(&written));
         }
     }
@@ -227,8 +227,8 @@ fn the_endpoint_is_the_one_of_the_words(rt: HostRuntime) -> Result<(), Fail> {
             assert!(rt; false, "{line}");
             continue;
         };
-        assert_eq!(rt; endpoint.eid, eid, "{line}");
-        assert_eq!(rt; endpoint.uuid.as_bytes()[15], last, "{line}");
+        assert!(rt; endpoint.eid == eid, "{line}");
+        assert!(rt; endpoint.uuid.as_bytes()[15] == last, "{line}");
     }
     Ok(())
 }
@@ -275,7 +275,7 @@ fn faults_are_told_by_their_names(rt: HostRuntime) -> Result<(), Fail> {
         ),
     ];
     for (fault, want) in table {
-        assert_eq!(rt; text_of(&rt, fault)?.as_str(), want);
+        assert!(rt; text_of(&rt, fault)?.as_str() == want);
     }
     Ok(())
 }

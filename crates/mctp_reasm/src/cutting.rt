@@ -65,17 +65,15 @@ mod tests {
             assert!(rt; size <= 256);
             let message = Message::new(9, 8, true, 3, &bytes[..size])?;
             let packets = split(&message);
-            assert_eq!(rt; packets.len(), flags.len(), "{size}");
+            assert!(rt; packets.len() == flags.len(), "{size}");
             for (packet, flag) in packets.as_slice().iter().zip(flags) {
-                assert_eq!(rt;
-                    packet.as_slice().get(..4),
-                    Some([1, 9, 8, *flag].as_slice()),
+                assert!(rt;
+                    packet.as_slice().get(..4) == Some([1, 9, 8, *flag].as_slice()),
                     "{size}"
                 );
             }
-            assert_eq!(rt;
-                packets.as_slice().last().map(|p| p.len()),
-                Some(4 + last),
+            assert!(rt;
+                packets.as_slice().last().map(|p| p.len()) == Some(4 + last),
                 "{size}"
             );
         }

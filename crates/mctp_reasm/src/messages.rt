@@ -141,23 +141,22 @@ mod tests {
             assert!(rt; false);
             return Ok(());
         };
-        assert_eq!(rt; fault, MessageFault::Empty);
+        assert!(rt; fault == MessageFault::Empty);
         let Err(fault) = Message::new(9, 8, true, 3, &bytes) else {
             assert!(rt; false);
             return Ok(());
         };
-        assert_eq!(rt; fault, MessageFault::TooLong);
+        assert!(rt; fault == MessageFault::TooLong);
         for size in [1, 256] {
             let message = Message::new(9, 8, true, 3, &bytes[..size])?.again();
-            assert_eq!(rt; message.bytes().len(), size);
-            assert_eq!(rt;
+            assert!(rt; message.bytes().len() == size);
+            assert!(rt;
                 (
                     message.dest(),
                     message.source(),
                     message.to(),
                     message.tag()
-                ),
-                (9, 8, true, 3)
+                ) == (9, 8, true, 3)
             );
         }
         Ok(())

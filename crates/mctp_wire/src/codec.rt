@@ -148,8 +148,8 @@ mod tests {
         ];
         for (situation, bytes, head, size) in table {
             let packet = decode(bytes)?;
-            assert_eq!(rt; packet.head, head, "{situation}");
-            assert_eq!(rt; packet.body.len(), size, "{situation}");
+            assert!(rt; packet.head == head, "{situation}");
+            assert!(rt; packet.body.len() == size, "{situation}");
             assert!(rt; bytes.ends_with(packet.body), "{situation}");
         }
         Ok(())
@@ -179,7 +179,7 @@ mod tests {
         for (situation, bytes, fault) in table {
             match decode(bytes) {
                 Ok(_) => assert!(rt; false, "{situation}"),
-                Err(e) => assert_eq!(rt; e, fault, "{situation}"),
+                Err(e) => assert!(rt; e == fault, "{situation}"),
             }
         }
     }
@@ -188,10 +188,10 @@ mod tests {
     fn writes_in_place_of_what_was_there(rt: HostRuntime) {
         let mut out = RawPacket::new();
         encode(&MIDDLE_HEAD, &[0xAA], &mut out);
-        assert_eq!(rt; out.as_slice(), [0x01, 0x08, 0x09, 0x25, 0xAA].as_slice());
+        assert!(rt; out.as_slice() == [0x01, 0x08, 0x09, 0x25, 0xAA].as_slice());
         encode(&REQUEST_HEAD, &[0x00, 0x80, 0x02], &mut out);
-        assert_eq!(rt; out.as_slice(), REQUEST.as_slice());
+        assert!(rt; out.as_slice() == REQUEST.as_slice());
         encode(&REQUEST_HEAD, &[0x01; 64], &mut out);
-        assert_eq!(rt; out.len(), 68);
+        assert!(rt; out.len() == 68);
     }
 }

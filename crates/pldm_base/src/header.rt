@@ -156,10 +156,10 @@ mod tests {
         for (situation, head, body, bytes) in table {
             assert!(rt; body.len() <= 252 && head.instance <= 31 && head.pldm_type <= 63);
             let message = encode(&head, body);
-            assert_eq!(rt; message.as_slice(), bytes, "{situation}");
+            assert!(rt; message.as_slice() == bytes, "{situation}");
             let (read, rest) = decode(bytes)?;
-            assert_eq!(rt; read, head, "{situation}");
-            assert_eq!(rt; rest, body, "{situation}");
+            assert!(rt; read == head, "{situation}");
+            assert!(rt; rest == body, "{situation}");
         }
         Ok(())
     }
@@ -167,7 +167,7 @@ mod tests {
     #[test]
     fn looks_past_the_reserved_bit(rt: HostRuntime) -> Result<(), Fail> {
         let (head, body) = decode(&[0x01, 0xA9, 0x00, 0x02])?;
-        assert_eq!(rt; head, GET_TID);
+        assert!(rt; head == GET_TID);
         assert!(rt; body.is_empty());
         Ok(())
     }
@@ -211,7 +211,7 @@ mod tests {
         for (situation, bytes, fault) in table {
             match decode(bytes) {
                 Ok(_) => assert!(rt; false, "{situation}"),
-                Err(e) => assert_eq!(rt; e, fault, "{situation}"),
+                Err(e) => assert!(rt; e == fault, "{situation}"),
             }
         }
     }

@@ -55,9 +55,9 @@ fn takes_a_table_of_several_components(rt: HostRuntime) -> Result<(), Fail> {
     let _ = ask(&mut device, 0x10, &request, true);
     for (situation, flag, identifier, reply) in &rows {
         let got = ask(&mut device, 0x13, &entry(*flag, *identifier), true);
-        assert_eq!(rt; got.as_slice(), *reply, "{situation}");
+        assert!(rt; got.as_slice() == *reply, "{situation}");
     }
-    assert_eq!(rt; number(&device), 2);
+    assert!(rt; number(&device) == 2);
     Ok(())
 }
 
@@ -70,28 +70,26 @@ fn activates_only_a_whole_update(rt: HostRuntime) -> Result<(), Fail> {
     let _ = ask(&mut device, 0x13, &entry(4, 2), true);
     advance_between(&mut device, READY, COMPLETE, 32);
     let reply = ask(&mut device, 0x1A, &[0], true);
-    assert_eq!(rt;
-        reply.as_slice(),
-        [0x85].as_slice(),
+    assert!(rt;
+        reply.as_slice() == [0x85].as_slice(),
         "the second component isn't applied"
     );
     assert!(rt; has_applied(&device) && !device.may_activate());
     let mut other = offer(2, 0, false);
     other[2] = 2;
     let reply = ask(&mut device, 0x14, &other, true);
-    assert_eq!(rt;
-        reply.as_slice(),
-        [0, 0, 0, 0, 0, 0, 0, 0, 0].as_slice(),
+    assert!(rt;
+        reply.as_slice() == [0, 0, 0, 0, 0, 0, 0, 0, 0].as_slice(),
         "an empty image"
     );
     assert!(rt; is_done(&device));
     advance_between(&mut device, DOWNLOADED, COMPLETE, 0);
     assert!(rt; device.may_activate());
     let reply = ask(&mut device, 0x1A, &[0], true);
-    assert_eq!(rt; reply.as_slice(), [0, 0, 0].as_slice());
+    assert!(rt; reply.as_slice() == [0, 0, 0].as_slice());
     match device.bank().active(OTHER) {
         Some((label, bytes)) => {
-            assert_eq!(rt; label.stamp(), 2);
+            assert!(rt; label.stamp() == 2);
             assert!(rt; bytes.is_empty());
         }
         None => assert!(rt; false, "the component is gone"),
@@ -104,13 +102,13 @@ fn tells_its_descriptors_and_components(rt: HostRuntime) -> Result<(), Fail> {
     let mut device = worked(rt.alloc())?;
     let reply = ask(&mut device, 0x01, &[], false);
     let expected = [0, 6, 0, 0, 0, 1, 0, 0, 2, 0, 0x34, 0x12];
-    assert_eq!(rt; reply.as_slice(), expected.as_slice());
+    assert!(rt; reply.as_slice() == expected.as_slice());
     let nothing_pending = [
         0, 0, 0, 0, 0, 1, 0, 0, 0, 0, 0, 0x0A, 0, 1, 0, 0, 1, 0, 0, 0, 1, 3, 0, 0, 0, 0, 0, 0, 0,
         0, 0, 0, 0, 0, 0, 0, 0, 0, 0, 0, 0, 0, 0, 0, 2, 0, 0, 0, 0, 0, 0x31, 0x2E, 0x30,
     ];
     let reply = ask(&mut device, 0x02, &[], false);
-    assert_eq!(rt; reply.as_slice(), nothing_pending.as_slice());
+    assert!(rt; reply.as_slice() == nothing_pending.as_slice());
     advance(&mut device, APPLIED);
     let pending = [
         0, 0, 0, 0, 0, 1, 0, 0, 0, 0, 0, 0x0A, 0, 1, 0, 0, 1, 0, 0, 0, 1, 3, 0, 0, 0, 0, 0, 0, 0,
@@ -118,7 +116,7 @@ fn tells_its_descriptors_and_components(rt: HostRuntime) -> Result<(), Fail> {
         0x32,
     ];
     let reply = ask(&mut device, 0x02, &[], false);
-    assert_eq!(rt; reply.as_slice(), pending.as_slice());
+    assert!(rt; reply.as_slice() == pending.as_slice());
     match device.keys() {
         [component] => assert!(rt; *component == Component { key: KEY, index: 0 }),
         _ => assert!(rt; false, "other components"),
@@ -177,11 +175,11 @@ fn compares_stamps(rt: HostRuntime) -> Result<(), Fail> {
         let mut device = device(bank(rt.alloc(), *active)?);
         let _ = ask(&mut device, 0x10, &REQUEST, true);
         let reply = ask(&mut device, 0x13, &entry, true);
-        assert_eq!(rt; reply.as_slice(), listed.as_slice(), "{situation}");
+        assert!(rt; reply.as_slice() == listed.as_slice(), "{situation}");
         let reply = ask(&mut device, 0x14, &offer(*offered, 241, *forced), true);
         let expected = [taken[0], taken[1], taken[2], taken[3], 0, 0, 0, 0, 0];
-        assert_eq!(rt; reply.as_slice(), expected.as_slice(), "{situation}");
-        assert_eq!(rt; number(&device) == 3, taken[1] == 0, "{situation}");
+        assert!(rt; reply.as_slice() == expected.as_slice(), "{situation}");
+        assert!(rt; (number(&device) == 3) == (taken[1] == 0), "{situation}");
     }
     Ok(())
 }

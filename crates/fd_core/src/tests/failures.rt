@@ -30,9 +30,9 @@ fn answers_code_1_once_where_the_bank_fails(rt: HostRuntime) -> Result<(), Fail>
         let mut device = failing(rt.alloc(), *k)?;
         advance_between(&mut device, IDLE, *place, 32);
         let reply = ask(&mut device, *command, fields, true);
-        assert_eq!(rt; reply.as_slice(), [1].as_slice(), "{situation}");
+        assert!(rt; reply.as_slice() == [1].as_slice(), "{situation}");
         advance_between(&mut device, *place, ACTIVATE, 32);
-        assert_eq!(rt; number(&device), 6, "{situation}");
+        assert!(rt; number(&device) == 6, "{situation}");
     }
     Ok(())
 }
@@ -69,9 +69,9 @@ fn reports_a_bad_verdict_once(rt: HostRuntime) -> Result<(), Fail> {
                 device.learn(Ok(&Answer::Refused { code: 0x88 }));
             }
             assert!(rt; report(&device).is_none(), "{situation}");
-            assert_eq!(rt; status(&mut device), *expected, "{situation}");
+            assert!(rt; status(&mut device) == *expected, "{situation}");
             let reply = ask(&mut device, CANCEL_UPDATE_COMPONENT, &[], true);
-            assert_eq!(rt; reply.as_slice(), [0].as_slice(), "{situation}");
+            assert!(rt; reply.as_slice() == [0].as_slice(), "{situation}");
         }
     }
     Ok(())

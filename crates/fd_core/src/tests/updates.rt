@@ -26,7 +26,7 @@ const SIZES: [Size<'static>; 6] = [
 fn downloads(rt: &impl Abort, device: &mut Device<MemBank>, row: &Size<'_>) {
     let (situation, size, requests) = row;
     advance_between(device, IDLE, DOWNLOAD, *size);
-    assert_eq!(rt; transfer(device, *size), *requests, "{situation}");
+    assert!(rt; transfer(device, *size) == *requests, "{situation}");
     assert!(rt; is_done(device), "{situation}");
     assert!(rt;
         report(device) == Some((TRANSFER_COMPLETE, 0)),
@@ -56,7 +56,7 @@ fn activates(rt: &impl Abort, device: &mut Device<MemBank>, row: &Size<'_>) {
     assert!(rt; runs(device, *size), "{situation}");
     assert!(rt; !has_applied(device), "{situation}");
     pass(device, 1);
-    assert_eq!(rt; status(device), [0, 6, 3, 0, 1], "{situation}");
+    assert!(rt; status(device) == [0, 6, 3, 0, 1], "{situation}");
     assert!(rt; runs(device, *size), "{situation}");
 }
 

@@ -37,7 +37,7 @@ fn the_last_of_three_alike_is_heard_until_all_are_dead(rt: HostRuntime) -> Resul
     for (situation, ticks, number, dead) in table {
         wait(&mut world, ticks);
         assert!(rt; heard(&world, DEVICE, &query) == number, "{situation}");
-        assert_eq!(rt; world.dead_packets(DEVICE), dead, "{situation}");
+        assert!(rt; world.dead_packets(DEVICE) == dead, "{situation}");
     }
     assert!(rt; heard(&world, 10, &query).is_none());
     Ok(())

@@ -81,6 +81,23 @@ fn answered(world: &Small<'_>, number: usize) -> Option<(u32, u8, u8)> {
     }
 }
 
+/// UpdateComponent of the first component, sent at 7, comes again at 15, while the second is transferred. Whether it is
+/// answered as it was.
+fn meets_its_answer(alloc: Global, world: &mut Small<'_>, links: &mut [BadLink]) -> bool {
+    goes(alloc, world, links, 15, 0)
+        && answered(world, 15) == Some((7, 0x14, 0))
+        && same(world, 15, 37)
+        && stands(world, DEVICE, SessionState::Download, State::Download, 38)
+}
+
+/// Whether both components are updated at 50: VerifyComplete, the device's 9th request, waits for the tag of the first, sent at
+/// 8, until 48.
+fn ends_at_50(alloc: Global, world: &mut Small<'_>, links: &mut [BadLink]) -> bool {
+    goes(alloc, world, links, 35, 0)
+        && stands(world, DEVICE, SessionState::Done, State::Activate, 46)
+        && tells(world, b"ARARVV")
+}
+
 #[test]
 fn a_late_request_meets_its_kept_answer(rt: HostRuntime) -> Result<(), Fail> {
     let bytes = file_of_two(rt.alloc())?;
@@ -88,15 +105,8 @@ fn a_late_request_meets_its_kept_answer(rt: HostRuntime) -> Result<(), Fail> {
     let mut world = world_of_two(rt.alloc(), &packages)?;
     let mut links = [BadLink::new(rt.alloc(), Trouble::Repeats(14, 36))];
     assert!(rt; acts(&mut world, &[Step::Start(DEVICE, 1)]));
-    // UpdateComponent of the first component, sent at 7, comes again at 15, while the second is transferred
-    assert!(rt; goes(rt.alloc(), &mut world, &mut links, 15, 0));
-    assert!(rt; answered(&world, 15) == Some((7, 0x14, 0)));
-    assert!(rt; same(&world, 15, 37));
-    assert!(rt; stands(&world, DEVICE, SessionState::Download, State::Download, 38));
-    // VerifyComplete, the device's 9th request, waits for the tag of the first, sent at 8: until 48
-    assert!(rt; goes(rt.alloc(), &mut world, &mut links, 35, 0));
-    assert!(rt; stands(&world, DEVICE, SessionState::Done, State::Activate, 46));
-    assert!(rt; tells(&world, b"ARARVV"));
+    assert!(rt; meets_its_answer(rt.alloc(), &mut world, &mut links));
+    assert!(rt; ends_at_50(rt.alloc(), &mut world, &mut links));
     Ok(())
 }
 
@@ -167,24 +177,36 @@ fn a_restarted_device_is_deaf_for_40_ticks(rt: HostRuntime) -> Result<(), Fail> 
     Ok(())
 }
 
+/// The agent restarts after it recorded, and hears nothing until 251. Whether both have forgotten the update, and its record
+/// stands.
+fn restarts_after_recording(alloc: Global, world: &mut Small<'_>, links: &mut [BadLink]) -> bool {
+    goes(alloc, world, links, 11, 0)
+        && acts(world, &[Step::Restart(AGENT)])
+        && goes(alloc, world, links, 240, 0)
+        && world.now() == 251
+        && !world.agent().is_deaf()
+        && stands(world, DEVICE, SessionState::Idle, State::Idle, 25)
+        && runs(world, DEVICE, &[0xAA])
+        && world.agent().log().len() == 2
+        && tells(world, b"AR")
+}
+
+/// Whether the update that the operator starts anew is one over perfect links.
+fn is_updated_anew(alloc: Global, world: &mut Small<'_>, links: &mut [BadLink]) -> bool {
+    acts(world, &[Step::Start(DEVICE, 1)])
+        && goes(alloc, world, links, 12, 0)
+        && stands(world, DEVICE, SessionState::Done, State::Activate, 52)
+        && tells(world, b"ARARV")
+}
+
 #[test]
 fn an_agent_that_restarts_after_recording_keeps_its_record(rt: HostRuntime) -> Result<(), Fail> {
     let bytes = file(rt.alloc(), ONE)?;
     let packages = [package(&bytes)?];
     let mut world = started(rt.alloc(), &packages)?;
     let mut links = [BadLink::new(rt.alloc(), Trouble::Loses(0))];
-    assert!(rt; goes(rt.alloc(), &mut world, &mut links, 11, 0));
-    assert!(rt; acts(&mut world, &[Step::Restart(AGENT)]));
-    assert!(rt; goes(rt.alloc(), &mut world, &mut links, 240, 0));
-    assert!(rt; world.now() == 251 && !world.agent().is_deaf());
-    assert!(rt; stands(&world, DEVICE, SessionState::Idle, State::Idle, 25));
-    assert!(rt; runs(&world, DEVICE, &[0xAA]) && world.agent().log().len() == 2);
-    assert!(rt; tells(&world, b"AR"));
-    // the update that the operator starts anew is one over perfect links
-    assert!(rt; acts(&mut world, &[Step::Start(DEVICE, 1)]));
-    assert!(rt; goes(rt.alloc(), &mut world, &mut links, 12, 0));
-    assert!(rt; stands(&world, DEVICE, SessionState::Done, State::Activate, 52));
-    assert!(rt; tells(&world, b"ARARV"));
+    assert!(rt; restarts_after_recording(rt.alloc(), &mut world, &mut links));
+    assert!(rt; is_updated_anew(rt.alloc(), &mut world, &mut links));
     Ok(())
 }
 

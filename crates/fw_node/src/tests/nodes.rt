@@ -23,7 +23,7 @@ fn a_repeated_request_meets_its_kept_answer(rt: HostRuntime) {
         Event::Quiet(1),
         Event::Packet(REQUEST_UPDATE, ALREADY),
     ];
-    assert_eq!(rt; device_fails(rt.alloc(), &rows), 0);
+    assert!(rt; device_fails(rt.alloc(), &rows) == 0);
 }
 
 #[test]
@@ -36,7 +36,7 @@ fn another_identifier_is_another_request(rt: HostRuntime) {
         Event::Packet(REQUEST_UPDATE, TAKEN),
         Event::Packet(&other, &refused),
     ];
-    assert_eq!(rt; device_fails(rt.alloc(), &rows), 0);
+    assert!(rt; device_fails(rt.alloc(), &rows) == 0);
 }
 
 #[test]
@@ -48,7 +48,7 @@ fn a_restarted_device_is_deaf_for_40_ticks(rt: HostRuntime) {
         Event::Quiet(1),
         Event::Packet(GET_STATUS, IDLE),
     ];
-    assert_eq!(rt; device_fails(rt.alloc(), &rows), 0);
+    assert!(rt; device_fails(rt.alloc(), &rows) == 0);
 }
 
 #[test]
@@ -76,5 +76,5 @@ fn control_and_base_requests_are_answered(rt: HostRuntime) {
             &[0x01, 8, 9, 0xC4, 0x01, 0x03, 0x05, 0x15, 5],
         ),
     ];
-    assert_eq!(rt; device_fails(rt.alloc(), &rows), 0);
+    assert!(rt; device_fails(rt.alloc(), &rows) == 0);
 }

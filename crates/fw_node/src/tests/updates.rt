@@ -53,7 +53,7 @@ fn a_whole_update_is_done_and_noted(rt: HostRuntime) -> Result<(), Fail> {
     assert!(rt; bench.noted(1, 0, STARTED, DEVICE, NONE));
     assert!(rt; bench.noted(2, 11, APPLIED, DEVICE, 1));
     assert!(rt; bench.noted(3, 12, ACTIVATED, DEVICE, NONE));
-    assert_eq!(rt; bench.agent.log().len(), 3);
+    assert!(rt; bench.agent.log().len() == 3);
     Ok(())
 }
 
@@ -132,6 +132,37 @@ fn each_failure_is_noted_with_its_cause(rt: HostRuntime) -> Result<(), Fail> {
     Ok(())
 }
 
+/// Starts the update of each device but the worked one. Whether all were started.
+fn start_others(bench: &mut Bench<'_>) -> bool {
+    for eid in 10..=24 {
+        if !bench.start(eid, 1) {
+            return false;
+        }
+    }
+    true
+}
+
+/// Whether it is noted at 251 that each of the others was given up, and then that the worked device's session timed out.
+fn are_noted_in_order(bench: &mut Bench<'_>) -> bool {
+    for eid in 10u8..=24 {
+        if !bench.noted(u16::from(eid) + 8, 251, FAILED, eid, 1) {
+            return false;
+        }
+    }
+    bench.noted(33, 251, FAILED, DEVICE, 2)
+}
+
+/// Goes on until the worked device's session waits for the operator, and nothing moves until 233, when the others are started.
+/// Whether it is so.
+fn waits_while_others_start(bench: &mut Bench<'_>) -> Result<bool, AllocError> {
+    bench.turns(10)?;
+    bench.tick()?;
+    bench.deliver()?;
+    let waits = bench.session(DEVICE) == SessionState::AllApplied;
+    bench.ticks(221)?;
+    Ok(waits && start_others(bench))
+}
+
 #[test]
 fn one_tick_notes_what_was_given_up_before_what_timed_out(rt: HostRuntime) -> Result<(), Fail> {
     let bytes = file(rt.alloc(), ONE)?;
@@ -140,25 +171,11 @@ fn one_tick_notes_what_was_given_up_before_what_timed_out(rt: HostRuntime) -> Re
         9, 10, 11, 12, 13, 14, 15, 16, 17, 18, 19, 20, 21, 22, 23, 24,
     ];
     let mut bench = Bench::new(rt.alloc(), &packages, &all)?;
-    // all is applied at 11, and nothing moves until 251
-    assert!(rt; bench.start(DEVICE, 1));
-    bench.turns(10)?;
-    bench.tick()?;
-    bench.deliver()?;
-    assert!(rt; bench.session(DEVICE) == SessionState::AllApplied);
-    // the others ask at 233, and give up at 251
-    bench.ticks(221)?;
-    for eid in 10..=24 {
-        assert!(rt; bench.start(eid, 1));
-    }
+    assert!(rt; bench.start(DEVICE, 1) && waits_while_others_start(&mut bench)?);
     bench.ticks(18)?;
-    assert_eq!(rt; bench.agent.log().len(), 17);
+    assert!(rt; bench.agent.log().len() == 17);
     bench.tick()?;
-    assert_eq!(rt; bench.agent.log().len(), 33);
-    for eid in 10u8..=24 {
-        assert!(rt; bench.noted(u16::from(eid) + 8, 251, FAILED, eid, 1));
-    }
-    assert!(rt; bench.noted(33, 251, FAILED, DEVICE, 2));
+    assert!(rt; bench.agent.log().len() == 33 && are_noted_in_order(&mut bench));
     Ok(())
 }
 
@@ -189,6 +206,31 @@ fn answered(bench: &Bench<'_>, from: usize, command: u8) -> Option<u8> {
     None
 }
 
+/// The cancel meets ApplyComplete on its way. Whether that isn't expected, the cancel is noted, and the session ends.
+fn cancel_meets_completion(bench: &mut Bench<'_>) -> Result<bool, AllocError> {
+    let is_complete = sent_last(bench, APPLY_COMPLETE);
+    bench.cancel(DEVICE);
+    bench.hand_over(APPLY_COMPLETE)?;
+    let is_refused = sent_last(bench, NOT_EXPECTED);
+    let is_noted = bench.noted(2, 11, CANCELLED, DEVICE, NONE);
+    bench.turns(1)?;
+    Ok(is_complete && is_refused && is_noted && bench.session(DEVICE) == SessionState::Idle)
+}
+
+/// Takes the turn of this time. Whether GetFirmwareParameters and RequestUpdate are answered in it as they are to be: the former
+/// when tag 0 has rested, the latter until the device is quiet.
+fn answers_at(bench: &mut Bench<'_>, now: u32) -> Result<bool, AllocError> {
+    let parameters = if now == 41 { Some(0) } else { None };
+    let request = match now {
+        43..=46 => Some(4),
+        52 => Some(0),
+        _ => None,
+    };
+    let from = bench.packets.len();
+    bench.turns(1)?;
+    Ok(answered(bench, from, 0x02) == parameters && answered(bench, from, 0x10) == request)
+}
+
 #[test]
 fn a_cancel_meets_a_stale_completion(rt: HostRuntime) -> Result<(), Fail> {
     let bytes = file(rt.alloc(), ONE)?;
@@ -197,26 +239,10 @@ fn a_cancel_meets_a_stale_completion(rt: HostRuntime) -> Result<(), Fail> {
     assert!(rt; bench.start(DEVICE, 1));
     bench.turns(10)?;
     bench.tick()?;
-    assert!(rt; sent_last(&mut bench, APPLY_COMPLETE));
-    bench.cancel(DEVICE);
-    bench.hand_over(APPLY_COMPLETE)?;
-    assert!(rt; sent_last(&mut bench, NOT_EXPECTED));
-    assert!(rt; bench.noted(2, 11, CANCELLED, DEVICE, NONE));
-    bench.turns(1)?;
-    assert!(rt; bench.session(DEVICE) == SessionState::Idle);
+    assert!(rt; cancel_meets_completion(&mut bench)?);
     assert!(rt; bench.start(DEVICE, 1));
-    // GetFirmwareParameters when tag 0 has rested, and RequestUpdate until the device is quiet
     for now in 13..=52 {
-        let from = bench.packets.len();
-        bench.turns(1)?;
-        let params = if now == 41 { Some(0) } else { None };
-        assert!(rt; answered(&bench, from, 0x02) == params);
-        let request = match now {
-            43..=46 => Some(4),
-            52 => Some(0),
-            _ => None,
-        };
-        assert!(rt; answered(&bench, from, 0x10) == request);
+        assert!(rt; answers_at(&mut bench, now)?, "at {now}");
     }
     Ok(())
 }

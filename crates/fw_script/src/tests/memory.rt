@@ -14,8 +14,8 @@ fn refused_memory_is_told_of_configurations(rt: HostRuntime) {
         component 10 1 0 1 1.0 AABB\n\
         package a\n";
     match read_config(rt.alloc(), text) {
-        Ok(config) => assert_eq!(rt; (config.devices.len(), config.packages.len()), (2, 1)),
-        Err(fault) => assert_eq!(rt; fault.cause, ScriptCause::Memory),
+        Ok(config) => assert!(rt; (config.devices.len(), config.packages.len()) == (2, 1)),
+        Err(fault) => assert!(rt; fault.cause == ScriptCause::Memory),
     }
 }
 
@@ -23,8 +23,8 @@ fn refused_memory_is_told_of_configurations(rt: HostRuntime) {
 #[test]
 fn refused_memory_is_told_of_schedules(rt: HostRuntime) {
     match read_schedule(rt.alloc(), b"tick 4\nsel 4000\nrestart 9\n") {
-        Ok(steps) => assert_eq!(rt; steps.len(), 6),
-        Err(fault) => assert_eq!(rt; fault.cause, ScriptCause::Memory),
+        Ok(steps) => assert!(rt; steps.len() == 6),
+        Err(fault) => assert!(rt; fault.cause == ScriptCause::Memory),
     }
 }
 
@@ -44,9 +44,9 @@ fn faults_are_told_by_their_names(rt: HostRuntime) -> Result<(), Fail> {
     ];
     for (cause, want) in table {
         let fault = ScriptFault { line: 3, cause };
-        assert_eq!(rt; format!(in rt.alloc(); "{fault}")?.as_str(), want);
+        assert!(rt; format!(in rt.alloc(); "{fault}")?.as_str() == want);
         let named = format!(in rt.alloc(); "line 3: {}", cause.name())?;
-        assert_eq!(rt; named.as_str(), want);
+        assert!(rt; named.as_str() == want);
     }
     Ok(())
 }

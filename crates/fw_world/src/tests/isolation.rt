@@ -6,6 +6,7 @@ use crate::tests::schedules::perfect;
 use crate::tests::setup::{DEVICE, Small, three, world};
 use crate::{Step, replay_two};
 use fd_core::State;
+use fw_package::Package;
 use std::alloc::{AllocError, Global};
 use std::test::Fail;
 use ua_core::{Cause, SessionState};
@@ -52,24 +53,34 @@ fn is_updated(world: &Small<'_>, image: &[u8]) -> bool {
         && stands(world, DEVICE, SessionState::Done, State::Idle, 27)
 }
 
+/// Whether device 9 is updated in both worlds alike, and the agent gave up the silent device.
+fn is_as_alone(among: &Small<'_>, alone: &Small<'_>, image: &[u8]) -> bool {
+    let silent = SessionState::Failed(Cause::Silent);
+    is_updated(among, image)
+        && is_updated(alone, image)
+        && among.packets(DEVICE) == alone.packets(DEVICE)
+        && stands(among, SILENT, silent, State::Idle, 3)
+}
+
+/// Whether both schedules are taken, and device 9 is updated among three as alone.
+fn is_updated_as_alone<'a>(
+    alloc: Global,
+    packages: &'a [Package<'a>],
+    image: &[u8],
+) -> Result<bool, AllocError> {
+    let for_all = schedule(alloc, true)?;
+    let for_one = schedule(alloc, false)?;
+    let mut among = three(alloc, packages)?;
+    let mut alone = world(alloc, packages)?;
+    let (first, second) = replay_two(&mut among, &for_all, &mut alone, &for_one, DEVICE);
+    Ok(first.is_ok() && second.is_ok() && is_as_alone(&among, &alone, image))
+}
+
 #[test]
 fn beside_a_silent_device_another_is_updated_as_alone(rt: HostRuntime) -> Result<(), Fail> {
     let bytes = file(rt.alloc(), ONE)?;
     let packages = [package(&bytes)?];
     let image = image(rt.alloc())?;
-    let mut among = three(rt.alloc(), &packages)?;
-    let mut alone = world(rt.alloc(), &packages)?;
-    let (first, second) = replay_two(
-        &mut among,
-        &schedule(rt.alloc(), true)?,
-        &mut alone,
-        &schedule(rt.alloc(), false)?,
-        DEVICE,
-    );
-    assert!(rt; first.is_ok() && second.is_ok());
-    assert!(rt; is_updated(&among, &image) && is_updated(&alone, &image));
-    assert!(rt; among.packets(DEVICE) == alone.packets(DEVICE));
-    let silent = SessionState::Failed(Cause::Silent);
-    assert!(rt; stands(&among, SILENT, silent, State::Idle, 3));
+    assert!(rt; is_updated_as_alone(rt.alloc(), &packages, &image)?);
     Ok(())
 }

@@ -42,7 +42,7 @@ fn run(rt: &impl Abort, situation: &str, steps: &[Step]) -> Result<(), Fail> {
                 answerer.keep(&answer_to(&request(tag, identifier)?, field)?);
             }
             Ask(tag, identifier, wanted) => {
-                assert_eq!(rt; again(&answerer, tag, identifier)?, wanted, "{situation}");
+                assert!(rt; again(&answerer, tag, identifier)? == wanted, "{situation}");
             }
             Ticks(count) => {
                 for _ in 0..count {

@@ -46,8 +46,8 @@ fn time_ends_what_is_under_way_in_the_240th_tick(rt: HostRuntime) -> Result<(), 
             SessionState::Failed(Cause::TimeOut)
         };
         let (before, after) = idled(rt.alloc(), &lent, turns);
-        assert_eq!(rt; before, *state);
-        assert_eq!(rt; after, ended);
+        assert!(rt; before == *state);
+        assert!(rt; after == ended);
     }
     Ok(())
 }
@@ -66,21 +66,18 @@ fn refused_memory_starts_nothing(rt: HostRuntime) -> Result<(), Fail> {
     for number in 1..4usize {
         let before = (session.mark(), session.package());
         if let Err(fault) = session.start(number) {
-            assert_eq!(rt; fault, StartFault::Memory);
-            assert_eq!(rt; (session.mark(), session.package()), before);
-            assert_eq!(rt; session.start(number), Ok(()));
+            assert!(rt; fault == StartFault::Memory);
+            assert!(rt; (session.mark(), session.package()) == before);
+            assert!(rt; session.start(number) == Ok(()));
         }
-        assert_eq!(rt; session.state(), SessionState::Query);
-        assert_eq!(rt; session.package(), number);
+        assert!(rt; session.state() == SessionState::Query);
+        assert!(rt; session.package() == number);
         for _ in 0..11 {
             go_on(&mut session, &lent);
         }
-        assert_eq!(rt; session.state(), SessionState::Done);
-        assert_eq!(rt; session.records().len(), number);
-        assert_eq!(rt;
-            session.records().last().map(|made| made.package),
-            Some(number)
-        );
+        assert!(rt; session.state() == SessionState::Done);
+        assert!(rt; session.records().len() == number);
+        assert!(rt; session.records().last().map(|made| made.package) == Some(number));
     }
     Ok(())
 }

@@ -57,23 +57,20 @@ fn image_alone(file: &[u8]) -> Result<&[u8], PackageFault> {
 #[test]
 fn reads_the_worked_package(rt: HostRuntime) -> Result<(), Fail> {
     let file = worked();
-    assert_eq!(rt; file.len(), 439);
+    assert!(rt; file.len() == 439);
     let first = fields(file.as_slice(), 0)?;
-    assert_eq!(rt; first, [10, 1, 0xFFFF_FFFF, 0, WORKED_HEADER, 1, 0]);
+    assert!(rt; first == [10, 1, 0xFFFF_FFFF, 0, WORKED_HEADER, 1, 0]);
     let second = fields(file.as_slice(), 1)?;
-    assert_eq!(rt; second, [10, 2, 7, 2, WORKED_HEADER, 1, 300]);
-    assert_eq!(rt; uses(file.as_slice(), 0)?, 901);
-    assert_eq!(rt; uses(file.as_slice(), 1)?, 91);
+    assert!(rt; second == [10, 2, 7, 2, WORKED_HEADER, 1, 300]);
+    assert!(rt; uses(file.as_slice(), 0)? == 901);
+    assert!(rt; uses(file.as_slice(), 1)? == 91);
     Ok(())
 }
 
 #[test]
 fn an_image_outlives_its_package(rt: HostRuntime) -> Result<(), Fail> {
     let file = worked();
-    assert_eq!(rt;
-        Some(image_alone(file.as_slice())?),
-        worked_rest().get(..300)
-    );
+    assert!(rt; Some(image_alone(file.as_slice())?) == worked_rest().get(..300));
     Ok(())
 }
 
@@ -91,7 +88,7 @@ fn prints_the_name_of_each_fault(rt: HostRuntime) -> Result<(), Fail> {
     ];
     for (fault, name) in table {
         let printed = format!(in rt.alloc(); "{fault}")?;
-        assert_eq!(rt; printed.as_str(), name);
+        assert!(rt; printed.as_str() == name);
     }
     Ok(())
 }
@@ -214,7 +211,7 @@ fn names_each_fault(rt: HostRuntime) {
     ];
     for (situation, edits, length, fault) in table {
         let file = changed(edits, true, length);
-        assert_eq!(rt; answer(file.as_slice()), Some(fault), "{situation}");
+        assert!(rt; answer(file.as_slice()) == Some(fault), "{situation}");
     }
 }
 
@@ -266,7 +263,7 @@ fn names_the_earlier_of_two_faults(rt: HostRuntime) {
     ];
     for (situation, edits, length, fault) in table {
         let file = changed(edits, false, length);
-        assert_eq!(rt; answer(file.as_slice()), Some(fault), "{situation}");
+        assert!(rt; answer(file.as_slice()) == Some(fault), "{situation}");
     }
 }
 
@@ -301,7 +298,7 @@ fn follows_a_record_length_to_the_letter(rt: HostRuntime) {
             components: &[],
             rest: &[],
         };
-        assert_eq!(rt; answer(file(draft).as_slice()), fault, "{situation}");
+        assert!(rt; answer(file(draft).as_slice()) == fault, "{situation}");
     }
 }
 
@@ -319,9 +316,8 @@ fn refuses_each_turned_bit_of_the_header(rt: HostRuntime) {
             place,
             &[worked().as_slice().get(place).copied().unwrap_or(0) ^ bit],
         );
-        assert_eq!(rt;
-            answer(file.as_slice()),
-            Some(PackageFault::Checksum),
+        assert!(rt;
+            answer(file.as_slice()) == Some(PackageFault::Checksum),
             "{situation}"
         );
     }
@@ -349,6 +345,6 @@ fn names_the_fault_of_each_cut(rt: HostRuntime) {
             134..434 => Some(PackageFault::ImageRange),
             _ => None,
         };
-        assert_eq!(rt; answer(file.as_slice()), fault, "cut to {length}");
+        assert!(rt; answer(file.as_slice()) == fault, "cut to {length}");
     }
 }
