@@ -3,10 +3,10 @@ mod Arriving
 mod Failing
 mod Frames
 mod Gaining
-mod Going
+pub mod Going
 mod Latest
 mod Opening
 mod Overs
 mod Pieces
-mod Rising
-mod Sending
+pub mod Rising
+pub mod Sending

@@ -1,7 +1,9 @@
 -- What a run over links does.
 use Rattle.std.specs.Prelude.{ℕ, ◌≡◌, ◌≤◌, ◌+◌, ◌++◌, ◌&&◌, Bool, true, false, IsSomeAnd, List, [], ◌∷◌, Option, Some, None}
-use Rattle.std.specs.List.{sum_by}
+use Rattle.std.specs.List.{list_all, sum_by}
 use Rattle.exch_lane.specs.Lanes.{numbered}
+use Rattle.fd_core.specs.declared.states.Verdict.{Verdict}
+use Rattle.fd_core.specs.declared.states.Verdict.TheVariants as verdicts
 use Rattle.fw_node.specs.Agents.{AgentOf, half_for}
 use Rattle.fw_node.specs.Halves.{HalfOf}
 use Rattle.ua_core.specs.Session.{TimedOf, state_of}
@@ -37,11 +39,29 @@ deliver_in s = 0
 abbrev pub delivers_in : List Step → ℕ
 delivers_in ss = sum_by deliver_in ss
 
+-- that all is well with an image
+abbrev pub is_good : Verdict → Bool
+is_good verdicts.VerifyOk = true
+is_good verdicts.ApplyOk = true
+is_good verdict = false
+
+-- a step that a run takes of itself: nobody starts or cancels an update, starts anew, or asks the event log
+abbrev pub is_driven : Step → Bool
+is_driven (steps.Deliver device number node) = true
+is_driven steps.Tick = true
+is_driven (steps.Verdict device verdict) = is_good verdict
+is_driven (steps.Activate device) = true
+is_driven s = false
+
+abbrev pub AreDriven : List Step → Type 0
+AreDriven ss = list_all is_driven ss ≡ true
+
 -- Steps were taken from one world to another, and put behind a list of steps.
 pub record Drives (w : WorldOf) (before : List Step) (v : WorldOf) (after : List Step) : Type 0 where
   pub steps : List Step
   pub appended : after ≡ before ++ steps
   pub run : Run w steps v
+  pub driven : AreDriven steps
 
 -- so many ticks and deliveries among them
 pub record Goes (w : WorldOf) (before : List Step) (v : WorldOf) (after : List Step) (ticks delivers : ℕ) : Type 0 where

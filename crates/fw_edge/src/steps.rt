@@ -1,7 +1,7 @@
 //! Steps of a run, each taken and listed.
 
 ghost use Rattle.std.specs.Prelude.{[], ◌≡◌, ◌≢◌, ◌-◌, ◌^◌, ◌++◌, ◌∷◌, IfErr, IfSome, None, OnErr, OnOk, true};
-ghost use Rattle.fw_edge.specs.Drives.{Drives, Goes, all_over, deliver_in, is_over, tick_in};
+ghost use Rattle.fw_edge.specs.Drives.{Drives, Goes, all_over, deliver_in, is_driven, is_good, is_over, tick_in};
 ghost use Rattle.fw_edge.specs.Ledgers.{packet_counts};
 ghost use Rattle.fw_node.specs.Agents.{half_for};
 ghost use Rattle.fw_world.specs.Replays.{Leads, may_step};
@@ -22,7 +22,8 @@ pub(crate) fn take<B: Bank + Drop>(
     steps: &mut Vec<Step>,
     step: Step,
 ) -> Result<(), EdgeFault>
-    requires { may_step world.old step ≡ None }
+    requires may { may_step world.old step ≡ None }
+    requires driven { is_driven step ≡ true }
     ensures leads { OnOk result (Leads world.old step world.new) }
     ensures listed { OnOk result (steps.new.items ≡ steps.old.items ++ step ∷ []) }
     ensures goes { OnOk result (Goes world.old steps.old.items world.new steps.new.items (tick_in step) (deliver_in step)) }
@@ -63,7 +64,8 @@ pub(crate) fn tick<B: Bank + Drop>(
 
 /// The verdict that a device waits for: that all is well.
 fn awaited<B: Bank + Drop>(world: &World<'_, B>, device: u8) -> Option<Verdict>
-    ensures { IfSome result (λ v. may_step world.now (Step.Verdict device v) ≡ None) }
+    ensures may { IfSome result (λ v. may_step world.now (Step.Verdict device v) ≡ None) }
+    ensures good { IfSome result (λ v. is_good v ≡ true) }
 {
     let Some(node) = world.device(device) else {
         return None;

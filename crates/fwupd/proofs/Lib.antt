@@ -1,4 +1,5 @@
 mod Digits
+mod Examined
 mod Making
 mod Packed
 mod Started

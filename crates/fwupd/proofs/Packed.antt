@@ -16,6 +16,7 @@ use Rattle.fw_script.specs.declared.faults.ScriptFault.{ScriptFault}
 use Rattle.fw_world.specs.Replays.{new_world}
 use Rattle.fw_world.specs.Worlds.{WorldOf}
 use Rattle.fwupd.specs.Nodes.{nodes_made}
+use Rattle.fwupd.specs.Running.{IsNamed}
 use Rattle.fwupd.specs.Setups.{ArePackages, ArePacked, FileOf, IsPacked, IsSetup, IsUnreadable, IsUnsaid, MayHold, NamesNone, PackageFails, PackagesFail, Says, TextFails, TextFault}
 use Rattle.fwupd.specs.declared.faults.RunFault.{RunFault}
 use Rattle.fwupd.specs.declared.faults.RunFault.TheVariants as faults
@@ -172,3 +173,31 @@ names_none files path config says none = record {
   says = says;
   none = ap (map (λ p. string_bytes p)) (nothing config.packages.items (sym config.packages.ok.0 ∙ none));
 }
+
+-- and one that names a package
+some_packages : (files : List ℕ → FileOf) (paths : List (List ℕ)) (ps : List PackageText) → ArePackages files paths ps → paths ≢ [] → ps ≢ []
+some_packages files [] ps h none e = none refl
+some_packages files (path ∷ paths) [] h none e = h
+some_packages files (path ∷ paths) (p ∷ ps) h none e = cc
+
+some_named : (config : Config) → (config.packages.len ≡ 0 → ⊥) → map (λ p. string_bytes p) config.packages.items ≢ []
+some_named config some e = some (config.packages.ok.0 ∙ none config.packages.items e)
+  where
+    none : (xs : List (String Global)) → map (λ p. string_bytes p) xs ≡ [] → length xs ≡ 0
+    none [] h = refl
+    none (x ∷ xs) h = absurd cc
+
+named_up : (files : List ℕ → FileOf) (path : List ℕ) (config : Config) (w : WorldOf) (s : IsSetup files path w) → s.config ≡ config_seen config → (config.packages.len ≡ 0 → ⊥) → IsNamed files path w
+named_up files path config w s is some = record {
+  setup = s;
+  some = λ e.
+      some_packages files s.config.packages s.packages s.are (subst (λ k. k.packages ≢ []) (sym is) (some_named config some)) (sym (ap (λ x. x.packages) s.world) ∙ e);
+}
+
+pub set_up_named : (files : List ℕ → FileOf) (path : List ℕ) (config : Config) (names : List (String Global)) (contents slice : List (Vec ℕ Global)) (ps packs : List PackageText)
+    (nodes : List DeviceNodeOf) (w : WorldOf) → Says config_of (files path) (config_seen config) → names ≡ config.packages.items
+    → ArePacked files (map (λ p. string_bytes p) names) (map (λ f. f.items) contents) → slice ≡ contents → map (λ p. Ok p) ps ≡ map (λ f. package_of f.items) slice
+    → nodes ≡ nodes_made config.agent.eid (map device_of config.devices.items) → packs ≡ ps → w ≡ new_world config.agent nodes packs → (config.packages.len ≡ 0 → ⊥) → IsNamed files path w
+unfolding set_up
+set_up_named files path config names contents slice ps packs nodes w says named packed same read made lent is some =
+    named_up files path config w (set_up files path config names contents slice ps packs nodes w says named packed same read made lent is) refl some

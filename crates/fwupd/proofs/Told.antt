@@ -6,27 +6,26 @@ use Rattle.fw_world.specs.declared.step.Step.{Step}
 use Rattle.fw_world.specs.declared.step.StepFault.{StepFault}
 use Rattle.fwupd.specs.Replayed.{IsReplayed, IsReport, ReplayEnds, Reports}
 use Rattle.fwupd.specs.Outputs.{FailsToPrint, OutputOf, Prints}
-use Rattle.fwupd.specs.Running.{DrivingEnds, IsUnlinked, LacksLink, StepsLead, UpdateEnds}
+use Rattle.fwupd.specs.Running.{DrivingEnds, IsNamed, IsUnlinked, LacksLink, StepsLead, UpdateEnds, WatchOf}
 use Rattle.fwupd.specs.Setups.{FileOf, IsSetup, NamesNone, Says, SetupFails, TextFails}
 use Rattle.fwupd.specs.declared.faults.RunFault.{RunFault}
 use Rattle.fwupd.specs.declared.faults.RunFault.TheVariants as faults
-use Rattle.fwupd.specs.declared.running.WatchFault.{WatchFault}
 
 -- no link is opened
-unopened : (files : List ℕ → FileOf) (path : List ℕ) (lacks : ℕ → Bool) (w : WorldOf) (told : RunFault) → IsSetup files path w → (told ≡ faults.Memory) ⊎ IsUnlinked w lacks told
+unopened : (files : List ℕ → FileOf) (path : List ℕ) (lacks : ℕ → Bool) (w : WorldOf) (told : RunFault) → IsNamed files path w → (told ≡ faults.Memory) ⊎ IsUnlinked w lacks told
     → (told ≡ faults.Memory) ⊎ (SetupFails files path told ⊎ (((told ≡ faults.NoPackage) × NamesNone files path) ⊎ LacksLink files path lacks told))
-unopened files path lacks w told setup (inl e) = inl e
-unopened files path lacks w told setup (inr u) = inr (inr (inr (record { world = w; setup = setup; unlinked = u })))
+unopened files path lacks w told named (inl e) = inl e
+unopened files path lacks w told named (inr u) = inr (inr (inr (record { world = w; named = named; unlinked = u })))
 
 -- a run over links that doesn't end well
-pub update_ends : (files : List ℕ → FileOf) (path : List ℕ) (lacks : ℕ → Bool) (w v : WorldOf) (told : RunFault) (seen_before seen_now : Option WatchFault) (before now : OutputOf)
-    → IsSetup files path w → StepsLead w v → DrivingEnds lacks w v told seen_before seen_now before now → UpdateEnds files path lacks told seen_before seen_now before now
-update_ends files path lacks w v told seen_before seen_now before now setup reached (inl h) =
-    inl (record { world = w; setup = setup; left = v; reached = reached; caused = h.0; written = h.1 })
-update_ends files path lacks w v told seen_before seen_now before now setup reached (inr (inl h)) =
-    inr (inl (record { is = h.0; world = w; setup = setup; left = v; reached = reached; begun = h.1 }))
-update_ends files path lacks w v told seen_before seen_now before now setup reached (inr (inr h)) =
-    inr (inr (record { kept = h.1; cause = unopened files path lacks w told setup h.0 }))
+pub update_ends : (files : List ℕ → FileOf) (path : List ℕ) (lacks : ℕ → Bool) (w v : WorldOf) (told : RunFault) (watched : WatchOf) (before now : OutputOf)
+    → IsNamed files path w → StepsLead w v → DrivingEnds lacks w v told watched before now → UpdateEnds files path lacks told watched before now
+update_ends files path lacks w v told watched before now named reached (inl h) =
+    inl (record { world = w; named = named; left = v; reached = reached; caused = h.0; written = h.1 })
+update_ends files path lacks w v told watched before now named reached (inr (inl h)) =
+    inr (inl (record { is = h.0; world = w; named = named; left = v; reached = reached; begun = h.1 }))
+update_ends files path lacks w v told watched before now named reached (inr (inr h)) =
+    inr (inr (record { kept = h.1; cause = unopened files path lacks w told named h.0 }))
 
 -- a replay whose schedule isn't read
 pub schedule_ends : (files : List ℕ → FileOf) (config schedule : List ℕ) (w : WorldOf) (told : RunFault) (before : OutputOf) → IsSetup files config w

@@ -1,4 +1,5 @@
 pub mod Answers
+pub mod Inspected
 pub mod Inspection
 pub mod Lines
 pub mod Nodes

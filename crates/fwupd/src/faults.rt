@@ -1,6 +1,7 @@
 //! Why a run ends with status 1.
 
 ghost use Rattle.std.specs.Prelude.{◌≡◌};
+ghost use Rattle.fwupd.specs.Inspected.{told_as};
 ghost use Rattle.fwupd.specs.Running.{MayEnd, told_of};
 
 use crate::inspection::InspectFault;
@@ -50,7 +51,9 @@ pub enum RunFault {
 }
 
 /// Why a package couldn't be inspected.
-pub fn inspection_fault(fault: InspectFault) -> RunFault {
+pub fn inspection_fault(fault: InspectFault) -> RunFault
+    ensures { result ≡ told_as fault }
+{
     match fault {
         InspectFault::Memory => RunFault::Memory,
         InspectFault::Package(fault) => RunFault::Package(fault),

@@ -1,10 +1,14 @@
 //! The firmware updater's programs.
 #![tactic(auto)]
 
+ghost use Rattle.std.specs.Prelude.{◌≡◌, OnErr, OnOk};
+ghost use Rattle.std.specs.Process.{exit_status};
+
 mod command_line;
 mod drops;
 mod faults;
 mod files;
+mod inspecting;
 mod inspection;
 mod nodes;
 mod output;
@@ -25,14 +29,14 @@ mod watching;
 
 use clap::error::ErrorKind;
 use command_line::{Job, Show};
-use faults::{RunFault, inspection_fault};
-use files::{Files, SystemFiles};
+use faults::RunFault;
+use files::SystemFiles;
+use inspecting::inspect_file;
 use mctp_ctl::Endpoint;
 use output::Output;
 use replaying::replay_files;
-use setups::unread;
 use sockets::Sockets;
-use std::io::{self, BufWriter, Write};
+use std::io::{self, BufWriter};
 use std::process::ExitCode;
 use updating::update_files;
 use watching::Onlookers;
@@ -55,18 +59,12 @@ fn answer(rt: &HostRuntime, endpoint: Endpoint) -> Result<(), RunFault> {
 
 /// Prints what the package in a file holds.
 fn inspect(rt: &HostRuntime, path: &str) -> Result<(), RunFault> {
-    let bytes = match SystemFiles::new(rt).contents(rt.alloc(), path) {
-        Ok(bytes) => bytes,
-        Err(fault) => return Err(unread(rt.alloc(), path, fault)),
-    };
-    let text = match inspection::inspect(rt.alloc(), &bytes) {
-        Ok(text) => text,
-        Err(fault) => return Err(inspection_fault(fault)),
-    };
-    match io::writer(rt).write_all(&text) {
-        Ok(()) => Ok(()),
-        Err(_) => Err(RunFault::Output),
-    }
+    inspect_file(
+        rt.alloc(),
+        &SystemFiles::new(rt),
+        path,
+        &mut Output::new(io::writer(rt)),
+    )
 }
 
 /// Replays a schedule on the nodes of a configuration, and prints what it leaves.
@@ -104,13 +102,18 @@ fn run(rt: &HostRuntime, job: &Job<'_>) -> Result<(), RunFault> {
 }
 
 /// Prints a fault, where standard error takes it, and gives the status that says so.
-fn failed(rt: &HostRuntime, fault: RunFault) -> ExitCode {
+fn failed(rt: &HostRuntime, fault: RunFault) -> ExitCode
+    ensures { exit_status result ≡ 1 }
+{
     let _ = eprintln!(rt; "fwupd: {fault}");
     ExitCode::FAILURE
 }
 
 /// The status of a job that has ended so; a fault is printed.
-fn status(rt: &HostRuntime, end: Result<(), RunFault>) -> ExitCode {
+fn status(rt: &HostRuntime, end: Result<(), RunFault>) -> ExitCode
+    ensures ok { OnOk end (exit_status result ≡ 0) }
+    ensures fault { OnErr end (exit_status result ≡ 1) }
+{
     match end {
         Ok(()) => ExitCode::SUCCESS,
         Err(fault) => failed(rt, fault),

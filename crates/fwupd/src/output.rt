@@ -12,7 +12,7 @@ use std::marker::Model;
 #[derive(Drop)]
 pub struct Output<W: Write> {
     /// What takes the bytes.
-    pub writer: W,
+    writer: W,
     is_broken: bool,
 }
 
@@ -36,10 +36,17 @@ impl<W: Write> Output<W> {
         }
     }
 
+    /// What took the bytes.
+    pub fn into_writer(self) -> W
+        ensures { W.contents result ≡ self.written }
+    {
+        self.writer
+    }
+
     /// Writes all these bytes.
     ///
     /// # Errors
-    /// `Output` where they aren't written whole; a beginning of them may be.
+    /// `Output` where they aren't written whole; a beginning of them may be, and nothing where a write failed before.
     pub fn write(&mut self, bytes: &[u8]) -> Result<(), RunFault>
         ensures ok { OnOk result (Prints self.old self.new bytes.now) }
         ensures fault { IfErr result (λ e. e ≡ RunFault.Output) }

@@ -1,8 +1,8 @@
 //! Updating devices over links.
 
-ghost use Rattle.std.specs.Prelude.{◌≡◌, ◌-◌, ◌^◌, ◌⊎◌, IfErr, OnOk, Option, length, map};
-ghost use Rattle.fw_edge.specs.Ledgers.{OneFailed};
-ghost use Rattle.fwupd.specs.Running.{IsCaused, IsRefusedStart, IsUpdated, MayEnd, Starts, StepsLead, fault_after, told_by, told_of};
+ghost use Rattle.std.specs.Prelude.{◌≡◌, ◌-◌, ◌^◌, ◌⊎◌, Err, IfErr, IfSome, None, OnOk, Some, length, map, true};
+ghost use Rattle.fw_edge.specs.Ledgers.{AllSent, OneFailed, packet_counts};
+ghost use Rattle.fwupd.specs.Running.{IsCaused, IsRefusedStart, IsUpdated, MayEnd, Starts, StepsLead, told_by, told_of};
 
 use crate::faults::{RunFault, edge_fault};
 use fd_core::MemBank;
@@ -22,37 +22,30 @@ pub enum WatchFault {
     Memory,
 }
 
-/// What looks on while devices are updated. It keeps the first fault that it had.
+/// What looks on while devices are updated, until it has a fault, which is what each later call ends with.
 pub trait Watch {
-    ghost use Rattle.fwupd.specs.declared.running.WatchFault.{WatchFault};
+    ghost use Rattle.fwupd.specs.Running.{WatchOf};
 
-    ghost fault: { Self → Option WatchFault };
+    ghost watched: { Self → WatchOf };
 
     /// Sees what a turn left.
     ///
     /// # Errors
-    /// What it tells of it can't be written, or memory is refused.
+    /// The fault that it had; else that what it tells of the turn can't be written, or that memory is refused.
     fn see(&mut self, world: &World<'_, MemBank>) -> Result<(), WatchFault>
-        ensures ok { OnOk result (fault self.new ≡ fault self.old) }
-        ensures err { IfErr result (λ e. fault self.new ≡ fault_after (fault self.old) e) };
+        ensures ok { OnOk result ((watched self.new).fault ≡ None) }
+        ensures err { IfErr result (λ e. (watched self.new).fault ≡ Some e) }
+        ensures first { IfSome (watched self.old).fault (λ f. result ≡ Err f) };
 
     /// The run has ended.
     ///
     /// # Errors
     /// As for a turn.
     fn end(&mut self) -> Result<(), WatchFault>
-        ensures ok { OnOk result (fault self.new ≡ fault self.old) }
-        ensures err { IfErr result (λ e. fault self.new ≡ fault_after (fault self.old) e) };
-}
-
-/// The first fault of what looks on, after another one.
-pub fn first_fault(first: Option<WatchFault>, fault: WatchFault) -> Option<WatchFault>
-    ensures { result ≡ fault_after first fault }
-{
-    match first {
-        Some(first) => Some(first),
-        None => Some(fault),
-    }
+        ensures ok { OnOk result ((watched self.new).fault ≡ None) }
+        ensures err { IfErr result (λ e. (watched self.new).fault ≡ Some e) }
+        ensures first { IfSome (watched self.old).fault (λ f. result ≡ Err f) }
+        ensures ended { (watched self.new).has_ended ≡ true };
 }
 
 /// Why a run ends that is looked at no more.
@@ -72,7 +65,7 @@ fn start_all(world: &mut World<'_, MemBank>) -> Result<(), RunFault>
     ensures same { OnOk result (world.new.sites ≡ world.old.sites) }
     ensures reached { StepsLead world.old world.new }
     ensures fault { IfErr result MayEnd }
-    ensures refused { IfErr result (λ e. e ≡ RunFault.Edge EdgeFault.Step → IsRefusedStart world.new) }
+    ensures refused { IfErr result (λ e. e ≡ RunFault.Edge EdgeFault.Step → IsRefusedStart world.old world.new) }
     ensures none { IfErr result (λ e. e ≡ RunFault.Edge EdgeFault.Frame → ⊥) }
     ensures unseen { IfErr result (λ e. e ≡ RunFault.Trace → ⊥) }
 {
@@ -116,9 +109,9 @@ pub fn update_all<L: Link, V: Watch>(
     ensures fault { IfErr result MayEnd }
     ensures kept { OnOk result (map (λ l. (L.tally l).failures) links.new ≡ map (λ l. (L.tally l).failures) links.old) }
     ensures frame { IfErr result (λ e. e ≡ RunFault.Edge EdgeFault.Frame → OneFailed (map (λ l. (L.tally l).failures) links.old) (map (λ l. (L.tally l).failures) links.new)) }
-    ensures step { IfErr result (λ e. e ≡ RunFault.Edge EdgeFault.Step → IsRefusedStart world.new ⊎ (world.new.now ≡ 2 ^ 32 - 1)) }
-    ensures seen { OnOk result (V.fault watch.new ≡ V.fault watch.old) }
-    ensures unwritten { IfErr result (λ e. e ≡ RunFault.Trace → V.fault watch.new ≡ fault_after (V.fault watch.old) WatchFault.Unwritten) }
+    ensures step { IfErr result (λ e. e ≡ RunFault.Edge EdgeFault.Step → IsRefusedStart world.old world.new ⊎ (world.new.now ≡ 2 ^ 32 - 1)) }
+    ensures sent { OnOk result (AllSent (packet_counts world.old.sites) (packet_counts world.new.sites) (map (λ l. (L.tally l).sent) links.old) (map (λ l. (L.tally l).sent) links.new)) }
+    ensures unwritten { IfErr result (λ e. e ≡ RunFault.Trace → (V.watched watch.new).fault ≡ Some WatchFault.Unwritten) }
 {
     match start_all(world) {
         Ok(()) => {}
@@ -155,8 +148,12 @@ pub fn update_watched<L: Link, V: Watch>(
     requires { length links.old ≡ length world.old.sites }
     ensures updated { OnOk result (IsUpdated world.old world.new) }
     ensures reached { StepsLead world.old world.new }
-    ensures seen { OnOk result (V.fault watch.new ≡ V.fault watch.old) }
-    ensures fault { IfErr result (λ e. (e ≡ RunFault.Memory) ⊎ IsCaused world.new e (V.fault watch.old) (V.fault watch.new)) }
+    ensures seen { OnOk result ((V.watched watch.new).fault ≡ None) }
+    ensures ended { (V.watched watch.new).has_ended ≡ true }
+    ensures fault { IfErr result (λ e. (e ≡ RunFault.Memory) ⊎ IsCaused world.old world.new e (V.watched watch.new)) }
+    ensures kept { OnOk result (map (λ l. (L.tally l).failures) links.new ≡ map (λ l. (L.tally l).failures) links.old) }
+    ensures frame { IfErr result (λ e. e ≡ RunFault.Edge EdgeFault.Frame → OneFailed (map (λ l. (L.tally l).failures) links.old) (map (λ l. (L.tally l).failures) links.new)) }
+    ensures sent { OnOk result (AllSent (packet_counts world.old.sites) (packet_counts world.new.sites) (map (λ l. (L.tally l).sent) links.old) (map (λ l. (L.tally l).sent) links.new)) }
 {
     let end = update_all(alloc, world, links, watch);
     let watched = watch.end();

@@ -1,6 +1,6 @@
 //! Updating the devices of a configuration.
 
-ghost use Rattle.std.specs.Prelude.{◌≡◌, ◌⊎◌, Bool, IfErr, IfOk, OnOk, length, true, ℕ};
+ghost use Rattle.std.specs.Prelude.{◌≡◌, ◌⊎◌, Bool, IfErr, IfOk, None, OnOk, length, true, ℕ};
 ghost use Rattle.fw_script.specs.Reports.{report_of};
 ghost use Rattle.fwupd.specs.Outputs.{FailsToPrint, Prints};
 ghost use Rattle.fwupd.specs.Running.{DrivingEnds, IsUnlinked, IsUpdated, ReportsUpdate, StepsLead, UpdateEnds};
@@ -83,10 +83,11 @@ fn update_over<L: Link + Drop, S: Wires<L>, V: Watch, W: Write>(
     output: &mut Output<W>,
 ) -> Result<(), RunFault>
     ensures updated { OnOk result (IsUpdated world.old world.new) }
-    ensures seen { OnOk result (V.fault watch.new ≡ V.fault watch.old) }
+    ensures seen { OnOk result ((V.watched watch.new).fault ≡ None) }
+    ensures let_end { OnOk result ((V.watched watch.new).has_ended ≡ true) }
     ensures written { OnOk result (Prints output.old output.new (report_of world.new)) }
     ensures reached { StepsLead world.old world.new }
-    ensures fault { IfErr result (λ e. DrivingEnds (S.lacks wires.old) world.old world.new e (V.fault watch.old) (V.fault watch.new) output.old output.new) }
+    ensures fault { IfErr result (λ e. DrivingEnds (S.lacks wires.old) world.old world.new e (V.watched watch.new) output.old output.new) }
 {
     let mut links = match open_all(alloc, world, wires) {
         Ok(links) => links,
@@ -125,8 +126,8 @@ pub fn update_files<F: Files, L: Link + Drop, S: Wires<L>, V: Watch, W: Write>(
     watch: &mut V,
     output: &mut Output<W>,
 ) -> Result<(), RunFault>
-    ensures ok { OnOk result (ReportsUpdate (F.holds files.now) config.now (V.fault watch.old) (V.fault watch.new) output.old output.new) }
-    ensures fault { IfErr result (λ e. UpdateEnds (F.holds files.now) config.now (S.lacks wires.old) e (V.fault watch.old) (V.fault watch.new) output.old output.new) }
+    ensures ok { OnOk result (ReportsUpdate (F.holds files.now) config.now (V.watched watch.new) output.old output.new) }
+    ensures fault { IfErr result (λ e. UpdateEnds (F.holds files.now) config.now (S.lacks wires.old) e (V.watched watch.new) output.old output.new) }
 {
     let Config {
         agent,

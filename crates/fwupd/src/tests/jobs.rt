@@ -1,13 +1,13 @@
 //! Jobs over files in memory.
 
-ghost use Rattle.std.specs.Prelude.{true};
+ghost use Rattle.std.specs.Prelude.{◌≡◌, Err, IfErr, IfSome, None, OnOk, Some, true};
 ghost use Rattle.fwupd.specs.Setups.{any_file};
 
 use crate::faults::RunFault;
 use crate::files::{FileFault, Files};
 use crate::output::Output;
 use crate::replaying::replay_files;
-use crate::running::{Watch, WatchFault, first_fault};
+use crate::running::{Watch, WatchFault};
 use crate::updating::{Wires, update_files};
 use fd_core::MemBank;
 use fw_edge::{Link, MemLink, StreamLink};
@@ -58,7 +58,7 @@ fn outcome(rt: &HostRuntime, end: Result<(), RunFault>, written: Vec<u8>) -> Res
 fn replayed(rt: &HostRuntime, files: &[(&str, &[u8])]) -> Result<Vec<u8>, Fail> {
     let mut output = Output::new(Vec::new(rt.alloc()));
     let end = replay_files(rt.alloc(), &MemFiles { files }, "c", "s", &mut output);
-    outcome(rt, end, output.writer)
+    outcome(rt, end, output.into_writer())
 }
 
 #[test]
@@ -154,22 +154,37 @@ struct Counter {
     turns: usize,
     broken: usize,
     fault: Option<WatchFault>,
+    has_ended: bool,
+}
+
+impl Counter {
+    /// How a call ends.
+    fn outcome(&self) -> Result<(), WatchFault>
+        ensures ok { OnOk result (self.now.fault ≡ None) }
+        ensures err { IfErr result (λ e. self.now.fault ≡ Some e) }
+        ensures first { IfSome self.now.fault (λ f. result ≡ Err f) }
+    {
+        match self.fault {
+            Some(fault) => Err(fault),
+            None => Ok(()),
+        }
+    }
 }
 
 impl Watch for Counter {
-    ghost fault = { λ c. c.fault };
+    ghost watched = { λ c. record { fault = c.fault; has_ended = c.has_ended } };
 
     fn see(&mut self, _world: &World<'_, MemBank>) -> Result<(), WatchFault> {
         self.turns = self.turns.saturating_add(1);
-        if self.turns == self.broken {
-            self.fault = first_fault(self.fault, WatchFault::Unwritten);
-            return Err(WatchFault::Unwritten);
+        if self.turns == self.broken && self.fault.is_none() {
+            self.fault = Some(WatchFault::Unwritten);
         }
-        Ok(())
+        self.outcome()
     }
 
     fn end(&mut self) -> Result<(), WatchFault> {
-        Ok(())
+        self.has_ended = true;
+        self.outcome()
     }
 }
 
@@ -198,6 +213,7 @@ fn updated<'a, L: Link + Drop, S: Wires<L>>(
         turns: 0,
         broken,
         fault: None,
+        has_ended: false,
     };
     let mut output = Output::new(Vec::new(rt.alloc()));
     let end = update_files(
@@ -208,7 +224,7 @@ fn updated<'a, L: Link + Drop, S: Wires<L>>(
         &mut watch,
         &mut output,
     );
-    Ok((outcome(rt, end, output.writer)?, watch.turns))
+    Ok((outcome(rt, end, output.into_writer())?, watch.turns))
 }
 
 /// The configuration, with a package.

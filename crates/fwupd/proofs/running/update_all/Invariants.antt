@@ -1,4 +1,5 @@
 use Rattle.std.proofs.Common.{◌≡◌, [], length, map}
+use Rattle.fw_edge.specs.Ledgers.{AllSent, packet_counts}
 use Rattle.fwupd.specs.Running.{Updates}
 use Rattle.fwupd.proofs.running.update_all.Given as goal
 
@@ -8,6 +9,6 @@ invariant-loop g l = record {
   updates : Updates l.fn.world l.world l.counter;
   devices : length l.links ≡ length l.world.sites;
   none : l.steps.items ≡ [];
-  seen : g.V.Watch.fault l.watch ≡ g.V.Watch.fault l.fn.watch;
+  sent : AllSent (packet_counts l.fn.world.sites) (packet_counts l.world.sites) (map (λ k. (g.L.Link.tally k).sent) l.fn.links) (map (λ k. (g.L.Link.tally k).sent) l.links);
   kept : map (λ k. (g.L.Link.tally k).failures) l.links ≡ map (λ k. (g.L.Link.tally k).failures) l.fn.links;
 }

@@ -1,7 +1,7 @@
 use Rattle.std.proofs.Common.{inl, inr, map, refl, sym}
-use Rattle.std.proofs.lemmas.Bool.{eqb-true}
+use Rattle.std.proofs.lemmas.Bool.{eqb-false, eqb-true}
 use Rattle.std.specs.Prelude.{string_bytes}
-use Rattle.fwupd.proofs.Packed.{names_none, packed_slice, set_up}
+use Rattle.fwupd.proofs.Packed.{names_none, packed_slice, set_up_named}
 use Rattle.fwupd.proofs.Told.{update_ends}
 use Rattle.fwupd.proofs.updating.update_files.Goals as goal
 
@@ -18,21 +18,24 @@ packages_in-requires g c =
 pub returns-in-Ok-update_over-clause-ok : goal.returns-in-Ok-update_over-clause-ok
 returns-in-Ok-update_over-clause-ok g c = record {
   world = c.in-Ok-new.world;
-  setup =
-      set_up (g.F.Files.holds c.args.files.now) c.args.config.now c.in-Ok.config c.as_slice.result.now c.in-Ok-package_files.contents.items c.as_slice-2.result.now c.in-Ok-packages_in.packages.items
+  named =
+      set_up_named (g.F.Files.holds c.args.files.now) c.args.config.now c.in-Ok.config c.as_slice.result.now c.in-Ok-package_files.contents.items c.as_slice-2.result.now c.in-Ok-packages_in.packages.items
       c.as_slice-3.result.now c.in-Ok-nodes.nodes.items c.in-Ok-new.world c.in-Ok.ensures.says c.as_slice.ensures.value c.in-Ok-package_files.ensures.packed c.as_slice-2.ensures.value
-      c.in-Ok-packages_in.ensures.is c.in-Ok-nodes.ensures.is c.as_slice-3.ensures.value c.in-Ok-new.ensures.made;
+      c.in-Ok-packages_in.ensures.is c.in-Ok-nodes.ensures.is c.as_slice-3.ensures.value c.in-Ok-new.ensures.made
+      (λ e. eqb-false _ _ (sym c.if-is_empty.ensures) e);
   left = c.update_over.new.world;
   updated = c.in-Ok-update_over.ensures.updated;
   seen = c.in-Ok-update_over.ensures.seen;
+  let_end = c.in-Ok-update_over.ensures.let_end;
   written = c.in-Ok-update_over.ensures.written;
 }
 
 pub returns-clause-fault : goal.returns-clause-fault
 returns-clause-fault g c =
-    update_ends (g.F.Files.holds c.args.files.now) c.args.config.now (g.S.Wires.lacks c.args.wires.now) c.in-Ok-new.world c.update_over.new.world c.in-Err-update_over.fault (g.V.Watch.fault c.args.watch.now)
-    (g.V.Watch.fault c.update_over.new.watch) c.args.output.now c.update_over.new.output
-    (set_up (g.F.Files.holds c.args.files.now) c.args.config.now c.in-Ok.config c.as_slice.result.now c.in-Ok-package_files.contents.items c.as_slice-2.result.now c.in-Ok-packages_in.packages.items
+    update_ends (g.F.Files.holds c.args.files.now) c.args.config.now (g.S.Wires.lacks c.args.wires.now) c.in-Ok-new.world c.update_over.new.world c.in-Err-update_over.fault
+    (g.V.Watch.watched c.update_over.new.watch) c.args.output.now c.update_over.new.output
+    (set_up_named (g.F.Files.holds c.args.files.now) c.args.config.now c.in-Ok.config c.as_slice.result.now c.in-Ok-package_files.contents.items c.as_slice-2.result.now c.in-Ok-packages_in.packages.items
     c.as_slice-3.result.now c.in-Ok-nodes.nodes.items c.in-Ok-new.world c.in-Ok.ensures.says c.as_slice.ensures.value c.in-Ok-package_files.ensures.packed c.as_slice-2.ensures.value
-    c.in-Ok-packages_in.ensures.is c.in-Ok-nodes.ensures.is c.as_slice-3.ensures.value c.in-Ok-new.ensures.made)
+    c.in-Ok-packages_in.ensures.is c.in-Ok-nodes.ensures.is c.as_slice-3.ensures.value c.in-Ok-new.ensures.made
+    (λ e. eqb-false _ _ (sym c.if-is_empty.ensures) e))
     c.update_over.ensures.reached c.in-Err-update_over.ensures.fault
