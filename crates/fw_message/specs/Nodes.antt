@@ -3,10 +3,13 @@ use Rattle.std.specs.Prelude.{◌&&◌, ◌==◌, ℕ, Bool, false, is_some, not
 use Rattle.fd_core.specs.Commands.{may_activate}
 use Rattle.fd_core.specs.Images.{Put, puts}
 use Rattle.fd_core.specs.States.{DeviceState}
+use Rattle.fd_core.specs.declared.states.Verdict.{Verdict}
+use Rattle.fd_core.specs.declared.states.Verdict.TheVariants as verdicts
 use Rattle.ua_core.specs.declared.state.SessionState.{SessionState}
 use Rattle.ua_core.specs.declared.state.SessionState.TheVariants as stands
 use Rattle.fw_message.specs.Pairs.{HeldOf, PairOf, is_empty}
 use Rattle.fwup_wire.specs.Values.{AnswerOf, CommandOf}
+use Rattle.fwup_wire.specs.declared.values.Key.{Key}
 use Rattle.fw_message.specs.Worlds.{NodeOf}
 use Rattle.fw_message.specs.declared.side.Way.{Way}
 use Rattle.fw_message.specs.declared.side.Way.TheVariants as ways
@@ -59,6 +62,11 @@ is_completion c state = false
 abbrev pub completes : SessionState → Option HeldOf → Bool
 completes state None = false
 completes state (Some h) = is_completion h.command state
+
+-- the bytes of the image that this verdict applies, of the staged component and its size
+abbrev pub room_of : Verdict → Option (Key × ℕ) → ℕ
+room_of verdicts.ApplyOk (Some staged) = staged.1
+room_of verdict staged = 0
 
 -- what ActivateFirmware activates, if it is taken
 abbrev pub put_by : DeviceState → CommandOf → List Put

@@ -1,11 +1,12 @@
 //! Verdicts on the image that a device has written, and the image that one applies.
 
-ghost use Rattle.std.specs.Prelude.{[], ◌≡◌, ◌≤◌, ◌∷◌, Bool, IfSome, is_some, length, map, option_to_list, vec_capacity};
+ghost use Rattle.std.specs.Prelude.{[], ◌≡◌, ◌≤◌, ◌∷◌, Bool, IfSome, None, is_some, length, map, option_to_list, vec_capacity};
 ghost use Rattle.fd_core.specs.Images.{applied_of, row_of};
 ghost use Rattle.fd_core.specs.States.{staged_of};
 ghost use Rattle.fd_core.specs.Steps.{device_verdict};
 ghost use Rattle.fd_core.specs.Wishes.{has_failed};
 ghost use Rattle.fw_message.specs.Entries.{put_of};
+ghost use Rattle.fw_message.specs.Nodes.{room_of};
 
 use crate::entry::Image;
 use fd_core::{Bank, Device, Key, Progress, State, Verdict};
@@ -34,9 +35,10 @@ pub fn awaits<B: Bank>(device: &Device<B>, verdict: Verdict) -> bool
     }
 }
 
-/// The bytes of the image that a verdict applies, at most.
+/// The bytes of the image that a verdict applies, where the device waits for it.
 pub fn room_for<B: Bank>(device: &Device<B>, verdict: Verdict) -> usize
-    ensures { verdict ≡ Verdict.ApplyOk → IfSome (staged_of device.now.device.phase) (λ s. s.1 ≤ result) }
+    ensures exact { result ≡ room_of verdict (staged_of device.now.device.phase) }
+    ensures enough { verdict ≡ Verdict.ApplyOk → IfSome (staged_of device.now.device.phase) (λ s. s.1 ≤ result) }
 {
     match (verdict, device.staged()) {
         (Verdict::ApplyOk, Some((_, size))) => size as usize,
@@ -47,8 +49,9 @@ pub fn room_for<B: Bank>(device: &Device<B>, verdict: Verdict) -> usize
 /// A copy of the image that is applied for a component, into room that is empty; None where there is none, or not the room.
 pub fn copied<B: Bank>(bank: &B, key: Key, room: Vec<u8>) -> Option<Image>
     requires { room.items ≡ [] }
-    ensures { IfSome (applied_of (row_of (B.rows bank.now) key)) (λ image. length image.bytes ≤ vec_capacity room
+    ensures whole { IfSome (applied_of (row_of (B.rows bank.now) key)) (λ image. length image.bytes ≤ vec_capacity room
         → map put_of (option_to_list result) ≡ record { key = key; bytes = image.bytes } ∷ []) }
+    ensures none { applied_of (row_of (B.rows bank.now) key) ≡ None → result ≡ None }
 {
     let (_, image) = bank.applied(key)?;
     let mut bytes = room;

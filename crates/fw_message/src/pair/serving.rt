@@ -7,7 +7,7 @@ ghost use Rattle.fd_core.specs.Steps.{applied_by};
 ghost use Rattle.fd_core.specs.Wishes.{has_failed};
 ghost use Rattle.fw_message.specs.Entries.{put_of};
 ghost use Rattle.fw_message.specs.History.{EntryOf};
-ghost use Rattle.fw_message.specs.Nodes.{is_activation, to_activate};
+ghost use Rattle.fw_message.specs.Nodes.{is_activation, room_of, to_activate};
 ghost use Rattle.fd_core.specs.Banks.{Rose};
 ghost use Rattle.fw_message.specs.Pairs.{StepOf, activated_down, quietly, step_of};
 
@@ -94,9 +94,10 @@ impl<'a, B: Bank> Pair<'a, B> {
         }
     }
 
-    /// The bytes of the image that a verdict applies, at most.
+    /// The bytes of the image that a verdict applies, where the device waits for it.
     pub fn room_for(&self, verdict: Verdict) -> usize
-        ensures { verdict ≡ Verdict.ApplyOk → IfSome (staged_of self.now.node.pair.device.phase) (λ s. s.1 ≤ result) }
+        ensures exact { result ≡ room_of verdict (staged_of self.now.node.pair.device.phase) }
+        ensures enough { verdict ≡ Verdict.ApplyOk → IfSome (staged_of self.now.node.pair.device.phase) (λ s. s.1 ≤ result) }
     {
         room_for(&self.device, verdict)
     }

@@ -19,4 +19,4 @@ returns-clause-step g c =
     rw (ok, works)
     (noting c.args.packages.now c.args.self.now.node.pair c.judge.new.self.node.pair c.in-Some.key c.in-Some.field-0-1 (vec_capacity c.args.room)
     (map put_of (option_to_list c.copied.result)) h whole staged room (rw (ok, works) at c.in_ok-works.ensures.step)
-    (rw (sym c.self-2.view_is, sym c.bank.ensures.rows) c.copied.ensures))
+    (rw (sym c.self-2.view_is, sym c.bank.ensures.rows) c.copied.ensures.whole))
