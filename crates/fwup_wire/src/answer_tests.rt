@@ -2,12 +2,10 @@
 
 use crate::code::{command, completion, response, text_type};
 use crate::{
-    Answer, ComponentParameters, Descriptor, DescriptorList, Key, Malformed, OfferResponse,
-    ParameterList, TableResponse, Text, Version, read_answer, write_answer,
+    Answer, ComponentParameters, Descriptor, DescriptorList, Key, OfferResponse, ParameterList,
+    TableResponse, Text, Version, read_answer, write_answer,
 };
 use pldm_base::Reply;
-use std::process::Abort;
-use std::test::Fail;
 
 /// One descriptor: type 0, data 34 12.
 const IDENTIFIERS: [u8; 12] = [0, 6, 0, 0, 0, 1, 0, 0, 2, 0, 0x34, 0x12];
@@ -82,73 +80,87 @@ fn components() -> [ComponentParameters<'static>; 3] {
     [first, second, third]
 }
 
-/// Reads an answer, and finds that it is written as the same bytes.
-fn read_and_written<'a>(
-    rt: &impl Abort,
-    byte: u8,
-    bytes: &'a [u8],
-) -> Result<Answer<'a>, Malformed> {
-    let answer = read_answer(byte, bytes)?;
-    assert!(rt; answer.is_writable());
-    assert!(rt; write_answer(&answer).as_slice() == bytes);
-    assert!(rt; answer.code() == bytes.first().copied().unwrap_or(1));
-    Ok(answer)
+/// What these bytes read as, where it begins with their code and is written as the same bytes.
+fn read_and_written<'a>(byte: u8, bytes: &'a [u8]) -> Option<Answer<'a>> {
+    let Ok(answer) = read_answer(byte, bytes) else {
+        return None;
+    };
+    let is_same = answer.is_writable()
+        && write_answer(&answer).as_slice() == bytes
+        && bytes.first() == Some(&answer.code());
+    if is_same { Some(answer) } else { None }
 }
 
-#[test]
-fn reads_answers_without_lists(rt: HostRuntime) -> Result<(), Fail> {
-    for byte in [
-        command::TRANSFER_COMPLETE,
-        command::VERIFY_COMPLETE,
-        command::APPLY_COMPLETE,
-    ] {
-        let _ = read_and_written(&rt, byte, &[0])?;
-    }
-    let _ = read_and_written(&rt, command::REQUEST_UPDATE, &[0; 4])?;
-    let _ = read_and_written(&rt, command::CANCEL_UPDATE, &[0; 10])?;
-    let _ = read_and_written(&rt, command::CANCEL_UPDATE_COMPONENT, &[0])?;
-    let Answer::PassComponentTable(told) = read_and_written(
-        &rt,
-        command::PASS_COMPONENT_TABLE,
-        &[0, 1, 6],
-    )?
-    else {
-        assert!(rt; false, "another answer");
-        return Ok(());
-    };
+/// Whether a device's word on a table entry is read: it can't be updated, as it isn't supported.
+fn reads_an_entry_refused() -> bool {
     let unsupported = TableResponse {
         response: response::CANNOT_BE_UPDATED,
         code: response::NOT_SUPPORTED,
     };
-    assert!(rt; told == unsupported);
-    let declined = [0, 1, 1, 0, 0, 0, 0, 0x2C, 0x01];
-    let Answer::UpdateComponent(told) = read_and_written(&rt, command::UPDATE_COMPONENT, &declined)?
-    else {
-        assert!(rt; false, "another answer");
-        return Ok(());
-    };
+    match read_and_written(command::PASS_COMPONENT_TABLE, &[0, 1, 6]) {
+        Some(Answer::PassComponentTable(told)) => told == unsupported,
+        _ => false,
+    }
+}
+
+/// Whether a device's word on an offer is read: it can't be updated, as the stamp is the same, and 300 seconds.
+fn reads_an_offer_declined() -> bool {
     let same_stamp = OfferResponse {
         compatibility: response::CANNOT_BE_UPDATED,
         code: response::COMPARISON_STAMP_IDENTICAL,
         force: false,
         time: 300,
     };
-    assert!(rt; told == same_stamp);
-    let Answer::ActivateFirmware { time } = read_and_written(
-        &rt,
-        command::ACTIVATE_FIRMWARE,
-        &[0, 0x02, 0x01],
-    )?
-    else {
-        assert!(rt; false, "another answer");
-        return Ok(());
-    };
-    assert!(rt; time == 258);
-    Ok(())
+    let declined = [0, 1, 1, 0, 0, 0, 0, 0x2C, 0x01];
+    match read_and_written(command::UPDATE_COMPONENT, &declined) {
+        Some(Answer::UpdateComponent(told)) => told == same_stamp,
+        _ => false,
+    }
+}
+
+/// Whether the 258 seconds that an activation takes are read.
+fn reads_an_activation() -> bool {
+    match read_and_written(command::ACTIVATE_FIRMWARE, &[0, 0x02, 0x01]) {
+        Some(Answer::ActivateFirmware { time }) => time == 258,
+        _ => false,
+    }
 }
 
 #[test]
-fn ends_refusals_at_the_code(rt: HostRuntime) -> Result<(), Fail> {
+fn reads_answers_without_lists(rt: HostRuntime) {
+    let bare: [(u8, &[u8]); 6] = [
+        (command::REQUEST_UPDATE, &[0; 4]),
+        (command::TRANSFER_COMPLETE, &[0]),
+        (command::VERIFY_COMPLETE, &[0]),
+        (command::APPLY_COMPLETE, &[0]),
+        (command::CANCEL_UPDATE_COMPONENT, &[0]),
+        (command::CANCEL_UPDATE, &[0; 10]),
+    ];
+    for (byte, bytes) in bare {
+        assert!(rt; read_and_written(byte, bytes).is_some(), "{byte}");
+    }
+    assert!(rt; reads_an_entry_refused());
+    assert!(rt; reads_an_offer_declined());
+    assert!(rt; reads_an_activation());
+}
+
+/// Whether this code alone is the refusal of a command, and bytes behind it are none.
+fn ends_at(byte: u8, code: u8) -> bool {
+    match read_and_written(byte, &[code]) {
+        Some(Answer::Refused { code: told }) => {
+            told == code && read_answer(byte, &[code, 0]).is_err()
+        }
+        _ => false,
+    }
+}
+
+/// Whether nothing is an answer to this command, a refusal neither.
+fn is_unknown(byte: u8) -> bool {
+    read_answer(byte, &[0]).is_err() && read_answer(byte, &[5]).is_err()
+}
+
+#[test]
+fn ends_refusals_at_the_code(rt: HostRuntime) {
     let codes = [
         0x01,
         0x04,
@@ -161,27 +173,45 @@ fn ends_refusals_at_the_code(rt: HostRuntime) -> Result<(), Fail> {
         0x01, 0x02, 0x10, 0x13, 0x14, 0x15, 0x16, 0x17, 0x18, 0x1A, 0x1B, 0x1C, 0x1D,
     ] {
         for code in codes {
-            match read_and_written(&rt, byte, &[code])? {
-                Answer::Refused { code: told } => assert!(rt; told == code),
-                _ => assert!(rt; false, "another answer"),
-            }
-            assert!(rt; read_answer(byte, &[code, 0]).is_err(), "more bytes");
+            assert!(rt; ends_at(byte, code), "{byte} {code}");
         }
-        assert!(rt; read_answer(byte, &[]).is_err(), "no bytes");
+        assert!(rt; read_answer(byte, &[]).is_err());
     }
     for byte in [0x00, 0x03, 0x19, 0x1E, 0xFF] {
-        assert!(rt; read_answer(byte, &[0]).is_err(), "an unknown command");
-        assert!(rt;
-            read_answer(byte, &[5]).is_err(),
-            "an unknown command, refused"
-        );
+        assert!(rt; is_unknown(byte));
     }
-    Ok(())
+}
+
+/// Whether these bytes are what the descriptors, put together, are written as.
+fn are_put_together(all: &[Descriptor<'_>], bytes: &[u8]) -> bool {
+    let mut list = DescriptorList::new();
+    for descriptor in all {
+        if descriptor.bytes.len() > 4 || list.room() < 8 {
+            return false;
+        }
+        list.push(descriptor);
+    }
+    let answer = Answer::QueryDeviceIdentifiers(list.lent());
+    answer.is_writable() && write_answer(&answer).as_slice() == bytes
+}
+
+/// Whether these bytes are the answer of the descriptors.
+fn are_descriptors(bytes: &[u8], all: &[Descriptor<'_>]) -> bool {
+    let Some(Answer::QueryDeviceIdentifiers(told)) = read_and_written(
+        command::QUERY_DEVICE_IDENTIFIERS,
+        bytes,
+    ) else {
+        return false;
+    };
+    let mut same = told.len() == all.len() && told.is_empty() == all.is_empty();
+    for (one, other) in told.iter().zip(all.iter()) {
+        same = same && one == *other;
+    }
+    same && are_put_together(all, bytes)
 }
 
 #[test]
-fn reads_and_puts_together_descriptors(rt: HostRuntime) -> Result<(), Fail> {
-    let none = [0; 6];
+fn reads_and_puts_together_descriptors(rt: HostRuntime) {
     let two = [
         0, 14, 0, 0, 0, 2, 0, 0, 2, 0, 0x34, 0x12, 0x01, 0x02, 4, 0, 0x78, 0x56, 0x34, 0x12,
     ];
@@ -193,74 +223,49 @@ fn reads_and_puts_together_descriptors(rt: HostRuntime) -> Result<(), Fail> {
         kind: 0x0201,
         bytes: &[0x78, 0x56, 0x34, 0x12],
     };
-    let all = [first, second];
-    let table: [(&str, &[u8], usize); 3] = [
-        ("no descriptors", &none, 0),
-        ("one", &IDENTIFIERS, 1),
-        ("two", &two, 2),
-    ];
-    for (situation, bytes, count) in table {
-        let Answer::QueryDeviceIdentifiers(descriptors) = read_and_written(
-            &rt,
-            command::QUERY_DEVICE_IDENTIFIERS,
-            bytes,
-        )?
-        else {
-            assert!(rt; false, "{situation}");
-            return Ok(());
-        };
-        assert!(rt; descriptors.len() == count, "{situation}");
-        assert!(rt; descriptors.is_empty() == (count == 0), "{situation}");
-        let mut list = DescriptorList::new();
-        for (told, descriptor) in descriptors.iter().zip(all) {
-            assert!(rt; told == descriptor, "{situation}");
-            assert!(rt; descriptor.bytes.len() <= 4 && list.room() >= 8);
-            list.push(&descriptor);
+    assert!(rt; are_descriptors(&[0; 6], &[]));
+    assert!(rt; are_descriptors(&IDENTIFIERS, &[first]));
+    assert!(rt; are_descriptors(&two, &[first, second]));
+}
+
+/// Whether these bytes are what the components, put together, are written as.
+fn are_components_put_together(all: &[ComponentParameters<'_>], bytes: &[u8]) -> bool {
+    let mut list = ParameterList::new();
+    for component in all {
+        let texts = [component.active.text.bytes, component.pending.text.bytes];
+        if texts[0].len() > 3 || texts[1].len() > 2 || list.room() < 44 {
+            return false;
         }
-        let answer = Answer::QueryDeviceIdentifiers(list.lent());
-        assert!(rt; answer.is_writable(), "{situation}");
-        assert!(rt; write_answer(&answer).as_slice() == bytes, "{situation}");
+        list.push(component);
     }
-    Ok(())
+    let answer = Answer::GetFirmwareParameters(list.lent());
+    answer.is_writable() && write_answer(&answer).as_slice() == bytes
+}
+
+/// Whether these bytes are the answer of the components, of which there is one at least.
+fn are_components(bytes: &[u8], all: &[ComponentParameters<'_>]) -> bool {
+    let Some(Answer::GetFirmwareParameters(told)) = read_and_written(
+        command::GET_FIRMWARE_PARAMETERS,
+        bytes,
+    ) else {
+        return false;
+    };
+    let mut same = told.len() == all.len() && !told.is_empty();
+    for (one, other) in told.iter().zip(all.iter()) {
+        same = same && one == *other;
+    }
+    same && are_components_put_together(all, bytes)
 }
 
 #[test]
-fn reads_and_puts_together_components(rt: HostRuntime) -> Result<(), Fail> {
-    let all = components();
-    let table: [(&str, &[&[u8]]); 3] = [
-        ("one component", &[&FIRST]),
-        ("two, the second with a pending image", &[&FIRST, &SECOND]),
-        ("three", &[&FIRST, &SECOND, &THIRD]),
-    ];
-    for (situation, parts) in table {
-        let bytes = parameters_answer(parts);
-        let Answer::GetFirmwareParameters(told) = read_and_written(
-            &rt,
-            command::GET_FIRMWARE_PARAMETERS,
-            &bytes,
-        )?
-        else {
-            assert!(rt; false, "{situation}");
-            return Ok(());
-        };
-        assert!(rt; told.len() == parts.len(), "{situation}");
-        assert!(rt; !told.is_empty(), "{situation}");
-        let mut list = ParameterList::new();
-        for (told, component) in told.iter().zip(all) {
-            assert!(rt; told == component, "{situation}");
-            assert!(rt; component.active.text.bytes.len() <= 3);
-            assert!(rt; component.pending.text.bytes.len() <= 2);
-            assert!(rt; list.room() >= 44);
-            list.push(&component);
-        }
-        let answer = Answer::GetFirmwareParameters(list.lent());
-        assert!(rt; answer.is_writable(), "{situation}");
-        assert!(rt;
-            write_answer(&answer).as_slice() == bytes.as_slice(),
-            "{situation}"
-        );
-    }
-    Ok(())
+fn reads_and_puts_together_components(rt: HostRuntime) {
+    let [first, second, third] = components();
+    let one = parameters_answer(&[&FIRST]);
+    let two = parameters_answer(&[&FIRST, &SECOND]);
+    let three = parameters_answer(&[&FIRST, &SECOND, &THIRD]);
+    assert!(rt; are_components(&one, &[first]));
+    assert!(rt; are_components(&two, &[first, second]));
+    assert!(rt; are_components(&three, &[first, second, third]));
 }
 
 #[test]

@@ -5,6 +5,7 @@ use crate::{
     Command, ComponentOffer, Key, TableEntry, Text, TransferFlag, UpdateRequest, Version, read,
     write,
 };
+use pldm_base::Reply;
 use pldm_base::completion::ERROR_INVALID_LENGTH;
 use std::test::Fail;
 
@@ -29,8 +30,21 @@ fn ascii<'a>(bytes: &'a [u8]) -> Text<'a> {
     }
 }
 
+/// Whether these data read as the command of this code, and are what it is written as.
+fn reads_and_writes(byte: u8, fields: &[u8], command: &Command<'_>) -> bool {
+    match read(byte, fields) {
+        Ok(found) => {
+            found == *command
+                && found.code() == byte
+                && found.is_writable()
+                && write(&found).as_slice() == fields
+        }
+        Err(_) => false,
+    }
+}
+
 #[test]
-fn reads_fields_and_writes_them_back(rt: HostRuntime) -> Result<(), Fail> {
+fn reads_fields_and_writes_them_back(rt: HostRuntime) {
     let request = Command::RequestUpdate(UpdateRequest {
         transfer_size: 240,
         components: 1,
@@ -122,13 +136,8 @@ fn reads_fields_and_writes_them_back(rt: HostRuntime) -> Result<(), Fail> {
         ("no more of the update", 0x1D, &[], Command::CancelUpdate),
     ];
     for (situation, byte, fields, command) in table {
-        let found = read(byte, fields)?;
-        assert!(rt; found == command, "{situation}");
-        assert!(rt; found.code() == byte, "{situation}");
-        assert!(rt; found.is_writable(), "{situation}");
-        assert!(rt; write(&found).as_slice() == fields, "{situation}");
+        assert!(rt; reads_and_writes(byte, fields, &command), "{situation}");
     }
-    Ok(())
 }
 
 #[test]
@@ -146,17 +155,21 @@ fn lends_the_text(rt: HostRuntime) -> Result<(), Fail> {
     Ok(())
 }
 
-/// Whether each of these request data is refused with this code.
-fn is_refused(byte: u8, fields: &[u8], code: u8) -> bool {
-    match read(byte, fields) {
-        Ok(_) => false,
-        Err(refusal) => refusal == code,
-    }
+/// Whether these data are refused for their length.
+fn has_wrong_length(byte: u8, fields: &[u8]) -> bool {
+    matches!(read(byte, fields), Err(ERROR_INVALID_LENGTH))
+}
+
+/// Whether a command's data of this many bytes are refused with a byte more, and with a byte less.
+fn has_this_size(byte: u8, size: usize) -> bool {
+    let zeros = [0; 9];
+    let longer = zeros.get(..size.saturating_add(1)).unwrap_or(&[]);
+    let shorter = zeros.get(..size.saturating_sub(1)).unwrap_or(&[]);
+    has_wrong_length(byte, longer) && (size == 0 || has_wrong_length(byte, shorter))
 }
 
 #[test]
 fn refuses_a_byte_less_and_a_byte_more(rt: HostRuntime) {
-    let long = [0; 22];
     let sizes: [(&str, u8, usize); 10] = [
         ("a query", 0x01, 0),
         ("parameters", 0x02, 0),
@@ -170,67 +183,44 @@ fn refuses_a_byte_less_and_a_byte_more(rt: HostRuntime) {
         ("no more of the update", 0x1D, 0),
     ];
     for (situation, byte, size) in sizes {
-        assert!(rt; size <= 8);
-        assert!(rt;
-            is_refused(byte, &long[..size + 1], ERROR_INVALID_LENGTH),
-            "{situation}"
-        );
-        if size > 0 {
-            assert!(rt;
-                is_refused(byte, &long[..size - 1], ERROR_INVALID_LENGTH),
-                "{situation}"
-            );
+        assert!(rt; has_this_size(byte, size), "{situation}");
+    }
+}
+
+/// Whether data with another byte at this place are refused for their length.
+fn is_refused_with(byte: u8, fields: &[u8], place: usize, other: u8) -> bool {
+    let mut changed = Reply::new();
+    let _ = changed.try_extend_from_slice(fields);
+    if let Some(slot) = changed.as_mut_slice().get_mut(place) {
+        *slot = other;
+    }
+    has_wrong_length(byte, &changed)
+}
+
+/// Whether data are refused that end before their last byte, and those whose text has another length than this one, which
+/// stands at this place.
+fn fits_its_text(byte: u8, fields: &[u8], place: usize, length: u8) -> bool {
+    for size in 0..fields.len() {
+        if !has_wrong_length(byte, fields.get(..size).unwrap_or(&[])) {
+            return false;
         }
     }
+    for other in 0..=255 {
+        if other != length && !is_refused_with(byte, fields, place, other) {
+            return false;
+        }
+    }
+    true
 }
 
 #[test]
 fn refuses_every_length_of_a_text_but_its_own(rt: HostRuntime) {
-    let mut shorter = REQUEST;
-    shorter[10] = 0;
-    let mut longer = REQUEST;
-    longer[10] = 2;
-    assert!(rt; is_refused(command::REQUEST_UPDATE, &shorter, ERROR_INVALID_LENGTH));
-    assert!(rt; is_refused(command::REQUEST_UPDATE, &longer, ERROR_INVALID_LENGTH));
-    let mut shorter = ENTRY;
-    shorter[11] = 1;
-    let mut longer = ENTRY;
-    longer[11] = 3;
-    assert!(rt;
-        is_refused(
-            command::PASS_COMPONENT_TABLE,
-            &shorter,
-            ERROR_INVALID_LENGTH
-        )
-    );
-    assert!(rt; is_refused(command::PASS_COMPONENT_TABLE, &longer, ERROR_INVALID_LENGTH));
-    let mut shorter = OFFER;
-    shorter[18] = 1;
-    let mut longer = OFFER;
-    longer[18] = 3;
-    assert!(rt; is_refused(command::UPDATE_COMPONENT, &shorter, ERROR_INVALID_LENGTH));
-    assert!(rt; is_refused(command::UPDATE_COMPONENT, &longer, ERROR_INVALID_LENGTH));
-    for size in 0..12usize {
-        assert!(rt;
-            is_refused(
-                command::REQUEST_UPDATE,
-                &REQUEST[..size],
-                ERROR_INVALID_LENGTH
-            )
-        );
-        assert!(rt;
-            is_refused(
-                command::PASS_COMPONENT_TABLE,
-                &ENTRY[..size],
-                ERROR_INVALID_LENGTH
-            )
-        );
-        assert!(rt;
-            is_refused(
-                command::UPDATE_COMPONENT,
-                &OFFER[..size],
-                ERROR_INVALID_LENGTH
-            )
-        );
+    let table: [(u8, &[u8], usize, u8); 3] = [
+        (command::REQUEST_UPDATE, &REQUEST, 10, 1),
+        (command::PASS_COMPONENT_TABLE, &ENTRY, 11, 2),
+        (command::UPDATE_COMPONENT, &OFFER, 18, 2),
+    ];
+    for (byte, fields, place, length) in table {
+        assert!(rt; fits_its_text(byte, fields, place, length));
     }
 }

@@ -1,10 +1,10 @@
 //! How updates end before their time: cancels, time-outs and bad verdicts.
 
-use crate::tests::packages::file;
+use crate::tests::packages::{file, package};
 use crate::tests::seeing::{
     Note, applied, happened, happened_last, holds, records, runs_first, stands,
 };
-use crate::tests::setup::{KEY, ONE, Small, package};
+use crate::tests::setup::{KEY, Small};
 use crate::tests::steps::{
     APPLY, ASK_DOWN, ASK_UP, CANCEL, COMPLETE_ASKED, DEVICE, DROP_UP, LEARN_DOWN, LEARN_UP,
     TAKE_BUSY, TAKE_UP, VERIFY, WHOLE, led, takes, takes_worked,
@@ -56,7 +56,7 @@ fn is_refused_late(
 
 #[test]
 fn a_stale_completion_records_nothing(rt: HostRuntime) -> Result<(), Fail> {
-    let one = file(rt.alloc(), ONE)?;
+    let one = file(rt.alloc())?;
     let packages = [package(&one)?];
     // the device learns the refusal, or is cancelled before
     let rows: [&[MessageStep]; 2] = [
@@ -83,14 +83,19 @@ fn is_failed(
         LEARN_UP,
     ];
     let mut world = led(alloc, packages, count, &then)?;
-    let failed = stands(&world, DEVICE, device, SessionState::Failed(cause));
-    let once = !takes(&mut world, &[ASK_UP]);
-    Ok(failed && once && is_as_before(&world) && happened(&world, &[]))
+    Ok(has_failed(&world, device, cause) && !takes(&mut world, &[ASK_UP]))
+}
+
+/// Whether the update has failed in this state for this cause, and left nothing.
+fn has_failed(world: &Small<'_>, device: State, cause: Cause) -> bool {
+    stands(world, DEVICE, device, SessionState::Failed(cause))
+        && is_as_before(world)
+        && happened(world, &[])
 }
 
 #[test]
 fn bad_verdicts_fail_the_update(rt: HostRuntime) -> Result<(), Fail> {
-    let one = file(rt.alloc(), ONE)?;
+    let one = file(rt.alloc())?;
     let packages = [package(&one)?];
     let rows = [
         (VERIFY, Verdict::VerifyFail, State::Verify, Cause::Verify),

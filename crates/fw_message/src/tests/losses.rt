@@ -1,10 +1,10 @@
 //! What is lost: commands and answers that nobody waits for any longer, and memory.
 
-use crate::tests::packages::file;
+use crate::tests::packages::{file, package};
 use crate::tests::seeing::{
     Cell, Note, active, applied, cell_of, failures, happened, holds, records, stands,
 };
-use crate::tests::setup::{KEY, ONE, Small, join, opening, package};
+use crate::tests::setup::{KEY, Small, join, opening};
 use crate::tests::steps::{
     ACTIVATING, APPLY, ASKED, COMPLETE_ASKED, DEVICE, DROP_DOWN, GIVE_UP_DOWN, START, TAKE_DOWN,
     WHOLE, go_on, led, replay, takes, takes_worked, worked,
@@ -28,21 +28,29 @@ fn is_done(world: &Small<'_>) -> bool {
     stands(world, DEVICE, State::Activate, SessionState::Done)
 }
 
+/// Whether the session has failed where its asker gives up, these steps then empty the cell, and a next update is done.
+fn fails_and_goes_on(
+    alloc: Global,
+    packages: &[Package<'_>],
+    then: &[MessageStep],
+) -> Result<bool, Fail> {
+    let mut world = led(alloc, packages, ASKED, &[GIVE_UP_DOWN])?;
+    let silent = SessionState::Failed(Cause::Silent);
+    let failed = stands(&world, DEVICE, State::Idle, silent);
+    let emptied = takes(&mut world, then) && holds(&world, DEVICE, Way::Down, None);
+    let anew = takes(&mut world, &[START]);
+    go_on(&mut world);
+    Ok(failed && emptied && anew && is_done(&world))
+}
+
 #[test]
 fn a_session_fails_when_its_asker_gives_up(rt: HostRuntime) -> Result<(), Fail> {
-    let one = file(rt.alloc(), ONE)?;
+    let one = file(rt.alloc())?;
     let packages = [package(&one)?];
     // the device never takes the command, or takes it later
     let rows: [&[MessageStep]; 2] = [&[DROP_DOWN], &[TAKE_DOWN, DROP_DOWN]];
     for then in rows {
-        let mut world = led(rt.alloc(), &packages, ASKED, &[GIVE_UP_DOWN])?;
-        let silent = SessionState::Failed(Cause::Silent);
-        assert!(rt; stands(&world, DEVICE, State::Idle, silent));
-        assert!(rt; takes(&mut world, then));
-        assert!(rt; holds(&world, DEVICE, Way::Down, None));
-        assert!(rt; takes(&mut world, &[START]));
-        go_on(&mut world);
-        assert!(rt; is_done(&world));
+        assert!(rt; fails_and_goes_on(rt.alloc(), &packages, then)?);
     }
     Ok(())
 }
@@ -124,9 +132,9 @@ fn is_failed_and_goes_on(world: &mut Small<'_>) -> bool {
 /// Holds whichever single allocation is refused.
 #[test]
 fn refused_memory_leaves_the_world(rt: HostRuntime) -> Result<(), Fail> {
-    let bytes = match file(rt.alloc(), ONE) {
+    let bytes = match file(rt.alloc()) {
         Ok(bytes) => bytes,
-        Err(_) => file(rt.alloc(), ONE)?,
+        Err(_) => file(rt.alloc())?,
     };
     let packages = [package(&bytes)?];
     let mut world = joined(rt.alloc(), &packages)?;

@@ -1,8 +1,8 @@
 //! Steps that aren't taken.
 
-use crate::tests::packages::file;
+use crate::tests::packages::{file, package};
 use crate::tests::seeing::seen;
-use crate::tests::setup::{AGENT, NOBODY, ONE, Small, opening, package};
+use crate::tests::setup::{AGENT, NOBODY, Small, opening};
 use crate::tests::steps::{
     ACTIVATE, ACTIVATING, ALL_APPLIED, ANSWERED, APPLIED, ASK_DOWN, ASK_UP, ASKED, CANCEL,
     DATA_ANSWERED, DATA_ASKED, DEVICE, DOWNLOAD, DROP_DOWN, DROP_UP, GIVE_UP_DOWN, GIVE_UP_UP,
@@ -175,7 +175,7 @@ fn stops(
 
 #[test]
 fn refused_steps_leave_the_world(rt: HostRuntime) -> Result<(), Fail> {
-    let one = file(rt.alloc(), ONE)?;
+    let one = file(rt.alloc())?;
     let packages = [package(&one)?];
     let tables: [(&[Row<'_>], MessageStepFault); 5] = [
         (&ASKS, MessageStepFault::NotNow),
@@ -234,7 +234,7 @@ fn is_no_device(
 
 #[test]
 fn a_step_of_no_device_is_known_before_all_else(rt: HostRuntime) -> Result<(), Fail> {
-    let one = file(rt.alloc(), ONE)?;
+    let one = file(rt.alloc())?;
     let packages = [package(&one)?];
     for count in [0, ASKED, DATA_ASKED] {
         for eid in [NOBODY, AGENT] {
@@ -251,7 +251,7 @@ fn a_step_of_no_device_is_known_before_all_else(rt: HostRuntime) -> Result<(), F
 
 #[test]
 fn a_replay_stops_at_the_first_step_that_is_refused(rt: HostRuntime) -> Result<(), Fail> {
-    let one = file(rt.alloc(), ONE)?;
+    let one = file(rt.alloc())?;
     let packages = [package(&one)?];
     let mut alone = opening(rt.alloc(), &packages);
     let steps = [RESTART_AGENT, START, START];

@@ -99,7 +99,7 @@ pub fn holds(world: &Small<'_>, eid: u8, way: Way, cell: Cell) -> bool {
 }
 
 /// What happened, short: with which device, and the image's component and size, or the package and its component.
-#[derive(Clone, Copy, Debug, PartialEq, Eq)]
+#[derive(Clone, Copy, PartialEq, Eq)]
 pub enum Note {
     Applied(u8, Key, usize),
     Recorded(u8, usize, usize),

@@ -4,11 +4,10 @@ ghost use Rattle.std.specs.Prelude.{◌≡◌, ◌∷◌, [], IfOk, map};
 ghost use Rattle.fd_core.specs.Components.{HasComponents};
 ghost use Rattle.fd_core.specs.Images.{key_of};
 
-use crate::tests::packages::{Draft, Item};
 use crate::{MessageStepFault, MessageWorld};
 use arrayvec::ArrayVec;
 use fd_core::{BankFault, Component, Device, Key, Label, MemBank};
-use fw_package::{Package, PackageFault};
+use fw_package::Package;
 use fwup_wire::{Descriptor, DescriptorList, Text, Version};
 use std::alloc::Global;
 
@@ -30,28 +29,8 @@ pub const SECOND: Key = Key {
     identifier: 2,
 };
 
-/// A component of 241 bytes that is only updated to a newer stamp.
-pub const ITEM: Item<'static> = Item {
-    key: (10, 1),
-    stamp: 2,
-    options: 2,
-    text: b"v2",
-    size: 241,
-};
-
-/// The worked package.
-pub const ONE: Draft<'static> = Draft {
-    set_text: b"A",
-    items: &[ITEM],
-};
-
 /// A world of the tests.
 pub type Small<'a> = MessageWorld<'a, MemBank>;
-
-/// `Package::read`: the proofs of the tests need nothing of its contract.
-pub fn package(bytes: &[u8]) -> Result<Package<'_>, PackageFault> {
-    Package::read(bytes)
-}
 
 /// The worked device's descriptors: type 0, data 34 12.
 fn descriptors() -> DescriptorList {

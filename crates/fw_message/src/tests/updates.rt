@@ -1,10 +1,10 @@
 //! Whole updates.
 
-use crate::tests::packages::file;
+use crate::tests::packages::{file, package};
 use crate::tests::seeing::{
     Note, active, applied, happened, has_first_record, is_worked_image, runs_first, stands,
 };
-use crate::tests::setup::{KEY, ONE, Small, package, world};
+use crate::tests::setup::{KEY, Small, world};
 use crate::tests::steps::{DEVICE, WHOLE, takes_worked, worked};
 use fd_core::State;
 use std::test::Fail;
@@ -26,7 +26,7 @@ fn is_updated(world: &Small<'_>, eid: u8) -> bool {
 
 #[test]
 fn the_worked_update_takes_its_forty_steps(rt: HostRuntime) -> Result<(), Fail> {
-    let one = file(rt.alloc(), ONE)?;
+    let one = file(rt.alloc())?;
     let packages = [package(&one)?];
     let mut world = world(rt.alloc(), &packages, &[DEVICE])?;
     assert!(rt; WHOLE == 40);
