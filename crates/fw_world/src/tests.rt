@@ -8,6 +8,7 @@ mod packages;
 mod random;
 mod rows;
 mod schedules;
+mod seeing;
 mod setup;
 mod turns;
 mod watch;

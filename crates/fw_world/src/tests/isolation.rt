@@ -1,8 +1,8 @@
 //! Two worlds side by side, in which the same is between the agent and one device.
 
 use crate::tests::packages::{ONE, file, image, package};
-use crate::tests::rows::{runs, stands};
 use crate::tests::schedules::perfect;
+use crate::tests::seeing::{runs, stands};
 use crate::tests::setup::{DEVICE, Small, three, world};
 use crate::{Step, replay_two};
 use fd_core::State;

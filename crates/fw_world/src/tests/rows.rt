@@ -1,43 +1,13 @@
 //! Worked schedules in turns.
 
 use crate::tests::packages::{ONE, file, file_of_two, image, package};
-use crate::tests::setup::{KEY, Small, fault, three, world, world_of_two};
+use crate::tests::seeing::{runs, stands};
+use crate::tests::setup::{Small, fault, three, world, world_of_two};
 use crate::tests::turns::{ticks, turns};
 use crate::{Event, Step, StepFault};
-use fd_core::{Bank, State};
+use fd_core::State;
 use std::test::Fail;
 use ua_core::{Cause, SessionState};
-
-/// Whether a device and its session stand so, and so many packets were sent between it and the agent.
-pub fn stands(
-    world: &Small<'_>,
-    device: u8,
-    session: SessionState,
-    state: State,
-    sent: usize,
-) -> bool {
-    match (
-        world.agent().session(device),
-        world.device(device),
-        world.packets(device),
-    ) {
-        (Some(s), Some(d), Some(packets)) => {
-            s.state() == session && d.device().state() == state && packets.len() == sent
-        }
-        _ => false,
-    }
-}
-
-/// Whether a device runs these bytes.
-pub fn runs(world: &Small<'_>, device: u8, bytes: &[u8]) -> bool {
-    match world.device(device) {
-        Some(node) => match node.device().bank().active(KEY) {
-            Some((_, image)) => image == bytes,
-            None => false,
-        },
-        None => false,
-    }
-}
 
 /// Whether the device applied an image and the agent recorded it, and nothing else happened.
 fn recorded_alone(world: &Small<'_>) -> bool {

@@ -1,9 +1,10 @@
 //! Worked schedules.
 
 use crate::tests::packages::{ONE, file, image, package};
+use crate::tests::seeing::{runs, stands};
 use crate::tests::setup::{DEVICE, KEY, Small, fault, world};
 use crate::{Event, LogRequest, Refusal, Step, StepFault};
-use fd_core::{Bank, State, Verdict};
+use fd_core::{State, Verdict};
 use fw_package::Package;
 use std::alloc::{AllocError, Global};
 use std::test::Fail;
@@ -20,33 +21,6 @@ fn sent(world: &Small<'_>, place: usize, bytes: &[u8]) -> bool {
     }
 }
 
-/// How many packets were sent between the agent and the device.
-fn count(world: &Small<'_>) -> usize {
-    match world.packets(DEVICE) {
-        Some(packets) => packets.len(),
-        None => 0,
-    }
-}
-
-/// Whether the device runs these bytes.
-fn runs(world: &Small<'_>, bytes: &[u8]) -> bool {
-    match world.device(DEVICE) {
-        Some(node) => match node.device().bank().active(KEY) {
-            Some((_, image)) => image == bytes,
-            None => false,
-        },
-        None => false,
-    }
-}
-
-/// Whether the session with the device and the device stand so.
-fn stand(world: &Small<'_>, session: SessionState, device: State) -> bool {
-    match (world.agent().session(DEVICE), world.device(DEVICE)) {
-        (Some(s), Some(d)) => s.state() == session && d.device().state() == device,
-        _ => false,
-    }
-}
-
 /// Whether the first request and its answer are all that was sent, in the first tick, and the session took the answer.
 fn is_one_answered(world: &Small<'_>) -> bool {
     let request = [0x01, 0x09, 0x08, 0xC8, 0x01, 0x80, 0x05, 0x01];
@@ -56,11 +30,10 @@ fn is_one_answered(world: &Small<'_>) -> bool {
     ];
     sent(world, 0, &request)
         && sent(world, 1, &answer)
-        && count(world) == 2
         && world.now() == 1
         && world.agent().log().len() == 1
-        && stand(world, SessionState::Params, State::Idle)
-        && runs(world, &[0xAA])
+        && stands(world, DEVICE, SessionState::Params, State::Idle, 2)
+        && runs(world, DEVICE, &[0xAA])
 }
 
 #[test]
@@ -156,9 +129,8 @@ fn told(world: &Small<'_>, image: &[u8]) -> bool {
 /// Whether the device runs the image after 12 ticks and 27 packets, and all is recorded.
 fn is_done(world: &Small<'_>, image: &[u8]) -> bool {
     world.now() == 12
-        && count(world) == 27
-        && stand(world, SessionState::Done, State::Activate)
-        && runs(world, image)
+        && stands(world, DEVICE, SessionState::Done, State::Activate, 27)
+        && runs(world, DEVICE, image)
         && world.agent().log().len() == 3
         && told(world, image)
 }
@@ -254,7 +226,7 @@ fn each_refusal_is_named(rt: HostRuntime) -> Result<(), Fail> {
     let mut world = world(rt.alloc(), &packages)?;
     assert!(rt; fault(&mut world, &[Step::Start(9, 1), Step::Tick]).is_none());
     assert!(rt; refused(&mut world));
-    assert!(rt; count(&world) == 1);
+    assert!(rt; stands(&world, DEVICE, SessionState::Query, State::Idle, 1));
     Ok(())
 }
 
