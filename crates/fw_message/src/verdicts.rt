@@ -35,7 +35,7 @@ pub fn awaits<B: Bank>(device: &Device<B>, verdict: Verdict) -> bool
     }
 }
 
-/// The bytes of the image that a verdict applies, where the device waits for it.
+/// The bytes of the image that a verdict applies: those staged where it is ApplyOk, and else 0.
 pub fn room_for<B: Bank>(device: &Device<B>, verdict: Verdict) -> usize
     ensures exact { result ≡ room_of verdict (staged_of device.now.device.phase) }
     ensures enough { verdict ≡ Verdict.ApplyOk → IfSome (staged_of device.now.device.phase) (λ s. s.1 ≤ result) }

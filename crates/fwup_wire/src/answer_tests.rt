@@ -2,8 +2,8 @@
 
 use crate::code::{command, completion, response, text_type};
 use crate::{
-    Answer, ComponentParameters, Descriptor, DescriptorList, Key, OfferResponse, ParameterList,
-    TableResponse, Text, Version, read_answer, write_answer,
+    Answer, ComponentParameters, Descriptor, DescriptorList, Descriptors, Key, OfferResponse,
+    ParameterList, Parameters, TableResponse, Text, Version, read_answer, write_answer,
 };
 use pldm_base::Reply;
 
@@ -182,14 +182,14 @@ fn ends_refusals_at_the_code(rt: HostRuntime) {
     }
 }
 
-/// Whether these bytes are what the descriptors, put together, are written as.
-fn are_put_together(all: &[Descriptor<'_>], bytes: &[u8]) -> bool {
+/// Whether the descriptors that were read from these bytes, put together, are written as them.
+fn are_put_together(told: &Descriptors<'_>, bytes: &[u8]) -> bool {
     let mut list = DescriptorList::new();
-    for descriptor in all {
+    for descriptor in told.iter() {
         if descriptor.bytes.len() > 4 || list.room() < 8 {
             return false;
         }
-        list.push(descriptor);
+        list.push(&descriptor);
     }
     let answer = Answer::QueryDeviceIdentifiers(list.lent());
     answer.is_writable() && write_answer(&answer).as_slice() == bytes
@@ -207,7 +207,7 @@ fn are_descriptors(bytes: &[u8], all: &[Descriptor<'_>]) -> bool {
     for (one, other) in told.iter().zip(all.iter()) {
         same = same && one == *other;
     }
-    same && are_put_together(all, bytes)
+    same && are_put_together(&told, bytes)
 }
 
 #[test]
@@ -228,15 +228,15 @@ fn reads_and_puts_together_descriptors(rt: HostRuntime) {
     assert!(rt; are_descriptors(&two, &[first, second]));
 }
 
-/// Whether these bytes are what the components, put together, are written as.
-fn are_components_put_together(all: &[ComponentParameters<'_>], bytes: &[u8]) -> bool {
+/// Whether the components that were read from these bytes, put together, are written as them.
+fn are_components_put_together(told: &Parameters<'_>, bytes: &[u8]) -> bool {
     let mut list = ParameterList::new();
-    for component in all {
+    for component in told.iter() {
         let texts = [component.active.text.bytes, component.pending.text.bytes];
         if texts[0].len() > 3 || texts[1].len() > 2 || list.room() < 44 {
             return false;
         }
-        list.push(component);
+        list.push(&component);
     }
     let answer = Answer::GetFirmwareParameters(list.lent());
     answer.is_writable() && write_answer(&answer).as_slice() == bytes
@@ -254,7 +254,7 @@ fn are_components(bytes: &[u8], all: &[ComponentParameters<'_>]) -> bool {
     for (one, other) in told.iter().zip(all.iter()) {
         same = same && one == *other;
     }
-    same && are_components_put_together(all, bytes)
+    same && are_components_put_together(&told, bytes)
 }
 
 #[test]

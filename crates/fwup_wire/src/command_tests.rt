@@ -163,7 +163,9 @@ fn has_wrong_length(byte: u8, fields: &[u8]) -> bool {
 /// Whether a command's data of this many bytes are refused with a byte more, and with a byte less.
 fn has_this_size(byte: u8, size: usize) -> bool {
     let zeros = [0; 9];
-    let longer = zeros.get(..size.saturating_add(1)).unwrap_or(&[]);
+    let Some(longer) = zeros.get(..size.saturating_add(1)) else {
+        return false;
+    };
     let shorter = zeros.get(..size.saturating_sub(1)).unwrap_or(&[]);
     has_wrong_length(byte, longer) && (size == 0 || has_wrong_length(byte, shorter))
 }

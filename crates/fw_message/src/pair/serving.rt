@@ -94,7 +94,7 @@ impl<'a, B: Bank> Pair<'a, B> {
         }
     }
 
-    /// The bytes of the image that a verdict applies, where the device waits for it.
+    /// The bytes of the image that a verdict applies: those staged where it is ApplyOk, and else 0.
     pub fn room_for(&self, verdict: Verdict) -> usize
         ensures exact { result ≡ room_of verdict (staged_of self.now.node.pair.device.phase) }
         ensures enough { verdict ≡ Verdict.ApplyOk → IfSome (staged_of self.now.node.pair.device.phase) (λ s. s.1 ≤ result) }
