@@ -22,7 +22,7 @@ use Rattle.fw_world.specs.Joins.{IsFor, IsWishedIn}
 use Rattle.fw_world.proofs.Joins.Cells.{closed_stays, stays, told_for}
 use Rattle.fw_world.proofs.Joins.Sides.{Leads, Sided, closes, no_step}
 
--- the pair by the device's half, with this session
+-- the pair of the device's half and an update session
 abbrev pub device_place : SessionOf → TimedDevice → Option HeldOf → Option HeldOf → PairOf
 device_place s x own other = record { device = x.device; session = s; down = other; up = own }
 
