@@ -18,7 +18,7 @@ use std::alloc::Global;
 use std::marker::Model;
 
 /// One direction of requests between two nodes: both ends, and every packet that was ever sent between them.
-#[derive(Debug, Drop)]
+#[derive(Drop)]
 pub struct Lane {
     asker_deaf: u8,
     taker_deaf: u8,
@@ -305,19 +305,4 @@ fn data_of(bytes: &[u8]) -> Reply
     let mut data = Reply::new();
     let _ = data.try_extend_from_slice(bytes);
     data
-}
-
-#[cfg(test)]
-mod tests {
-    use super::*;
-
-    #[test]
-    fn time_ends_with_its_last_unit(rt: HostRuntime) {
-        let mut lane = Lane::new(rt.alloc(), 8, 9);
-        lane.journal.time = 4_294_967_294;
-        assert!(rt; lane.step(&LaneStep::Tick) == Ok(()));
-        assert!(rt; lane.now() == 4_294_967_295);
-        assert!(rt; lane.step(&LaneStep::Tick) == Err(LaneFault::NotNow));
-        assert!(rt; lane.now() == 4_294_967_295);
-    }
 }

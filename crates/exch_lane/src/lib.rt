@@ -7,11 +7,7 @@ mod journal;
 mod lane;
 mod laws;
 mod replay;
-#[cfg(test)]
-mod run_tests;
 mod step;
-#[cfg(test)]
-mod tests;
 
 pub use entry::LaneEntry;
 pub use journal::SentPacket;

@@ -4,7 +4,7 @@ use pldm_base::Reply;
 use thiserror::Error;
 
 /// An end of a lane.
-#[derive(Clone, Copy, Debug, PartialEq, Eq)]
+#[derive(Clone, Copy, PartialEq, Eq)]
 pub enum End {
     /// The node that sends requests and hears their replies.
     Asker,
@@ -13,7 +13,7 @@ pub enum End {
 }
 
 /// A step of a lane.
-#[derive(Debug, PartialEq, Eq, Drop)]
+#[derive(PartialEq, Eq, Drop)]
 pub enum LaneStep {
     /// The asker begins a request of PLDM type 5 (firmware update) with this command and request data.
     Begin(u8, Reply),

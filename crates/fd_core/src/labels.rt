@@ -13,7 +13,7 @@ use std::marker::Model;
 pub const MAX_TEXT: usize = 12;
 
 /// What an image calls itself, as a bank keeps it.
-#[derive(Debug, Drop)]
+#[derive(Drop)]
 pub struct Label {
     /// The comparison stamp.
     pub stamp: u32,

@@ -9,8 +9,6 @@ mod laws;
 mod memory;
 mod parts;
 mod states;
-#[cfg(test)]
-mod tests;
 
 pub use bank::{Bank, BankFault};
 pub use device::Device;

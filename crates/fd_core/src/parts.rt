@@ -24,7 +24,7 @@ pub const NO_KEY: Key = Key {
 };
 
 /// A component as it is configured.
-#[derive(Clone, Copy, Debug, PartialEq, Eq)]
+#[derive(Clone, Copy, PartialEq, Eq)]
 pub struct Component {
     /// The component.
     pub key: Key,
@@ -33,7 +33,7 @@ pub struct Component {
 }
 
 /// A component of the update, and what stands against it, as `fwup_wire::code::response`.
-#[derive(Clone, Copy, Debug, PartialEq, Eq)]
+#[derive(Clone, Copy, PartialEq, Eq)]
 pub struct Listed {
     pub key: Key,
     pub code: u8,
@@ -60,7 +60,7 @@ impl Default for Listed {
 }
 
 /// What RequestUpdate said, and the components that were passed since.
-#[derive(Debug, Drop)]
+#[derive(Drop)]
 pub struct Update {
     /// The most bytes that the agent gives at once.
     pub transfer_size: u32,
@@ -70,7 +70,7 @@ pub struct Update {
 }
 
 /// What UpdateComponent said, and how many bytes of the image are stored.
-#[derive(Debug, Drop)]
+#[derive(Drop)]
 pub struct Work {
     pub key: Key,
     /// The image's bytes.
@@ -96,7 +96,7 @@ impl Work {
 }
 
 /// Where a device is, how it came there, and the ticks without a change.
-#[derive(Clone, Copy, Debug)]
+#[derive(Clone, Copy)]
 pub struct Course {
     pub state: State,
     /// Of DOWNLOAD, VERIFY and APPLY; elsewhere it says nothing.

@@ -3,7 +3,7 @@
 use thiserror::Error;
 
 /// A device's state, with its number in GetStatus.
-#[derive(Clone, Copy, Debug, PartialEq, Eq)]
+#[derive(Clone, Copy, PartialEq, Eq)]
 pub enum State {
     /// No update is under way.
     Idle = 0,
@@ -22,7 +22,7 @@ pub enum State {
 }
 
 /// How far the work of DOWNLOAD, VERIFY or APPLY is.
-#[derive(Clone, Copy, Debug, PartialEq, Eq)]
+#[derive(Clone, Copy, PartialEq, Eq)]
 pub enum Progress {
     /// It goes on.
     InProgress,
@@ -36,7 +36,7 @@ pub enum Progress {
 }
 
 /// Why a device is idle, with its number in GetStatus.
-#[derive(Clone, Copy, Debug, PartialEq, Eq)]
+#[derive(Clone, Copy, PartialEq, Eq)]
 pub enum Reason {
     /// It was started.
     Initialization = 0,
@@ -57,7 +57,7 @@ pub enum Reason {
 }
 
 /// What the device's own tests say of an image.
-#[derive(Clone, Copy, Debug, PartialEq, Eq)]
+#[derive(Clone, Copy, PartialEq, Eq)]
 pub enum Verdict {
     /// The image is sound.
     VerifyOk,

@@ -5,7 +5,6 @@ mod Frames
 mod Gaining
 pub mod Going
 mod Latest
-mod Opening
 mod Overs
 mod Pieces
 pub mod Rising

@@ -14,7 +14,7 @@ use fw_world::{Step, World};
 use thiserror::Error;
 
 /// What a run did.
-#[derive(Clone, Copy, Debug, PartialEq, Eq)]
+#[derive(Clone, Copy, PartialEq, Eq)]
 pub struct Driven {
     /// The turns that it took.
     pub turns: u32,

@@ -1,4 +1,4 @@
-//! Which packet of a pair a frame is.
+//! Finds the sent packet that a received frame carries.
 
 ghost use Rattle.std.specs.Prelude.{◌≡◌, false, map, true};
 ghost use Rattle.exch_lane.specs.Journals.{sent_of};

@@ -13,8 +13,6 @@ mod rounds;
 mod steps;
 mod stream;
 mod tally;
-#[cfg(test)]
-mod tests;
 
 pub use driving::{Driven, EdgeFault, drive};
 pub use frame::{FrameFault, read_frame, write_frame};

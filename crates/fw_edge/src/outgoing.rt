@@ -72,8 +72,8 @@ fn write_at<B: Bank + Drop, L: Link>(
     write_each(link, unwritten, node.eid())
 }
 
-/// Writes each packet that isn't written yet to the link of its pair, in configured order, by rising number. So many of each
-/// pair are written, and then all are.
+/// Writes each packet that isn't written yet to the link of its pair, in configured order, by rising number. `written[i]` counts
+/// the packets that link i has taken; afterwards these are all.
 pub(crate) fn write_out<B: Bank + Drop, L: Link>(
     world: &World<'_, B>,
     links: &mut [L],

@@ -4,7 +4,7 @@ ghost use Rattle.std.specs.Prelude.{◌≡◌, false, true};
 ghost use Rattle.fw_edge.specs.Links.{Asks, Fails, Sends};
 
 /// What a link has done so far. Each count stops at its last value.
-#[derive(Clone, Copy, Debug, PartialEq, Eq)]
+#[derive(Clone, Copy, PartialEq, Eq)]
 pub struct Tally {
     /// Calls that failed.
     pub failures: u64,

@@ -11,8 +11,6 @@ mod pair;
 mod replay;
 mod side;
 mod step;
-#[cfg(test)]
-mod tests;
 mod verdicts;
 
 pub use cell::Held;

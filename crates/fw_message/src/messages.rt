@@ -141,7 +141,7 @@ impl<'a, B: Bank + Drop> MessageWorld<'a, B> {
         ensures same { OnErr result (self.new ≡ self.old) }
     {
         if step.restarts(self.agent) {
-            restart_each(&mut self.pairs, self.packages);
+            restart_each(self.pairs.as_mut_slice(), self.packages);
             return Ok(true);
         }
         let Some(place) = place_of(&self.pairs, step.device()) else {
@@ -181,14 +181,7 @@ fn pair_of<'p, 'a, B: Bank>(pairs: &'p [Pair<'a, B>], eid: u8) -> Option<&'p Pai
 }
 
 /// The agent restarts, and with it each of its sessions.
-fn restart_each<'a, B: Bank>(pairs: &mut Vec<Pair<'a, B>>, packages: &'a [Package<'a>])
-    ensures { pairs.new.items ≡ map (counted_restarted packages.now) pairs.old.items }
-{
-    restart_all(pairs.as_mut_slice(), packages);
-}
-
-/// The same over a slice.
-fn restart_all<'a, B: Bank>(pairs: &mut [Pair<'a, B>], packages: &'a [Package<'a>])
+fn restart_each<'a, B: Bank>(pairs: &mut [Pair<'a, B>], packages: &'a [Package<'a>])
     ensures { pairs.new ≡ map (counted_restarted packages.now) pairs.old }
 {
     for pair in pairs.iter_mut() {

@@ -1,7 +1,7 @@
 //! Who acts, and who asks whom.
 
 /// A side of a pair: the agent's session for a device, or the device.
-#[derive(Clone, Copy, Debug, PartialEq, Eq)]
+#[derive(Clone, Copy, PartialEq, Eq)]
 pub enum Side {
     /// The agent's session.
     Agent,
@@ -10,7 +10,7 @@ pub enum Side {
 }
 
 /// A way that commands go in a pair. Their answers go the other way.
-#[derive(Clone, Copy, Debug, PartialEq, Eq)]
+#[derive(Clone, Copy, PartialEq, Eq)]
 pub enum Way {
     /// The agent asks the device.
     Down,

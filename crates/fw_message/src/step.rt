@@ -9,7 +9,7 @@ use thiserror::Error;
 
 /// A step of a world over whole messages. Devices are named by their endpoint identifiers, packages by their numbers
 /// from 1 on.
-#[derive(Clone, Copy, Debug, PartialEq, Eq)]
+#[derive(Clone, Copy, PartialEq, Eq)]
 pub enum MessageStep {
     /// An empty cell takes up the command that its asker wishes.
     Ask(u8, Way),

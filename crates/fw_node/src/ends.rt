@@ -17,7 +17,7 @@ use pldm_exch::{Asker, Brought, CallTick, Request, Taker};
 use std::marker::Model;
 
 /// What a node has to ask a peer, and to answer it.
-#[derive(Debug, Drop)]
+#[derive(Drop)]
 pub(crate) struct Ends {
     asker: Asker,
     taker: Taker,

@@ -4,7 +4,7 @@ use mctp_reasm::Message;
 use pldm_exch::{ReplyIn, Request};
 
 /// What a packet of a peer brings.
-#[derive(Debug, Drop)]
+#[derive(Drop)]
 pub(crate) enum Incoming {
     /// Nothing is to be done.
     Nothing,

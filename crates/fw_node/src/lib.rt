@@ -10,8 +10,6 @@ mod incoming;
 mod outbox;
 mod part;
 mod sending;
-#[cfg(test)]
-mod tests;
 
 pub use agent_node::AgentNode;
 pub use device_node::DeviceNode;

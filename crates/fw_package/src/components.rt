@@ -33,7 +33,7 @@ const IMAGE_SIZE: usize = 16;
 const TEXT_TYPE: usize = 20;
 
 /// A component and its image, lent from its package's file.
-#[derive(Clone, Copy, Debug)]
+#[derive(Clone, Copy)]
 pub struct Component<'a> {
     /// The classification, the first part of the key.
     pub classification: u16,
@@ -90,7 +90,7 @@ fn version_text(bytes: &[u8]) -> Text<'_>
 }
 
 /// The components of a package, one after the other. It is also an iterator over them.
-#[derive(Debug, Drop)]
+#[derive(Drop)]
 pub struct Components<'a> {
     file: &'a [u8],
     count: usize,

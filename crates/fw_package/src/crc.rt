@@ -41,14 +41,3 @@ fn byte_steps(byte: u32) -> u32
 {
     BYTE_STEPS[byte as usize]
 }
-
-#[cfg(test)]
-mod tests {
-    use super::*;
-
-    #[test]
-    fn gives_the_check_value(rt: HostRuntime) {
-        assert!(rt; crc32(b"123456789") == 0xCBF4_3926);
-        assert!(rt; crc32(&[]) == 0);
-    }
-}

@@ -20,7 +20,7 @@ const DESCRIPTOR_SIZE: usize = 4;
 const DESCRIPTOR_LENGTH: usize = 2;
 
 /// Descriptors that stand one after the other. It is also an iterator over them.
-#[derive(Debug, Drop)]
+#[derive(Drop)]
 pub struct Descriptors<'a> {
     count: u8,
     rest: &'a [u8],

@@ -28,7 +28,7 @@ const TEXT_LIMIT: usize = 200;
 
 /// A firmware update package: a view of the bytes of its file, which lend all that is read from it. It holds places and
 /// counts alone; each call walks over the header again.
-#[derive(Debug, Drop)]
+#[derive(Drop)]
 pub struct Package<'a> {
     header_size: usize,
     records: Records<'a>,
@@ -239,6 +239,3 @@ impl<'a> Package<'a> {
         Used::new(&self.components, uses)
     }
 }
-
-#[cfg(test)]
-mod tests;

@@ -10,7 +10,7 @@ use std::marker::Model;
 pub const PLAN_LIMIT: usize = 8;
 
 /// The numbers of the components that a device is offered, at most eight, rising.
-#[derive(Debug, Drop)]
+#[derive(Drop)]
 pub struct Plan {
     numbers: ArrayVec<usize, PLAN_LIMIT>,
 }

@@ -38,7 +38,7 @@ const TEXT_LENGTH: usize = 8;
 const DATA_LENGTH: usize = 9;
 
 /// A device identification record, lent from its package's header.
-#[derive(Debug, Drop)]
+#[derive(Drop)]
 pub struct Record<'a> {
     /// The update option flags.
     pub flags: u32,
@@ -91,7 +91,7 @@ impl<'a> Record<'a> {
 }
 
 /// The records of a package, one after the other. It is also an iterator over them.
-#[derive(Debug, Drop)]
+#[derive(Drop)]
 pub struct Records<'a> {
     count: usize,
     rest: &'a [u8],

@@ -19,7 +19,7 @@ pub const KEY_LIMIT: usize = 2_978;
 const IDENTIFIERS: u32 = 65_536;
 
 /// Some of the components that stand in a row, by their rising numbers. It is also an iterator over them.
-#[derive(Debug, Drop)]
+#[derive(Drop)]
 pub struct Used<'a> {
     /// The numbers.
     uses: Uses<'a>,

@@ -11,7 +11,7 @@ use std::marker::Model;
 const BYTE_BITS: usize = 8;
 
 /// The numbers of components, rising. It is also an iterator over them.
-#[derive(Debug, Drop)]
+#[derive(Drop)]
 pub struct Uses<'a> {
     bitmap: &'a [u8],
     number: u16,

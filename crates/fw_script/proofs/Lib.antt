@@ -1,4 +1,3 @@
-pub mod Chains
 mod Cuts
 mod Decimals
 mod Keys

@@ -1,7 +1,6 @@
 pub mod Configs
 pub mod Faults
 pub mod Lines
-pub mod Printing
 pub mod Reports
 pub mod Schedules
 pub mod Seen

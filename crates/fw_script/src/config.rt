@@ -17,7 +17,7 @@ use mctp_ctl::Endpoint;
 use std::alloc::Global;
 
 /// A configuration.
-#[derive(Debug, Drop)]
+#[derive(Drop)]
 pub struct Config {
     /// The agent's end of the links.
     pub agent: Endpoint,
@@ -28,7 +28,7 @@ pub struct Config {
 }
 
 /// A device as it is configured.
-#[derive(Debug, Drop)]
+#[derive(Drop)]
 pub struct DeviceConfig {
     /// Its end of the links.
     pub endpoint: Endpoint,
@@ -39,7 +39,7 @@ pub struct DeviceConfig {
 }
 
 /// A component as it is configured.
-#[derive(Debug, Drop)]
+#[derive(Drop)]
 pub struct ComponentConfig {
     /// The component.
     pub component: Component,
@@ -50,7 +50,7 @@ pub struct ComponentConfig {
 }
 
 /// The numbers of a component's line: the component, and the stamp of its image.
-#[derive(Clone, Copy, Debug)]
+#[derive(Clone, Copy)]
 pub(crate) struct Numbers {
     pub component: Component,
     pub stamp: u32,

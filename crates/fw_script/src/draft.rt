@@ -19,7 +19,7 @@ use std::marker::Model;
 const MAX_DEVICES: usize = 16;
 
 /// What a line begins with.
-#[derive(Clone, Copy, Debug, PartialEq, Eq)]
+#[derive(Clone, Copy, PartialEq, Eq)]
 enum Directive {
     Agent,
     Device,

@@ -8,11 +8,8 @@ mod draft;
 mod faults;
 mod lines;
 mod names;
-pub mod printing;
 mod reports;
 mod schedule;
-#[cfg(test)]
-mod tests;
 mod values;
 
 pub use config::{ComponentConfig, Config, DeviceConfig};

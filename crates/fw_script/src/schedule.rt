@@ -19,7 +19,7 @@ const MAX_REQUEST: usize = 64;
 const MAX_TICKS: u64 = 1000;
 
 /// What a line begins with.
-#[derive(Clone, Copy, Debug, PartialEq, Eq)]
+#[derive(Clone, Copy, PartialEq, Eq)]
 enum Directive {
     Tick,
     Deliver,

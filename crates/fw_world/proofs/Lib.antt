@@ -9,6 +9,7 @@ mod Links
 mod Noting
 mod Opening
 mod Places
+mod Reaching
 mod Recording
 mod Rooms
 mod Running

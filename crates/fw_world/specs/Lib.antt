@@ -8,6 +8,7 @@ pub mod LinkLaws
 pub mod Links
 pub mod Messages
 pub mod Moments
+pub mod Promises
 pub mod Replays
 pub mod Safety
 pub mod Sites

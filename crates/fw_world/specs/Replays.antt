@@ -138,6 +138,11 @@ abbrev pub Run : WorldOf → List Step → WorldOf → Type 0
 Run w [] v = v ≡ w
 Run w (s ∷ ss) v = (mid : WorldOf) × Leads w s mid × Run mid ss v
 
+-- some steps lead there
+pub record IsLed (w v : WorldOf) : Type 0 where
+  pub steps : List Step
+  pub run : Run w steps v
+
 -- Why a step isn't taken: it may not be, for this reason; or it may, and memory that it needs is refused.
 abbrev pub Refuses : WorldOf → Step → StepFault → Type 0
 Refuses w s e = (may_step w s ≡ Some e) ⊎ ((e ≡ faults.Memory) × (needs_memory s ≡ true) × (may_step w s ≡ None))

@@ -1,7 +1,7 @@
 //! Two replays side by side: what is between the agent and a device depends on no other device.
 
 ghost use Rattle.std.specs.Prelude.{◌≡◌, ◌<◌, IfErr, IfSome, IsOk, OnOk, length, slice_get, take};
-ghost use Rattle.fw_world.specs.Isolation.{AgreeIn, DevicesAreIsolated, IsReached, IsUnfailed, steps_of};
+ghost use Rattle.fw_world.specs.Isolation.{AgreeIn, DevicesAreIsolated, IsUnfailed, steps_of};
 ghost use Rattle.fw_world.specs.Replays.{Refuses, Run};
 
 use crate::joined::links_are_messages;
@@ -43,9 +43,11 @@ pub fn replay_two<'a, 'b, B: Bank + Drop>(
     ensures first_stopped { IfErr result.0 (λ e. (e.0 < length first_steps.now) × Run first.old (take e.0 first_steps.now) first.new × IfSome (slice_get first_steps.now e.0) (λ s. Refuses first.new s e.1)) }
     ensures second_ok { OnOk result.1 (Run second.old second_steps.now second.new) }
     ensures second_stopped { IfErr result.1 (λ e. (e.0 < length second_steps.now) × Run second.old (take e.0 second_steps.now) second.new × IfSome (slice_get second_steps.now e.0) (λ s. Refuses second.new s e.1)) }
-    ensures isolated { IsReached first.old → IsReached second.old → AgreeIn device first.old second.old → steps_of first.old device first_steps.now ≡ steps_of second.old device second_steps.now → IsOk result.0 → IsOk result.1 → IsUnfailed device first.old first.new → IsUnfailed device second.old second.new → AgreeIn device first.new second.new }
+    ensures isolated { AgreeIn device first.old second.old → steps_of first.old device first_steps.now ≡ steps_of second.old device second_steps.now → IsOk result.0 → IsOk result.1 → IsUnfailed device first.old first.new → IsUnfailed device second.old second.new → AgreeIn device first.new second.new }
 {
     devices_are_isolated();
+    first.is_promised();
+    second.is_promised();
     let first_result = replay(first, first_steps);
     let second_result = replay(second, second_steps);
     (first_result, second_result)

@@ -1,4 +1,4 @@
-//! What a link has to do with whole messages.
+//! A step of a link is steps over whole messages.
 
 ghost use Rattle.fw_world.specs.JoinLaws.{LinksAreMessages};
 

@@ -10,9 +10,8 @@ mod laws;
 mod replays;
 mod site;
 mod sites;
+mod state;
 mod step;
-#[cfg(test)]
-mod tests;
 mod world;
 
 pub use fw_message::{

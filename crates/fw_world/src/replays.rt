@@ -1,26 +1,25 @@
 //! Replays of steps of the packet world.
 
 ghost use Rattle.std.specs.Prelude.{◌≡◌, ◌<◌, IfErr, IfSome, List, OnOk, length, slice_get, take};
-ghost use Rattle.fw_world.specs.Messages.{IsRunOfMessages};
 ghost use Rattle.fw_world.specs.Moments.{IsGrown, IsTiedBetween};
-ghost use Rattle.fw_world.specs.Replays.{IsOpeningWorld, Refuses, Run};
+ghost use Rattle.fw_world.specs.Promises.{IsPromised};
+ghost use Rattle.fw_world.specs.Replays.{IsLed, IsOpeningWorld, Refuses, Run};
 ghost use Rattle.fw_world.specs.Safety.{IsSafeWorld};
 ghost use Rattle.fw_world.specs.Worlds.{WorldOf};
 ghost use Rattle.fw_world.specs.declared.step.Step.{Step};
 
-use crate::headline::{moments_are_tied, packets_are_messages, packets_are_safe};
+use crate::headline::{moments_are_tied, packets_are_safe};
 use crate::step::{Step, StepFault};
 use crate::world::World;
 use fd_core::Bank;
 
 /// Takes these steps one after another: deliveries of packets in any order, any number of times or never, ticks, the operator's
-/// calls, verdicts, restarts and requests of the event log. Whatever is called on a world that began as it was made, the history
-/// of each of its devices is then safe: the images that a device activates in one go are those that one package names for it,
-/// each recorded since its activation before, and each record has an application of its own before it; and tied: what runs on
-/// a device and what the agent has recorded are what the history says. So it is between the moment after the call and each
-/// earlier one: the history has only grown, and what runs, what is applied and what is recorded are those of then, with what
-/// happened since; and so it is at each two moments of the run that led there. Whatever came of packets, steps over whole
-/// messages lead to the same devices, sessions and history.
+/// calls, verdicts, restarts and requests of the event log. The history of each device is then safe: the images that a device
+/// activates in one go are those that one package names for it, each recorded since its activation before, and each record has an
+/// application of its own before it. It is tied: what runs on a device and what the agent has recorded are what the history says.
+/// And steps over whole messages lead to the same devices, sessions and history (`promised`). So it is between the moments before
+/// and after the call: the history has only grown, and what runs, what is applied and what is recorded are those of before, with
+/// what happened since (`grown`, `tied`); and so it is at each two moments of the run that led there (`moments`).
 ///
 /// # Errors
 /// The number of the step that isn't taken, counted from 0, and why: `NoSuchNode`, then `NoSuchPacket`, then `Dead`; for the
@@ -33,14 +32,27 @@ pub fn replay<B: Bank + Drop>(
     ensures ok { OnOk result (Run world.old steps.now world.new) }
     ensures stopped { IfErr result (λ e. (e.0 < length steps.now) × Run world.old (take e.0 steps.now) world.new × IfSome (slice_get steps.now e.0) (λ s. Refuses world.new s e.1)) }
     ensures grown { IsGrown world.old world.new }
-    ensures tied { (opening earlier : WorldOf) (before since : List Step) → IsOpeningWorld opening → Run opening before earlier → Run earlier since world.old → IsTiedBetween earlier world.new }
+    ensures tied { IsTiedBetween world.old world.new }
     ensures moments { (opening earlier later : WorldOf) (before between after : List Step) → IsOpeningWorld opening → Run opening before earlier → Run earlier between later → Run later after world.new → IsSafeWorld opening later × IsTiedBetween earlier later }
-    ensures messages { (opening : WorldOf) (before : List Step) → IsOpeningWorld opening → Run opening before world.old → IsRunOfMessages opening world.new }
-    ensures safe { (opening : WorldOf) (before : List Step) → IsOpeningWorld opening → Run opening before world.old → IsSafeWorld opening world.new }
+    ensures promised { IsPromised world.new }
 {
     packets_are_safe();
     moments_are_tied();
-    packets_are_messages();
+    world.is_promised();
+    let taken = take_all(world, steps);
+    world.is_promised();
+    taken
+}
+
+/// Takes these steps one after another, up to the first that isn't taken.
+fn take_all<B: Bank + Drop>(
+    world: &mut World<'_, B>,
+    steps: &[Step],
+) -> Result<(), (usize, StepFault)>
+    ensures ok { OnOk result (Run world.old steps.now world.new) }
+    ensures stopped { IfErr result (λ e. (e.0 < length steps.now) × Run world.old (take e.0 steps.now) world.new × IfSome (slice_get steps.now e.0) (λ s. Refuses world.new s e.1)) }
+    ensures led { IsLed world.old world.new }
+{
     for (i, step) in steps.iter().enumerate() {
         match world.step(step) {
             Ok(()) => {}

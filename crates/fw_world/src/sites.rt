@@ -74,16 +74,7 @@ pub(crate) fn site_for<B: Bank>(sites: &[Site<B>], eid: u8) -> Option<&Site<B>>
 }
 
 /// Makes room for so many packets at each device.
-pub(crate) fn make_room<B: Bank>(sites: &mut Vec<Site<B>>, count: usize) -> Result<(), AllocError>
-    ensures room { OnOk result (HaveRoom count sites.new.items) }
-    ensures same { sites_of sites.new.items ≡ sites_of sites.old.items }
-    ensures count { length sites.new.items ≡ length sites.old.items }
-{
-    make_room_at(sites.as_mut_slice(), count)
-}
-
-/// The same over a slice.
-fn make_room_at<B: Bank>(sites: &mut [Site<B>], count: usize) -> Result<(), AllocError>
+pub(crate) fn make_room<B: Bank>(sites: &mut [Site<B>], count: usize) -> Result<(), AllocError>
     ensures room { OnOk result (HaveRoom count sites.new) }
     ensures same { sites_of sites.new ≡ sites_of sites.old }
     ensures count { length sites.new ≡ length sites.old }
@@ -98,19 +89,7 @@ fn make_room_at<B: Bank>(sites: &mut [Site<B>], count: usize) -> Result<(), Allo
 }
 
 /// Puts each packet that the agent sent behind those of the device that it is for, dated now. There is room for them.
-pub(crate) fn post_all<B: Bank>(sites: &mut Vec<Site<B>>, now: u32, outbox: &mut Outbox)
-    requires room { HaveRoom 128 sites.old.items }
-    requires few { length outbox.old ≤ 64 }
-    ensures sites { sites_of sites.new.items ≡ posts now (sites_of sites.old.items) outbox.old }
-    ensures room { HaveRoom 64 sites.new.items }
-    ensures outbox { outbox.new ≡ [] }
-    ensures count { length sites.new.items ≡ length sites.old.items }
-{
-    post_each(sites.as_mut_slice(), now, outbox);
-}
-
-/// The same over a slice.
-fn post_each<B: Bank>(sites: &mut [Site<B>], now: u32, outbox: &mut Outbox)
+pub(crate) fn post_all<B: Bank>(sites: &mut [Site<B>], now: u32, outbox: &mut Outbox)
     requires room { HaveRoom 128 sites.old }
     requires few { length outbox.old ≤ 64 }
     ensures sites { sites_of sites.new ≡ posts now (sites_of sites.old) outbox.old }
@@ -149,19 +128,7 @@ fn place_for<B: Bank>(sites: &[Site<B>], packet: &[u8]) -> Option<usize>
 }
 
 /// A tick passes for all devices; what they send is dated now.
-pub(crate) fn tick_all<B: Bank>(sites: &mut Vec<Site<B>>, now: u32, outbox: &mut Outbox)
-    requires room { HaveRoom 64 sites.old.items }
-    requires outbox { outbox.old ≡ [] }
-    ensures sites { sites_of sites.new.items ≡ map (site_ticks now) (sites_of sites.old.items) }
-    ensures outbox { outbox.new ≡ [] }
-    ensures spoken { AllByRecursion SiteSpeaks (sites_of sites.old.items) }
-    ensures count { length sites.new.items ≡ length sites.old.items }
-{
-    tick_each(sites.as_mut_slice(), now, outbox);
-}
-
-/// The same over a slice.
-fn tick_each<B: Bank>(sites: &mut [Site<B>], now: u32, outbox: &mut Outbox)
+pub(crate) fn tick_all<B: Bank>(sites: &mut [Site<B>], now: u32, outbox: &mut Outbox)
     requires room { HaveRoom 64 sites.old }
     requires outbox { outbox.old ≡ [] }
     ensures sites { sites_of sites.new ≡ map (site_ticks now) (sites_of sites.old) }
@@ -176,35 +143,6 @@ fn tick_each<B: Bank>(sites: &mut [Site<B>], now: u32, outbox: &mut Outbox)
 
 /// The node at a place hears the bytes of a packet; what it sends is dated now, and what it activates is noted.
 pub(crate) fn hear_at<B: Bank>(
-    sites: &mut Vec<Site<B>>,
-    place: usize,
-    alloc: Global,
-    now: u32,
-    bytes: &[u8],
-    outbox: &mut Outbox,
-    history: &mut Vec<Entry>,
-) -> Result<(), AllocError>
-    requires place { place < length sites.old.items }
-    requires outbox { outbox.old ≡ [] }
-    ensures heard { OnOk result (HeardAt now (sites_of sites.old.items) place bytes.now (sites_of sites.new.items) (map entry_of history.old.items) (map entry_of history.new.items)) }
-    ensures same { OnErr result (sites_of sites.new.items ≡ sites_of sites.old.items) }
-    ensures unnoted { OnErr result (map entry_of history.new.items ≡ map entry_of history.old.items) }
-    ensures outbox { outbox.new ≡ [] }
-    ensures count { length sites.new.items ≡ length sites.old.items }
-{
-    hear_in(
-        sites.as_mut_slice(),
-        place,
-        alloc,
-        now,
-        bytes,
-        outbox,
-        history,
-    )
-}
-
-/// The same over a slice.
-fn hear_in<B: Bank>(
     sites: &mut [Site<B>],
     place: usize,
     alloc: Global,
@@ -230,25 +168,6 @@ fn hear_in<B: Bank>(
 
 /// The node at a place has a verdict; what it applies is noted.
 pub(crate) fn judge_at<B: Bank>(
-    sites: &mut Vec<Site<B>>,
-    place: usize,
-    alloc: Global,
-    verdict: Verdict,
-    history: &mut Vec<Entry>,
-) -> Result<(), StepFault>
-    requires place { place < length sites.old.items }
-    ensures judged { OnOk result (JudgedAt (sites_of sites.old.items) place verdict (sites_of sites.new.items) (map entry_of history.old.items) (map entry_of history.new.items)) }
-    ensures may { OnOk result (verdict_fault verdict (slice_get (sites_of sites.old.items) place) ≡ None) }
-    ensures refused { IfErr result (λ e. (verdict_fault verdict (slice_get (sites_of sites.old.items) place) ≡ Some e) ⊎ ((e ≡ StepFault.Memory) × (verdict_fault verdict (slice_get (sites_of sites.old.items) place) ≡ None))) }
-    ensures same { OnErr result (sites_of sites.new.items ≡ sites_of sites.old.items) }
-    ensures unnoted { OnErr result (map entry_of history.new.items ≡ map entry_of history.old.items) }
-    ensures count { length sites.new.items ≡ length sites.old.items }
-{
-    judge_in(sites.as_mut_slice(), place, alloc, verdict, history)
-}
-
-/// The same over a slice.
-fn judge_in<B: Bank>(
     sites: &mut [Site<B>],
     place: usize,
     alloc: Global,
@@ -271,17 +190,8 @@ fn judge_in<B: Bank>(
 }
 
 /// The node at a place starts anew.
-pub(crate) fn restart_at<B: Bank>(sites: &mut Vec<Site<B>>, place: usize)
-    requires { place < length sites.old.items }
-    ensures sites { sites_of sites.new.items ≡ site_restarts (sites_of sites.old.items) (Some place) (slice_get (sites_of sites.old.items) place) }
-    ensures count { length sites.new.items ≡ length sites.old.items }
-{
-    restart_in(sites.as_mut_slice(), place);
-}
-
-/// The same over a slice.
 #[tactic(auto, using(crate::proofs::Places::restart_there))]
-fn restart_in<B: Bank>(sites: &mut [Site<B>], place: usize)
+pub(crate) fn restart_at<B: Bank>(sites: &mut [Site<B>], place: usize)
     requires { place < length sites.old }
     ensures sites { sites_of sites.new ≡ site_restarts (sites_of sites.old) (Some place) (slice_get (sites_of sites.old) place) }
     ensures count { length sites.new ≡ length sites.old }

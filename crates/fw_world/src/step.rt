@@ -9,7 +9,7 @@ pub type LogRequest = ArrayVec<u8, 64>;
 
 /// A step of the packet world. Nodes are named by their endpoint identifiers, a device's packets by that of the device, and
 /// packages and packets by their numbers from 1 on.
-#[derive(Debug, PartialEq, Eq, Drop)]
+#[derive(PartialEq, Eq, Drop)]
 pub enum Step {
     /// A packet that was sent between the agent and a device comes to a node: the device, the packet's number, the node.
     Deliver(u8, usize, u8),

@@ -17,7 +17,7 @@ const IDENTIFIERS_SIZE: usize = 6;
 const PARAMETERS_SIZE: usize = 11;
 
 /// What a device says of a component of the update, in answer to PassComponentTable.
-#[derive(Clone, Copy, Debug, PartialEq, Eq)]
+#[derive(Clone, Copy, PartialEq, Eq)]
 pub struct TableResponse {
     /// Whether the component can be updated, as `code::response`.
     pub response: u8,
@@ -26,7 +26,7 @@ pub struct TableResponse {
 }
 
 /// What a device says of the component that is to be updated, in answer to UpdateComponent.
-#[derive(Clone, Copy, Debug, PartialEq, Eq)]
+#[derive(Clone, Copy, PartialEq, Eq)]
 pub struct OfferResponse {
     /// Whether the component can be updated, as `code::response`.
     pub compatibility: u8,
@@ -39,7 +39,7 @@ pub struct OfferResponse {
 }
 
 /// How far a device is, in answer to GetStatus.
-#[derive(Clone, Copy, Debug, PartialEq, Eq)]
+#[derive(Clone, Copy, PartialEq, Eq)]
 pub struct Status {
     /// The device's state.
     pub state: u8,
@@ -59,7 +59,7 @@ pub struct Status {
 
 /// An answer (DSP0267 1.0), its texts and data lent. An answer with another code than `SUCCESS` ends at the code and is
 /// `Refused`, whatever the command; the others carry what follows the code.
-#[derive(Debug, Drop)]
+#[derive(Drop)]
 pub enum Answer<'a> {
     /// The command wasn't carried out.
     Refused {

@@ -18,7 +18,7 @@ const ENTRY_SIZE: usize = 12;
 const OFFER_SIZE: usize = 19;
 
 /// What RequestUpdate says.
-#[derive(Clone, Copy, Debug, PartialEq, Eq)]
+#[derive(Clone, Copy, PartialEq, Eq)]
 pub struct UpdateRequest<'a> {
     /// The most bytes that the agent gives in answer to one RequestFirmwareData.
     pub transfer_size: u32,
@@ -33,7 +33,7 @@ pub struct UpdateRequest<'a> {
 }
 
 /// What PassComponentTable says of one component.
-#[derive(Clone, Copy, Debug, PartialEq, Eq)]
+#[derive(Clone, Copy, PartialEq, Eq)]
 pub struct TableEntry<'a> {
     /// Where the entry stands in the table.
     pub flag: TransferFlag,
@@ -46,7 +46,7 @@ pub struct TableEntry<'a> {
 }
 
 /// What UpdateComponent says of the component that is to be updated.
-#[derive(Clone, Copy, Debug, PartialEq, Eq)]
+#[derive(Clone, Copy, PartialEq, Eq)]
 pub struct ComponentOffer<'a> {
     /// The component.
     pub key: Key,
@@ -62,7 +62,7 @@ pub struct ComponentOffer<'a> {
 }
 
 /// A command with its request data (DSP0267 1.0), its texts lent.
-#[derive(Clone, Copy, Debug, PartialEq, Eq)]
+#[derive(Clone, Copy, PartialEq, Eq)]
 pub enum Command<'a> {
     /// Which descriptors has the device?
     QueryDeviceIdentifiers,

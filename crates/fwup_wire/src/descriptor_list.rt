@@ -15,7 +15,7 @@ use std::marker::Model;
 pub const MAX_DESCRIPTOR_BYTES: usize = 246;
 
 /// The descriptors of a device, in the form in which they are sent.
-#[derive(Debug, Drop)]
+#[derive(Drop)]
 pub struct DescriptorList {
     count: u8,
     bytes: ArrayVec<u8, MAX_DESCRIPTOR_BYTES>,

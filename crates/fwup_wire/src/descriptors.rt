@@ -10,7 +10,7 @@ use crate::values::Descriptor;
 use std::marker::Model;
 
 /// Descriptors, lent from the message that they stand in. It is also an iterator over them.
-#[derive(Debug, Drop)]
+#[derive(Drop)]
 pub struct Descriptors<'a> {
     count: u8,
     bytes: &'a [u8],

@@ -4,14 +4,10 @@
 
 mod answer;
 mod answer_reading;
-#[cfg(test)]
-mod answer_tests;
 mod answer_writing;
 pub mod code;
 mod command;
 mod command_reading;
-#[cfg(test)]
-mod command_tests;
 mod command_writing;
 mod cursor;
 mod descriptor_list;

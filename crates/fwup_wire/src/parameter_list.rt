@@ -23,7 +23,7 @@ const UNSET_DATE: [u8; 8] = [0; 8];
 const METHODS: [u8; 6] = [2, 0, 0, 0, 0, 0];
 
 /// The parameters of a device's components, in the form in which they are sent.
-#[derive(Debug, Drop)]
+#[derive(Drop)]
 pub struct ParameterList {
     count: u16,
     bytes: ArrayVec<u8, MAX_PARAMETER_BYTES>,

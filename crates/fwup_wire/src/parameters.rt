@@ -10,7 +10,7 @@ use crate::values::ComponentParameters;
 use std::marker::Model;
 
 /// The parameters of a device's components, lent from the message that they stand in. It is also an iterator over them.
-#[derive(Debug, Drop)]
+#[derive(Drop)]
 pub struct Parameters<'a> {
     count: u16,
     bytes: &'a [u8],

@@ -4,7 +4,7 @@ ghost use Rattle.std.specs.Prelude.{◌≡◌};
 ghost use Rattle.fwup_wire.specs.Fields.{flag_byte, flag_of};
 
 /// Names a component: what kind of component it is, and which of that kind.
-#[derive(Clone, Copy, Debug, PartialEq, Eq)]
+#[derive(Clone, Copy, PartialEq, Eq)]
 pub struct Key {
     /// The component's classification.
     pub classification: u16,
@@ -13,7 +13,7 @@ pub struct Key {
 }
 
 /// A text with its type, which isn't checked.
-#[derive(Clone, Copy, Debug, PartialEq, Eq)]
+#[derive(Clone, Copy, PartialEq, Eq)]
 pub struct Text<'a> {
     /// How the text is encoded, as `code::text_type`.
     pub text_type: u8,
@@ -22,7 +22,7 @@ pub struct Text<'a> {
 }
 
 /// One of the descriptors by which a package names the devices that it is for.
-#[derive(Clone, Copy, Debug, PartialEq, Eq)]
+#[derive(Clone, Copy, PartialEq, Eq)]
 pub struct Descriptor<'a> {
     /// What the descriptor tells, as a PCI vendor ID.
     pub kind: u16,
@@ -31,7 +31,7 @@ pub struct Descriptor<'a> {
 }
 
 /// What an image calls itself.
-#[derive(Clone, Copy, Debug, PartialEq, Eq)]
+#[derive(Clone, Copy, PartialEq, Eq)]
 pub struct Version<'a> {
     /// The comparison stamp, by which a device tells older images from newer ones.
     pub stamp: u32,
@@ -40,7 +40,7 @@ pub struct Version<'a> {
 }
 
 /// What a device tells of one of its components: which it is, and which images of it there are.
-#[derive(Clone, Copy, Debug, PartialEq, Eq)]
+#[derive(Clone, Copy, PartialEq, Eq)]
 pub struct ComponentParameters<'a> {
     /// The component.
     pub key: Key,
@@ -53,7 +53,7 @@ pub struct ComponentParameters<'a> {
 }
 
 /// Where an entry stands in the component table.
-#[derive(Clone, Copy, Debug, PartialEq, Eq)]
+#[derive(Clone, Copy, PartialEq, Eq)]
 pub enum TransferFlag {
     /// The first of several.
     Start = 1,

@@ -12,7 +12,7 @@ use arrayvec::ArrayVec;
 use uuid::Uuid;
 
 /// Who answers.
-#[derive(Clone, Copy, Debug, PartialEq, Eq)]
+#[derive(Clone, Copy, PartialEq, Eq)]
 pub struct Endpoint {
     /// Its endpoint identifier, 8 to 254.
     pub eid: u8,
@@ -185,113 +185,4 @@ fn push_message_types(fields: &[u8], out: &mut ControlAnswer)
     out.push(SUCCESS);
     out.push(1);
     out.push(PLDM);
-}
-
-#[cfg(test)]
-mod tests {
-    use super::*;
-
-    /// Endpoint 9, whose UUID has the bytes 1 to 16.
-    fn endpoint() -> Endpoint {
-        Endpoint {
-            eid: 9,
-            uuid: Uuid::from_bytes([1, 2, 3, 4, 5, 6, 7, 8, 9, 10, 11, 12, 13, 14, 15, 16]),
-        }
-    }
-
-    #[test]
-    fn answers_each_command(rt: HostRuntime) {
-        let table: [(&str, &[u8], &[u8]); 20] = [
-            (
-                "set to its own",
-                &[0, 0x81, 1, 0, 9],
-                &[0, 1, 1, 0, 0x00, 9, 0],
-            ),
-            (
-                "set to another",
-                &[0, 0x81, 1, 0, 10],
-                &[0, 1, 1, 0, 0x10, 9, 0],
-            ),
-            (
-                "force another",
-                &[0, 0x80, 1, 1, 10],
-                &[0, 0, 1, 0, 0x10, 9, 0],
-            ),
-            (
-                "high bits of the operation",
-                &[0, 0x80, 1, 0xFD, 9],
-                &[0, 0, 1, 0, 0x00, 9, 0],
-            ),
-            ("operation 2", &[0, 0x80, 1, 2, 9], &[0, 0, 1, 2]),
-            ("operation 3", &[0, 0x80, 1, 3, 9], &[0, 0, 1, 2]),
-            ("set to 0", &[0, 0x80, 1, 0, 0], &[0, 0, 1, 2]),
-            ("set to 255", &[0, 0x80, 1, 0, 255], &[0, 0, 1, 2]),
-            ("set, too short", &[0, 0x80, 1, 0], &[0, 0, 1, 3]),
-            ("set, too long", &[0, 0x80, 1, 0, 9, 0], &[0, 0, 1, 3]),
-            (
-                "get the identifier",
-                &[0, 0x9F, 2],
-                &[0, 0x1F, 2, 0, 9, 1, 0],
-            ),
-            (
-                "get the identifier, too long",
-                &[0, 0x80, 2, 0],
-                &[0, 0, 2, 3],
-            ),
-            (
-                "get the UUID",
-                &[0, 0x80, 3],
-                &[
-                    0, 0, 3, 0, 1, 2, 3, 4, 5, 6, 7, 8, 9, 10, 11, 12, 13, 14, 15, 16,
-                ],
-            ),
-            ("get the UUID, too long", &[0, 0x80, 3, 0], &[0, 0, 3, 3]),
-            (
-                "version of the base",
-                &[0, 0xA0, 4, 0xFF],
-                &[0, 0, 4, 0, 1, 0xF1, 0xF3, 0xF1, 0],
-            ),
-            ("version of PLDM", &[0, 0x80, 4, 1], &[0, 0, 4, 0x80]),
-            ("version, too short", &[0, 0x80, 4], &[0, 0, 4, 3]),
-            ("version, too long", &[0, 0x80, 4, 0xFF, 0], &[0, 0, 4, 3]),
-            ("message types", &[0, 0x80, 5], &[0, 0, 5, 0, 1, 1]),
-            ("message types, too long", &[0, 0x80, 5, 0], &[0, 0, 5, 3]),
-        ];
-        for (situation, message, want) in table {
-            match answer(&endpoint(), message) {
-                Some(reply) => assert!(rt; reply.as_slice() == want, "{situation}"),
-                None => assert!(rt; false, "{situation}"),
-            }
-        }
-    }
-
-    #[test]
-    fn refuses_unknown_commands_whatever_their_length(rt: HostRuntime) {
-        for command in [0x00, 0x06, 0x0F, 0xFF] {
-            for message in [
-                [0, 0x80, command].as_slice(),
-                [0, 0x80, command, 1, 2].as_slice(),
-            ] {
-                match answer(&endpoint(), message) {
-                    Some(reply) => assert!(rt; reply.as_slice() == [0, 0, command, 5].as_slice()),
-                    None => assert!(rt; false, "{command}"),
-                }
-            }
-        }
-    }
-
-    #[test]
-    fn keeps_silent_where_no_answer_is_due(rt: HostRuntime) {
-        let table: [(&str, &[u8]); 6] = [
-            ("nothing", &[]),
-            ("two bytes", &[0, 0x80]),
-            ("an answer", &[0, 0x00, 2, 0, 9, 1, 0]),
-            ("a datagram", &[0, 0xC0, 2]),
-            ("Rq clear and D set", &[0, 0x40, 2]),
-            ("a PLDM message", &[1, 0x80, 2]),
-        ];
-        for (situation, message) in table {
-            assert!(rt; answer(&endpoint(), message).is_none(), "{situation}");
-        }
-    }
 }

@@ -7,7 +7,7 @@ ghost use Rattle.mctp_ctl.specs.Codes.{command_of};
 pub const CONTROL: u8 = 0x00;
 
 /// The control commands that an endpoint answers (DSP0236, Table 12).
-#[derive(Clone, Copy, Debug, PartialEq, Eq)]
+#[derive(Clone, Copy, PartialEq, Eq)]
 pub enum ControlCommand {
     /// Set Endpoint ID, 0x01: offers an endpoint identifier.
     SetEndpointId,

@@ -45,38 +45,3 @@ pub fn split(message: &Message) -> ArrayVec<RawPacket, 4>
     }
     out
 }
-
-#[cfg(test)]
-mod tests {
-    use super::*;
-    use std::test::Fail;
-
-    #[test]
-    fn packets_carry_a_message_in_order(rt: HostRuntime) -> Result<(), Fail> {
-        let bytes = [0xA5u8; 256];
-        let table: [(usize, &[u8], usize); 5] = [
-            (1, &[0xCB], 1),
-            (64, &[0xCB], 64),
-            (65, &[0x8B, 0x5B], 1),
-            (128, &[0x8B, 0x5B], 64),
-            (256, &[0x8B, 0x1B, 0x2B, 0x7B], 64),
-        ];
-        for (size, flags, last) in table {
-            assert!(rt; size <= 256);
-            let message = Message::new(9, 8, true, 3, &bytes[..size])?;
-            let packets = split(&message);
-            assert!(rt; packets.len() == flags.len(), "{size}");
-            for (packet, flag) in packets.as_slice().iter().zip(flags) {
-                assert!(rt;
-                    packet.as_slice().get(..4) == Some([1, 9, 8, *flag].as_slice()),
-                    "{size}"
-                );
-            }
-            assert!(rt;
-                packets.as_slice().last().map(|p| p.len()) == Some(4 + last),
-                "{size}"
-            );
-        }
-        Ok(())
-    }
-}

@@ -14,7 +14,7 @@ pub const TAGS: usize = 8;
 
 /// The assemblies of the messages that a node hears from one peer, one a tag: of that peer's requests (TO set), or of its
 /// replies (TO clear).
-#[derive(Debug, Drop)]
+#[derive(Drop)]
 pub struct Inbox {
     own: u8,
     peer: u8,

@@ -8,7 +8,7 @@ use thiserror::Error;
 pub const MAX_MESSAGE: usize = 256;
 
 /// A message between two endpoints.
-#[derive(Debug, Drop)]
+#[derive(Drop)]
 pub struct Message {
     pub(crate) dest: u8,
     pub(crate) source: u8,
@@ -126,39 +126,5 @@ impl Message {
             tag: self.tag,
             bytes,
         }
-    }
-}
-
-#[cfg(test)]
-mod tests {
-    use super::*;
-    use std::test::Fail;
-
-    #[test]
-    fn a_message_has_1_to_256_bytes(rt: HostRuntime) -> Result<(), Fail> {
-        let bytes = [0x5Au8; 257];
-        let Err(fault) = Message::new(9, 8, true, 3, &[]) else {
-            assert!(rt; false);
-            return Ok(());
-        };
-        assert!(rt; fault == MessageFault::Empty);
-        let Err(fault) = Message::new(9, 8, true, 3, &bytes) else {
-            assert!(rt; false);
-            return Ok(());
-        };
-        assert!(rt; fault == MessageFault::TooLong);
-        for size in [1, 256] {
-            let message = Message::new(9, 8, true, 3, &bytes[..size])?.again();
-            assert!(rt; message.bytes().len() == size);
-            assert!(rt;
-                (
-                    message.dest(),
-                    message.source(),
-                    message.to(),
-                    message.tag()
-                ) == (9, 8, true, 3)
-            );
-        }
-        Ok(())
     }
 }

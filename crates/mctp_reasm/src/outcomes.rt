@@ -24,7 +24,7 @@ pub enum DropCause {
 }
 
 /// What comes of a packet that an assembly hears.
-#[derive(Debug, Drop)]
+#[derive(Drop)]
 pub enum Fed {
     /// The packet was taken; its message goes on.
     Open,

@@ -1,4 +1,4 @@
-//! What reading and writing have to do with each other.
+//! Round-trip laws: what is written reads back.
 
 ghost use Rattle.mctp_wire.specs.Packet.{ReadsPackets, WritesPackets};
 

@@ -6,7 +6,7 @@ use arrayvec::ArrayVec;
 pub const BASELINE_UNIT: usize = 64;
 
 /// The head of a packet.
-#[derive(Clone, Copy, Debug, PartialEq, Eq)]
+#[derive(Clone, Copy, PartialEq, Eq)]
 pub struct Head {
     /// The endpoint that the packet goes to.
     pub dest: u8,
@@ -25,7 +25,7 @@ pub struct Head {
 }
 
 /// A packet that was read, whose body is lent by the bytes.
-#[derive(Clone, Copy, Debug)]
+#[derive(Clone, Copy)]
 pub struct Packet<'a> {
     /// The head.
     pub head: Head,

@@ -39,7 +39,7 @@ const HEADER_VERSION: u8 = 0;
 const TYPE_MASK: u8 = 0x3F;
 
 /// The head of a PLDM message (DSP0240, "PLDM message fields").
-#[derive(Clone, Copy, Debug, PartialEq, Eq)]
+#[derive(Clone, Copy, PartialEq, Eq)]
 pub struct PldmHead {
     /// Set in a request, clear in its answer.
     pub rq: bool,
@@ -113,106 +113,4 @@ pub fn encode(head: &PldmHead, body: &[u8]) -> RawMessage
     out.push(head.command);
     let _ = out.try_extend_from_slice(body);
     out
-}
-
-#[cfg(test)]
-mod tests {
-    use super::*;
-    use std::test::Fail;
-
-    const GET_TID: PldmHead = PldmHead {
-        rq: true,
-        instance: 9,
-        pldm_type: TYPE_BASE,
-        command: 2,
-    };
-
-    #[test]
-    fn reads_what_it_writes(rt: HostRuntime) -> Result<(), Fail> {
-        let last = PldmHead {
-            rq: false,
-            instance: 31,
-            pldm_type: 63,
-            command: 255,
-        };
-        let long = [0xA5; 252];
-        let mut longest = [0xA5; 256];
-        longest[..4].copy_from_slice(&[0x01, 0x1F, 0x3F, 0xFF]);
-        let table: [(&str, PldmHead, &[u8], &[u8]); 3] = [
-            (
-                "a request without a body",
-                GET_TID,
-                &[],
-                &[0x01, 0x89, 0x00, 0x02],
-            ),
-            (
-                "each field at its greatest",
-                last,
-                &[0x05],
-                &[0x01, 0x1F, 0x3F, 0xFF, 0x05],
-            ),
-            ("the longest message", last, &long, &longest),
-        ];
-        for (situation, head, body, bytes) in table {
-            assert!(rt; body.len() <= 252 && head.instance <= 31 && head.pldm_type <= 63);
-            let message = encode(&head, body);
-            assert!(rt; message.as_slice() == bytes, "{situation}");
-            let (read, rest) = decode(bytes)?;
-            assert!(rt; read == head, "{situation}");
-            assert!(rt; rest == body, "{situation}");
-        }
-        Ok(())
-    }
-
-    #[test]
-    fn looks_past_the_reserved_bit(rt: HostRuntime) -> Result<(), Fail> {
-        let (head, body) = decode(&[0x01, 0xA9, 0x00, 0x02])?;
-        assert!(rt; head == GET_TID);
-        assert!(rt; body.is_empty());
-        Ok(())
-    }
-
-    #[test]
-    fn names_the_first_fault(rt: HostRuntime) {
-        let table: [(&str, &[u8], PldmFault); 8] = [
-            ("no bytes", &[], PldmFault::Short),
-            (
-                "three bytes, all wrong",
-                &[0x00, 0xC0, 0x40],
-                PldmFault::Short,
-            ),
-            (
-                "another message type",
-                &[0x00, 0x80, 0x00, 0x02],
-                PldmFault::NotPldm,
-            ),
-            (
-                "the integrity check bit",
-                &[0x81, 0x80, 0x00, 0x02],
-                PldmFault::NotPldm,
-            ),
-            (
-                "all wrong but the length",
-                &[0x02, 0xC0, 0x40, 0x02],
-                PldmFault::NotPldm,
-            ),
-            ("a datagram", &[0x01, 0xC0, 0x00, 0x02], PldmFault::Datagram),
-            (
-                "a datagram of version 1",
-                &[0x01, 0x40, 0x40, 0x02],
-                PldmFault::Datagram,
-            ),
-            (
-                "version 1",
-                &[0x01, 0x80, 0x45, 0x02],
-                PldmFault::HeaderVersion,
-            ),
-        ];
-        for (situation, bytes, fault) in table {
-            match decode(bytes) {
-                Ok(_) => assert!(rt; false, "{situation}"),
-                Err(e) => assert!(rt; e == fault, "{situation}"),
-            }
-        }
-    }
 }

@@ -1,4 +1,4 @@
-//! What reading and writing have to do with each other.
+//! Round-trip laws: what is written reads back.
 
 ghost use Rattle.std.specs.Prelude.{◌≡◌, ◌∷◌, []};
 ghost use Rattle.pldm_base.specs.Header.{ReadsMessages, WritesMessages};

@@ -11,7 +11,7 @@ const UNASSIGNED: u8 = 0x00;
 const RESERVED: u8 = 0xFF;
 
 /// Which end of a firmware update a terminus is.
-#[derive(Clone, Copy, Debug, PartialEq, Eq)]
+#[derive(Clone, Copy, PartialEq, Eq)]
 pub enum Role {
     /// The firmware device, which is updated.
     Device,
@@ -20,7 +20,7 @@ pub enum Role {
 }
 
 /// A terminus identifier: 0 until it is set, then 1 to 254.
-#[derive(Clone, Copy, Debug, PartialEq, Eq)]
+#[derive(Clone, Copy, PartialEq, Eq)]
 pub struct Tid {
     value: u8,
 }

@@ -8,7 +8,7 @@ use mctp_reasm::{Message, TAGS};
 use std::marker::Model;
 
 /// An answer, the identifier of its request, and the ticks since it was kept.
-#[derive(Debug, Drop)]
+#[derive(Drop)]
 struct Answer {
     identifier: u8,
     reply: Message,
@@ -24,7 +24,7 @@ impl Model for Answer {
 }
 
 /// What a request asks for.
-#[derive(Debug, Drop)]
+#[derive(Drop)]
 pub enum Asked {
     /// It is new: it is to be taken, and its answer to be kept.
     New,
@@ -33,7 +33,7 @@ pub enum Asked {
 }
 
 /// The kept answers of one direction: at most one a tag, each for 24 ticks.
-#[derive(Debug, Drop)]
+#[derive(Drop)]
 pub struct Answerer {
     places: [Option<Answer>; TAGS],
 }

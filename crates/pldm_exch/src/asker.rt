@@ -12,7 +12,7 @@ use std::marker::Model;
 
 /// What a node has to ask one peer: its requests, and the assemblies of that peer's replies. A node that is deaf gives it
 /// neither packets nor ticks.
-#[derive(Debug, Drop)]
+#[derive(Drop)]
 pub struct Asker {
     caller: Caller,
     inbox: Inbox,

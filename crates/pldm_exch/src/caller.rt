@@ -21,7 +21,7 @@ fn tag_of(identifier: u8) -> u8
 }
 
 /// A request that waits for its answer, and the ticks since it began.
-#[derive(Debug, Drop)]
+#[derive(Drop)]
 struct OpenRequest {
     head: PldmHead,
     message: Message,
@@ -68,7 +68,7 @@ impl OpenRequest {
 }
 
 /// What an answer brings.
-#[derive(Debug, Drop)]
+#[derive(Drop)]
 pub struct ReplyIn {
     /// The command that it answers.
     pub command: u8,
@@ -77,7 +77,7 @@ pub struct ReplyIn {
 }
 
 /// What a tick asks of the node.
-#[derive(Debug, Drop)]
+#[derive(Drop)]
 pub enum CallTick {
     /// Nothing is to be sent.
     Nothing,
@@ -88,7 +88,7 @@ pub enum CallTick {
 }
 
 /// The requests of one direction: at most one is open.
-#[derive(Debug, Drop)]
+#[derive(Drop)]
 pub struct Caller {
     own: u8,
     peer: u8,

@@ -9,8 +9,6 @@ mod laws;
 mod request;
 mod rests;
 mod taker;
-#[cfg(test)]
-mod tests;
 mod times;
 
 pub use answerer::{Answerer, Asked};

@@ -1,4 +1,4 @@
-//! What comes to the node that answers.
+//! Requests, as the answering node receives them.
 
 ghost use Rattle.std.specs.Prelude.{◌≡◌};
 
@@ -7,7 +7,7 @@ use pldm_base::PldmHead;
 use std::marker::Model;
 
 /// A PLDM request as it came, which is to be answered.
-#[derive(Debug, Drop)]
+#[derive(Drop)]
 pub struct Request {
     pub(crate) message: Message,
     pub(crate) head: PldmHead,
@@ -44,7 +44,7 @@ impl Request {
 }
 
 /// What a packet brings to the node that answers.
-#[derive(Debug, Drop)]
+#[derive(Drop)]
 pub enum Brought {
     /// Nothing is to be done.
     Nothing,

@@ -8,7 +8,7 @@ use mctp_reasm::TAGS;
 use std::marker::Model;
 
 /// The ticks until each of the eight tags may be used again: 0 to 40.
-#[derive(Debug, Drop)]
+#[derive(Drop)]
 pub struct Rests {
     row: [u8; TAGS],
 }

@@ -14,7 +14,7 @@ use std::marker::Model;
 
 /// What a node has to answer one peer: the answers that it keeps, and the assemblies of that peer's requests. A node that
 /// is deaf gives it neither packets nor ticks.
-#[derive(Debug, Drop)]
+#[derive(Drop)]
 pub struct Taker {
     answerer: Answerer,
     inbox: Inbox,

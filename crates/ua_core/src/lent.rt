@@ -18,7 +18,7 @@ use fwup_wire::{Descriptors, Key, Text, Version};
 use std::marker::Model;
 
 /// The package that a session is lent, if there is one.
-#[derive(Debug, Drop)]
+#[derive(Drop)]
 pub struct Lent<'a> {
     package: Option<&'a Package<'a>>,
 }

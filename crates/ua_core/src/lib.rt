@@ -13,8 +13,6 @@ mod plans;
 mod position;
 mod session;
 mod state;
-#[cfg(test)]
-mod tests;
 
 pub use fault::{NotReady, StartFault};
 pub use happening::{Happening, happened};

@@ -3,7 +3,7 @@
 use crate::state::SessionState;
 
 /// What is seen of a session at a moment.
-#[derive(Clone, Copy, Debug, PartialEq, Eq)]
+#[derive(Clone, Copy, PartialEq, Eq)]
 pub struct Mark {
     /// Where it stands.
     pub state: SessionState,

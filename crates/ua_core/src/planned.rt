@@ -6,7 +6,7 @@ use arrayvec::ArrayVec;
 use fw_package::PLAN_LIMIT;
 
 /// A component of the plan.
-#[derive(Clone, Copy, Debug, Default, PartialEq, Eq)]
+#[derive(Clone, Copy, Default, PartialEq, Eq)]
 pub struct Planned {
     /// The component's number in the package, from 0 on.
     pub component: usize,
@@ -19,7 +19,7 @@ pub struct Planned {
 pub type PlannedList = ArrayVec<Planned, PLAN_LIMIT>;
 
 /// What is fixed once the device is known.
-#[derive(Debug, Drop)]
+#[derive(Drop)]
 pub struct Job {
     /// The number of the package's record for the device.
     pub chosen: usize,
@@ -28,7 +28,7 @@ pub struct Job {
 }
 
 /// A component that a device applied.
-#[derive(Clone, Copy, Debug, PartialEq, Eq)]
+#[derive(Clone, Copy, PartialEq, Eq)]
 pub struct Recorded {
     /// The number of the package, as `Session::start` was given it.
     pub package: usize,

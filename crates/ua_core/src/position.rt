@@ -8,7 +8,7 @@ use crate::state::SessionState;
 pub const IDLE_LIMIT: u8 = 240;
 
 /// A state, and for how many ticks nothing moved in it.
-#[derive(Clone, Copy, Debug)]
+#[derive(Clone, Copy)]
 pub struct Position {
     /// The state.
     pub state: SessionState,

@@ -1,4 +1,4 @@
-//! What stands against a component, and what is applied.
+//! Compares an offered component with what runs, and tells what has been applied.
 
 ghost use Rattle.std.specs.Prelude.{◌≡◌, ◌<◌, is_some, true};
 ghost use Rattle.fd_core.specs.Commands.{flag_at, has_applied, in_table, lacks, offer_restriction, restriction, stamp_rule};
@@ -58,7 +58,7 @@ fn stamp_restriction(stamp: u32, active: u32) -> u8
     }
 }
 
-/// What stands against a component that is passed with this stamp.
+/// Why a component that is passed with this stamp is refused, if it is.
 pub(super) fn entry_restriction<B: Bank>(bank: &B, key: Key, stamp: u32) -> u8
     ensures { result ≡ restriction (B.rows bank.now) key stamp }
 {
@@ -68,7 +68,7 @@ pub(super) fn entry_restriction<B: Bank>(bank: &B, key: Key, stamp: u32) -> u8
     }
 }
 
-/// What stands against a component of this table that is offered.
+/// Why an offered component of this table is refused, if it is.
 pub(super) fn offer_code<B: Bank>(bank: &B, table: &[Listed], offer: &ComponentOffer<'_>) -> u8
     ensures code { result ≡ offer_restriction (B.rows bank.now) table.now (offer_of offer.now) }
     ensures known { result ≡ 0 → is_some (row_of (B.rows bank.now) offer.now.key) ≡ true }

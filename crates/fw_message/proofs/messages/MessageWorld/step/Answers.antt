@@ -1,8 +1,9 @@
-use Rattle.std.proofs.Common.{rules, ◌≡◌, ◌<◌, set, None, Some, false, length, map, refl, sym, true}
+use Rattle.std.proofs.Common.{rules, ◌≡◌, ◌<◌, ◌∙◌, set, None, Some, ap, false, length, map, refl, sym, true}
 use Rattle.std.specs.Prelude.{slice_get}
+use Rattle.std.proofs.lemmas.List.{length-map, with_items_is}
 use Rattle.std.proofs.lemmas.Option.{slice_get_read}
 use Rattle.fw_message.specs.Entries.{entry_of}
-use Rattle.fw_message.specs.Replays.{place_at}
+use Rattle.fw_message.specs.Replays.{counted_restarted, place_at}
 use Rattle.fw_message.specs.Worlds.{WorldOf, device_of, restarts_agent}
 use Rattle.fw_message.proofs.Apart.{absent_put, absent_restarted}
 use Rattle.fw_message.proofs.Places.{not_at}
@@ -13,7 +14,9 @@ pub returns-then-restarts-clause-step : goal.returns-then-restarts-clause-step
 returns-then-restarts-clause-step g c =
     let is : restarts_agent c.self.inside.agent c.args.step ≡ true = search rules in
     let w : WorldOf = record { agent = c.self.inside.agent; packages = c.self.inside.packages.now; nodes = map (λ p. p.node) c.self.inside.pairs.items; history = map entry_of c.self.inside.history.items } in
-    rw (sym c.self.view_is, c.restart_each.ensures) (agent_restarts w c.self.inside.pairs.items c.args.step true refl is)
+    let restarted = with_items_is c.self.inside.pairs c.restart_each.new.pairs (ap length c.restart_each.ensures ∙ length-map c.as_mut_slice.result.now (counted_restarted c.self.inside.packages.now) ∙ c.as_mut_slice.ensures.len)
+    ∙ (rw c.as_mut_slice.ensures.value at c.restart_each.ensures) in
+    rw (sym c.self.view_is, restarted) (agent_restarts w c.self.inside.pairs.items c.args.step true refl is)
 
 pub returns-in_default-clause-refused : goal.returns-in_default-clause-refused
 returns-in_default-clause-refused g c =
@@ -53,7 +56,9 @@ returns-clause-failed g c =
 
 pub returns-then-restarts-clause-worked : goal.returns-then-restarts-clause-worked
 returns-then-restarts-clause-worked g c =
-    λ e. rw (sym c.self.view_is, c.restart_each.ensures) (faults_restarted c.self.inside.packages.now c.self.inside.pairs.items)
+    let restarted = with_items_is c.self.inside.pairs c.restart_each.new.pairs (ap length c.restart_each.ensures ∙ length-map c.as_mut_slice.result.now (counted_restarted c.self.inside.packages.now) ∙ c.as_mut_slice.ensures.len)
+    ∙ (rw c.as_mut_slice.ensures.value at c.restart_each.ensures) in
+    λ e. rw (sym c.self.view_is, restarted) (faults_restarted c.self.inside.packages.now c.self.inside.pairs.items)
 
 pub returns-clause-worked : goal.returns-clause-worked
 returns-clause-worked g c =
@@ -65,7 +70,9 @@ returns-clause-worked g c =
 -- no device has the agent's identifier
 pub invariant_of-self : goal.invariant_of-self
 invariant_of-self g c =
-    rw c.restart_each.ensures (absent_restarted c.self.inside.packages.now c.self.inside.pairs.items c.self.inside.agent c.self.invariant)
+    let restarted = with_items_is c.self.inside.pairs c.restart_each.new.pairs (ap length c.restart_each.ensures ∙ length-map c.as_mut_slice.result.now (counted_restarted c.self.inside.packages.now) ∙ c.as_mut_slice.ensures.len)
+    ∙ (rw c.as_mut_slice.ensures.value at c.restart_each.ensures) in
+    rw restarted (absent_restarted c.self.inside.packages.now c.self.inside.pairs.items c.self.inside.agent c.self.invariant)
 
 pub invariant_of-self-2 : goal.invariant_of-self-2
 invariant_of-self-2 g c =

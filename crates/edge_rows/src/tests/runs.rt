@@ -1,0 +1,223 @@
+//! Runs over links.
+
+use crate::tests::links::{BadLink, Trouble};
+use crate::tests::packages::{file, package};
+use crate::tests::setup::{
+    DEVICE, Small, driven, is_updated, runs_first, stands, start, tells, world,
+};
+use fd_core::State;
+use fw_edge::{Driven, EdgeFault, Link, MemLink};
+use fw_package::Package;
+use fw_world::{Step, replay};
+use std::alloc::{AllocError, Global};
+use std::test::Fail;
+use ua_core::{Cause, SessionState};
+
+/// The worked world with its update started, asked for twice where memory is refused.
+pub fn started<'a>(alloc: Global, packages: &'a [Package<'a>]) -> Result<Small<'a>, AllocError> {
+    let mut world = world(alloc, packages, 1, 0)?;
+    if !start(&mut world, DEVICE) {
+        let _ = start(&mut world, DEVICE);
+    }
+    Ok(world)
+}
+
+/// A link's trouble, and after how many turns, with how many foreign frames and packets, the worked world is then updated.
+type Row = (&'static str, Trouble, u32, u64, usize);
+
+/// Where the answer to UpdateComponent, packet 12, is lost, the device asks for data at 7 to 12, in vain, since the agent waits
+/// for that answer, which comes again at 12. Its data requests are then at 13 and 14, its completions wait for the tags of those
+/// at 7, 8 and 9: until 47 to 49.
+const ROWS: [Row; 4] = [
+    ("nothing is lost", Trouble::Loses(0), 12, 0, 27),
+    ("the first answer is lost", Trouble::Loses(2), 18, 0, 29),
+    (
+        "UpdateComponent's answer is lost",
+        Trouble::Loses(12),
+        50,
+        0,
+        41,
+    ),
+    (
+        "a forged frame comes first",
+        Trouble::ForgesFirst,
+        12,
+        1,
+        27,
+    ),
+];
+
+/// Whether the worked world, driven over such a link, ends updated as the row says.
+fn updates(alloc: Global, row: Row) -> Result<bool, Fail> {
+    let (_, trouble, turns, foreign, sent) = row;
+    let bytes = file(alloc)?;
+    let packages = [package(&bytes)?];
+    let mut world = started(alloc, &packages)?;
+    let mut links = [BadLink::new(alloc, trouble)];
+    let mut steps = Vec::new(alloc);
+    let driven = driven(&mut world, &mut links, 100, &mut steps);
+    Ok(
+        driven == Ok(Driven { turns, foreign })
+            && world.now() == turns
+            && tells(&world, b"ARV")
+            && is_updated(&world, DEVICE)
+            && stands(&world, DEVICE, SessionState::Done, State::Activate, sent),
+    )
+}
+
+#[test]
+fn an_update_takes_so_many_turns_over_each_link(rt: HostRuntime) -> Result<(), Fail> {
+    for row in ROWS {
+        assert!(rt; updates(rt.alloc(), row)?, "{}", row.0);
+    }
+    Ok(())
+}
+
+/// Whether a link that gives forged frames whenever it is asked lets three ticks pass and nothing else.
+fn passes_ticks(alloc: Global) -> Result<bool, Fail> {
+    let bytes = file(alloc)?;
+    let packages = [package(&bytes)?];
+    let mut world = started(alloc, &packages)?;
+    let mut steps = Vec::new(alloc);
+    let mut links = [BadLink::new(alloc, Trouble::ForgesAlways)];
+    let driven = driven(&mut world, &mut links, 3, &mut steps);
+    let (turns, foreign) = (3, 3_072);
+    let ticks = [Step::Tick, Step::Tick, Step::Tick];
+    Ok(driven == Ok(Driven { turns, foreign }) && steps.as_slice() == ticks.as_slice())
+}
+
+#[test]
+fn a_link_that_gives_forged_frames_without_end_stops_no_turn(rt: HostRuntime) -> Result<(), Fail> {
+    assert!(rt; passes_ticks(rt.alloc())?);
+    Ok(())
+}
+
+/// Whether a fresh world that takes these steps is this world, as far as it shows.
+fn is_replay<'a>(
+    alloc: Global,
+    packages: &'a [Package<'a>],
+    world: &Small<'_>,
+    steps: &[Step],
+) -> Result<bool, AllocError> {
+    let mut other = started(alloc, packages)?;
+    let taken = replay(&mut other, steps).is_ok();
+    let same = other.packets(DEVICE) == world.packets(DEVICE);
+    let (Some(device), Some(there)) = (other.device(DEVICE), world.device(DEVICE)) else {
+        return Ok(false);
+    };
+    Ok(
+        taken
+            && same
+            && device.device().state() == there.device().state()
+            && other.now() == world.now()
+            && other.history().len() == world.history().len(),
+    )
+}
+
+/// Drives the worked world over a link that fails in its `k`-th call: whether it didn't; None where the outcome isn't right.
+fn fails_at(alloc: Global, k: u64) -> Result<Option<bool>, Fail> {
+    let bytes = file(alloc)?;
+    let packages = [package(&bytes)?];
+    let mut world = started(alloc, &packages)?;
+    let mut steps = Vec::new(alloc);
+    let mut links = [BadLink::new(alloc, Trouble::Fails(k))];
+    let driven = driven(&mut world, &mut links, 100, &mut steps);
+    if !is_replay(alloc, &packages, &world, &steps)? {
+        return Ok(None);
+    }
+    let [link] = &links;
+    match (driven, link.failures()) {
+        (Ok(_), 0) => Ok(Some(true)),
+        (Err(EdgeFault::Frame), 1) => Ok(Some(false)),
+        _ => Ok(None),
+    }
+}
+
+/// The number of the first call whose failure the run doesn't meet; None where one's outcome isn't right.
+fn calls(alloc: Global) -> Result<Option<u64>, Fail> {
+    for k in 1..1_000 {
+        match fails_at(alloc, k)? {
+            Some(true) => return Ok(Some(k)),
+            Some(false) => {}
+            None => return Ok(None),
+        }
+    }
+    Ok(None)
+}
+
+#[test]
+fn a_link_that_fails_ends_the_run_at_a_replay_of_its_steps(rt: HostRuntime) -> Result<(), Fail> {
+    assert!(rt; calls(rt.alloc())?.is_some());
+    Ok(())
+}
+
+/// Whether the worked world is driven over a link in memory until its update is done, or has failed since its device's bank had no
+/// memory; a run that ends early hands back the steps that it took. They are replayed twice where memory is refused to the first replay.
+fn drives<'a>(alloc: Global, packages: &'a [Package<'a>]) -> Result<bool, AllocError> {
+    let mut world = started(alloc, packages)?;
+    let mut steps = Vec::new(alloc);
+    let mut links = [MemLink::new(alloc)];
+    let driven = driven(&mut world, &mut links, 100, &mut steps);
+    let failed = SessionState::Failed(Cause::Answer);
+    if stands(&world, DEVICE, failed, State::Ready, 12) {
+        return Ok(true);
+    }
+    let ends = match driven {
+        Ok(driven) => driven.turns == 12,
+        Err(fault) => fault != EdgeFault::Step,
+    };
+    let same = is_replay(alloc, packages, &world, &steps)?;
+    Ok(ends && (same || is_replay(alloc, packages, &world, &steps)?))
+}
+
+/// Holds whichever single allocation is refused.
+#[test]
+fn refused_memory_hands_back_the_steps_taken(rt: HostRuntime) -> Result<(), Fail> {
+    let bytes = match file(rt.alloc()) {
+        Ok(bytes) => bytes,
+        Err(_) => file(rt.alloc())?,
+    };
+    let packages = [package(&bytes)?];
+    let held = match drives(rt.alloc(), &packages) {
+        Ok(held) => held,
+        Err(_) => drives(rt.alloc(), &packages)?,
+    };
+    assert!(rt; held);
+    Ok(())
+}
+
+/// Whether a device runs the image, after an update over perfect links.
+fn is_done(world: &Small<'_>, device: u8) -> bool {
+    stands(world, device, SessionState::Done, State::Idle, 27) && is_updated(world, device)
+}
+
+/// Whether devices 9 and 11 are driven to their update in 19 turns, and 10, whose link loses every packet, is given up as it was.
+fn one_fails_alone(alloc: Global) -> Result<bool, Fail> {
+    let bytes = file(alloc)?;
+    let packages = [package(&bytes)?];
+    let mut world = world(alloc, &packages, 3, 0)?;
+    let started = start(&mut world, 9) && start(&mut world, 10) && start(&mut world, 11);
+    let mut steps = Vec::new(alloc);
+    let mut links = [
+        BadLink::new(alloc, Trouble::Loses(0)),
+        BadLink::new(alloc, Trouble::LosesAll),
+        BadLink::new(alloc, Trouble::Loses(0)),
+    ];
+    let driven = driven(&mut world, &mut links, 100, &mut steps);
+    let (turns, foreign) = (19, 0);
+    let silent = SessionState::Failed(Cause::Silent);
+    Ok(
+        started
+            && driven == Ok(Driven { turns, foreign })
+            && is_done(&world, 9)
+            && is_done(&world, 11)
+            && stands(&world, 10, silent, State::Idle, 3)
+            && runs_first(&world, 10),
+    )
+}
+
+#[test]
+fn one_silent_device_of_three_fails_alone(rt: HostRuntime) -> Result<(), Fail> {
+    assert!(rt; one_fails_alone(rt.alloc())?);
+    Ok(())
+}

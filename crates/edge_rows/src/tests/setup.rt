@@ -1,0 +1,201 @@
+//! The worked devices with their agent, as worlds, and what is seen of them.
+
+ghost use Rattle.std.specs.Prelude.{◌≡◌, IfOk};
+ghost use Rattle.std.specs.List.{AllByRecursion};
+ghost use Rattle.exch_lane.specs.Lanes.{IsEid};
+ghost use Rattle.fd_core.specs.Components.{HasComponents};
+ghost use Rattle.fd_core.specs.States.{Phase};
+ghost use Rattle.fw_message.specs.Laws.{IsUnapplied};
+ghost use Rattle.fw_world.specs.Replays.{AreNewNodes, IsNewNode};
+
+use crate::tests::packages::is_image;
+use arrayvec::ArrayVec;
+use fd_core::{Bank, Component, Device, FailBank, Key, Label, MemBank, State};
+use fw_edge::{Driven, EdgeFault, Link, drive};
+use fw_node::DeviceNode;
+use fw_package::Package;
+use fw_world::{Event, Step, StepFault, World};
+use fwup_wire::{Descriptor, DescriptorList, Text, Version};
+use mctp_ctl::Endpoint;
+use std::alloc::{AllocError, Global};
+use ua_core::SessionState;
+use uuid::Uuid;
+
+/// The worked device.
+pub const DEVICE: u8 = 9;
+
+/// The devices' component.
+pub const KEY: Key = Key {
+    classification: 10,
+    identifier: 1,
+};
+
+/// A world of the tests.
+pub type Small<'a> = World<'a, FailBank>;
+
+/// An endpoint without a UUID.
+fn endpoint(eid: u8) -> Endpoint
+    ensures { result.eid ≡ eid }
+{
+    Endpoint {
+        eid,
+        uuid: Uuid::nil(),
+    }
+}
+
+/// The worked device's descriptors: type 0, data 34 12.
+fn descriptors() -> DescriptorList {
+    let mut descriptors = DescriptorList::new();
+    descriptors.push(&Descriptor {
+        kind: 0,
+        bytes: &[0x34, 0x12],
+    });
+    descriptors
+}
+
+/// Stamp 1, `1.0`.
+fn label() -> Label {
+    Label::new(&Version {
+        stamp: 1,
+        text: Text {
+            text_type: 1,
+            bytes: b"1.0",
+        },
+    })
+}
+
+/// The worked device: component (10, 1), stamp 1, `1.0`, image AA, over a bank of which the `call`-th call that can fail does so;
+/// at 0 none does.
+fn device(alloc: Global, call: u64) -> Result<Device<FailBank>, AllocError>
+    ensures components { IfOk result (λ d. HasComponents d.device) }
+    ensures idle { IfOk result (λ d. d.device.phase ≡ Phase.Idle) }
+    ensures unapplied { IfOk result (λ d. AllByRecursion IsUnapplied d.device.rows) }
+{
+    let mut bank = MemBank::new(alloc);
+    let Ok(()) = bank.add(KEY, &label(), &[0xAA]) else {
+        return Err(AllocError);
+    };
+    let mut components = ArrayVec::new();
+    components.push(Component { key: KEY, index: 0 });
+    let bank = FailBank::new(bank, call);
+    Ok(Device::new(descriptors(), components, bank))
+}
+
+/// The node of such a device.
+#[tactic(auto, using(crate::proofs::Opening::new_node))]
+fn node(alloc: Global, eid: u8, call: u64) -> Result<DeviceNode<FailBank>, AllocError>
+    requires { IsEid eid }
+    ensures new { IfOk result (IsNewNode 8) }
+    ensures eid { IfOk result (λ n. n.endpoint.eid ≡ eid) }
+{
+    let device = device(alloc, call)?;
+    Ok(DeviceNode::new(endpoint(eid), 8, device))
+}
+
+/// The nodes of one such device or of three: 9 to 11.
+fn nodes(alloc: Global, devices: usize, call: u64) -> Result<Vec<DeviceNode<FailBank>>, AllocError>
+    ensures { IfOk result (λ ns. AreNewNodes 8 ns.items) }
+{
+    let mut nodes = Vec::new(alloc);
+    nodes.push(node(alloc, DEVICE, call)?)?;
+    if devices == 1 {
+        return Ok(nodes);
+    }
+    nodes.push(node(alloc, 10, call)?)?;
+    nodes.push(node(alloc, 11, call)?)?;
+    Ok(nodes)
+}
+
+/// The world of the agent 8 and one device or three; a call of each one's bank fails, or at 0 none.
+pub fn world<'a>(
+    alloc: Global,
+    packages: &'a [Package<'a>],
+    devices: usize,
+    call: u64,
+) -> Result<Small<'a>, AllocError> {
+    World::new(alloc, endpoint(8), nodes(alloc, devices, call)?, packages)
+}
+
+/// `World::step`: the proofs of the tests need nothing of its contract.
+pub fn step(world: &mut Small<'_>, step: &Step) -> Result<(), StepFault> {
+    world.step(step)
+}
+
+/// Starts the update of a device. Whether that was taken.
+pub fn start(world: &mut Small<'_>, device: u8) -> bool {
+    step(world, &Step::Start(device, 1)).is_ok()
+}
+
+/// `drive`, over as many links as there are devices: the proofs of the tests need nothing of its contract.
+pub fn driven<L: Link>(
+    world: &mut Small<'_>,
+    links: &mut [L],
+    turns: u32,
+    steps: &mut Vec<Step>,
+) -> Result<Driven, EdgeFault> {
+    if links.len() != world.device_count() {
+        return Err(EdgeFault::Step);
+    }
+    drive(world, links, turns, steps)
+}
+
+/// Whether a device and its session stand so, and so many packets were sent between it and the agent.
+pub fn stands(
+    world: &Small<'_>,
+    device: u8,
+    session: SessionState,
+    state: State,
+    sent: usize,
+) -> bool {
+    match (
+        world.agent().session(device),
+        world.device(device),
+        world.packets(device),
+    ) {
+        (Some(s), Some(d), Some(packets)) => {
+            s.state() == session && d.device().state() == state && packets.len() == sent
+        }
+        _ => false,
+    }
+}
+
+/// The image that a device runs.
+fn image_of<'w>(world: &'w Small<'_>, device: u8) -> &'w [u8] {
+    let Some(node) = world.device(device) else {
+        return &[];
+    };
+    match node.device().bank().active(KEY) {
+        Some((_, image)) => image,
+        None => &[],
+    }
+}
+
+/// Whether a device runs the image AA, with which it came.
+pub fn runs_first(world: &Small<'_>, device: u8) -> bool {
+    image_of(world, device) == [0xAA].as_slice()
+}
+
+/// Whether a device runs the worked image.
+pub fn is_updated(world: &Small<'_>, device: u8) -> bool {
+    is_image(image_of(world, device))
+}
+
+/// Whether this happened, a letter each: A image applied, R recorded, V activated.
+pub fn tells(world: &Small<'_>, story: &[u8]) -> bool {
+    let history = world.history();
+    for (entry, letter) in history.iter().zip(story) {
+        if letter_of(&entry.event) != *letter {
+            return false;
+        }
+    }
+    history.len() == story.len()
+}
+
+/// The letter of what happened.
+fn letter_of(event: &Event) -> u8 {
+    match event {
+        Event::Applied(_) => b'A',
+        Event::Recorded(_) => b'R',
+        Event::Activated(_) => b'V',
+    }
+}

@@ -1,0 +1,78 @@
+//! A run between whose turns the operator acts, over a link that brings a packet late.
+
+use crate::tests::links::{BadLink, Trouble};
+use crate::tests::packages::{file, package};
+use crate::tests::runs::started;
+use crate::tests::setup::{DEVICE, Small, driven, runs_first, stands, start, step, tells};
+use fd_core::State;
+use fw_edge::Driven;
+use fw_world::Step;
+use std::alloc::Global;
+use std::test::Fail;
+use ua_core::SessionState;
+
+/// Drives the worked device's world over its link for so many turns. Whether it took them all.
+fn goes(alloc: Global, world: &mut Small<'_>, links: &mut [BadLink], turns: u32) -> bool {
+    let mut steps = Vec::new(alloc);
+    driven(world, links, turns, &mut steps) == Ok(Driven { turns, foreign: 0 })
+}
+
+/// When the packet of this number was sent, and, where it is an answer, to which command and with which code.
+fn answered(world: &Small<'_>, number: usize) -> Option<(u32, u8, u8)> {
+    let packet = world.packets(DEVICE)?.get(number.checked_sub(1)?)?;
+    match packet.bytes.as_slice() {
+        [_, _, _, _, _, _, _, command, code, ..] => Some((packet.date, *command, *code)),
+        _ => None,
+    }
+}
+
+/// The answers from the cancelled update's last one on, by number: when they were sent, to which command, with which code. The
+/// stale completion isn't expected; GetFirmwareParameters waits for tag 0, RequestUpdate until the device's last tag has rested, and
+/// at 47 to 51 for its own.
+const ANSWERS: [(usize, u32, u8, u8); 7] = [
+    (29, 13, 0x18, 0x88),
+    (31, 41, 0x02, 0),
+    (35, 43, 0x10, 4),
+    (37, 44, 0x10, 4),
+    (39, 45, 0x10, 4),
+    (41, 46, 0x10, 4),
+    (43, 52, 0x10, 0),
+];
+
+/// The operator cancels while ApplyComplete is under way, sent at 11. Whether the session has ended at 12.
+fn is_cancelled(alloc: Global, world: &mut Small<'_>, links: &mut [BadLink]) -> bool {
+    goes(alloc, world, links, 11)
+        && stands(world, DEVICE, SessionState::Apply, State::Apply, 24)
+        && step(world, &Step::Cancel(DEVICE)).is_ok()
+        && goes(alloc, world, links, 1)
+        && stands(world, DEVICE, SessionState::Idle, State::Idle, 26)
+}
+
+/// ApplyComplete, packet 24, comes at 13, behind packet 27, when the operator has started anew. Whether the answers are those.
+fn cancels(alloc: Global) -> Result<bool, Fail> {
+    let bytes = file(alloc)?;
+    let packages = [package(&bytes)?];
+    let mut world = started(alloc, &packages)?;
+    let mut links = [BadLink::new(alloc, Trouble::Delays(24, 27))];
+    let again = is_cancelled(alloc, &mut world, &mut links)
+        && start(&mut world, DEVICE)
+        && goes(alloc, &mut world, &mut links, 40)
+        && stands(&world, DEVICE, SessionState::Pass, State::Learn, 43);
+    Ok(again && is_answered(&world) && tells(&world, b"A") && runs_first(&world, DEVICE))
+}
+
+/// Whether the device has answered so.
+fn is_answered(world: &Small<'_>) -> bool {
+    for (number, date, command, code) in &ANSWERS {
+        if answered(world, *number) != Some((*date, *command, *code)) {
+            return false;
+        }
+    }
+    true
+}
+
+#[test]
+fn after_a_cancel_a_stale_completion_changes_nothing(rt: HostRuntime) -> Result<(), Fail> {
+    assert!(rt; cancels(rt.alloc())?);
+    Ok(())
+}

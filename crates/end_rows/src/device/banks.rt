@@ -1,0 +1,102 @@
+//! The areas of a bank in memory, and what stands in them.
+
+use crate::device::setup::{KEY, bank, write};
+use fd_core::{Bank, Key, MemBank};
+use std::test::Fail;
+
+/// What is called on the worked component.
+#[derive(Clone, Copy)]
+enum Call<'a> {
+    /// `begin` for these bytes, and `put`.
+    Write(&'a [u8]),
+    /// The same, and `seal`.
+    Apply(&'a [u8]),
+    Switch,
+    Drop,
+}
+
+/// The calls, and after them the active and the applied image and the numbers of their areas.
+type Row<'a> = (
+    &'a [Call<'a>],
+    &'a [u8],
+    Option<&'a [u8]>,
+    (usize, Option<usize>),
+);
+
+/// The rows follow one another.
+const ROWS: [Row<'static>; 6] = [
+    (
+        &[Call::Apply(&[1, 2, 3])],
+        &[0xAA],
+        Some(&[1, 2, 3]),
+        (0, Some(1)),
+    ),
+    (
+        &[Call::Write(&[4, 5])],
+        &[0xAA],
+        Some(&[1, 2, 3]),
+        (0, Some(1)),
+    ),
+    (&[Call::Switch], &[1, 2, 3], None, (1, None)),
+    (
+        &[Call::Apply(&[7]), Call::Drop],
+        &[1, 2, 3],
+        None,
+        (1, None),
+    ),
+    (&[Call::Apply(&[]), Call::Switch], &[], None, (0, None)),
+    (
+        &[Call::Apply(&[8, 9]), Call::Switch],
+        &[8, 9],
+        None,
+        (1, None),
+    ),
+];
+
+/// Makes a call. Whether it worked.
+fn make(bank: &mut MemBank, call: Call<'_>) -> bool {
+    match call {
+        Call::Write(image) => write(bank, image, false),
+        Call::Apply(image) => write(bank, image, true),
+        Call::Switch => bank.switch().is_ok(),
+        Call::Drop => {
+            bank.drop_pending();
+            true
+        }
+    }
+}
+
+/// Whether the bank has what a row says, after its calls.
+fn holds(bank: &mut MemBank, row: &Row<'_>) -> bool {
+    let (calls, runs, next, areas) = row;
+    for call in *calls {
+        if !make(bank, *call) {
+            return false;
+        }
+    }
+    let active = match bank.active(KEY) {
+        Some((_, bytes)) => bytes,
+        None => &[0xFF],
+    };
+    let applied = match bank.applied(KEY) {
+        Some((_, bytes)) => Some(bytes),
+        None => None,
+    };
+    active == *runs && applied == *next && bank.areas(KEY) == Some(*areas)
+}
+
+/// A component that the bank doesn't have.
+const OTHER: Key = Key {
+    classification: 10,
+    identifier: 2,
+};
+
+#[test]
+fn keeps_images_in_three_areas(rt: HostRuntime) -> Result<(), Fail> {
+    let mut bank = bank(rt.alloc(), 1)?;
+    for row in &ROWS {
+        assert!(rt; holds(&mut bank, row));
+    }
+    assert!(rt; bank.areas(OTHER).is_none());
+    Ok(())
+}

@@ -1,0 +1,100 @@
+//! What a failing bank and a bad verdict lead to.
+
+use crate::device::setup::Call::{Ask, Go, Is};
+use crate::device::setup::{
+    ACTIVATE, APPLY, COMPLETE, Call, IDLE, READY, VERIFY, advance, bank, device, follows, report,
+    status, worked,
+};
+use fd_core::{FailBank, Verdict};
+use fwup_wire::{Answer, Malformed};
+use std::alloc::Global;
+
+/// UpdateComponent of 32 bytes.
+const OFFER: [u8; 21] = [
+    0x0A, 0, 1, 0, 0, 2, 0, 0, 0, 32, 0, 0, 0, 0, 0, 0, 0, 1, 2, 0x76, 0x32,
+];
+
+/// The bank's call that fails, and what comes of it: `begin`, and `switch`.
+const FAILURES: [(u64, [Call<'static>; 4]); 2] = [
+    (
+        1,
+        [
+            Go(IDLE, READY, 32),
+            Ask(0x14, &OFFER, &[1]),
+            Go(READY, ACTIVATE, 32),
+            Is(6),
+        ],
+    ),
+    (
+        4,
+        [
+            Go(IDLE, COMPLETE, 32),
+            Ask(0x1A, &[0], &[1]),
+            Go(COMPLETE, ACTIVATE, 32),
+            Is(6),
+        ],
+    ),
+];
+
+/// Whether the worked device does what the calls say, over a bank whose `k`-th call that can fail does.
+fn failing_follows(alloc: Global, k: u64, calls: &[Call<'_>]) -> bool {
+    match bank(alloc, 1) {
+        Ok(bank) => follows(&mut device(FailBank::new(bank, k)), calls),
+        Err(_) => false,
+    }
+}
+
+#[test]
+fn answers_code_1_once_where_the_bank_fails(rt: HostRuntime) {
+    for (k, calls) in &FAILURES {
+        assert!(rt; failing_follows(rt.alloc(), *k, calls), "{k}");
+    }
+}
+
+/// A bad verdict, by its place: what is reported, and the status.
+type Bad<'a> = (&'a str, usize, Verdict, (u8, u8), [u8; 5]);
+
+const VERDICTS: [Bad<'static>; 2] = [
+    (
+        "unsound",
+        VERIFY,
+        Verdict::VerifyFail,
+        (0x17, 0x90),
+        [4, 3, 2, 0x90, 0],
+    ),
+    (
+        "not applied",
+        APPLY,
+        Verdict::ApplyFail,
+        (0x18, 0xB0),
+        [5, 4, 2, 0xB0, 0],
+    ),
+];
+
+/// Whether a bad verdict is reported till an answer comes, a malformed one too, and the component can be given up then.
+fn is_reported(alloc: Global, row: &Bad<'_>, malformed: bool) -> bool {
+    let (_, place, verdict, failure, expected) = row;
+    let Ok(mut device) = worked(alloc) else {
+        return false;
+    };
+    advance(&mut device, *place);
+    if device.verdict(*verdict).is_err() || report(&device) != Some(*failure) {
+        return false;
+    }
+    if malformed {
+        device.learn(Err(Malformed));
+    } else {
+        device.learn(Ok(&Answer::Refused { code: 0x88 }));
+    }
+    report(&device).is_none()
+        && status(&mut device) == *expected
+        && follows(&mut device, &[Ask(0x1C, &[], &[0])])
+}
+
+#[test]
+fn reports_a_bad_verdict_once(rt: HostRuntime) {
+    for row in &VERDICTS {
+        assert!(rt; is_reported(rt.alloc(), row, false), "{}", row.0);
+        assert!(rt; is_reported(rt.alloc(), row, true), "{}, malformed", row.0);
+    }
+}

@@ -1,0 +1,78 @@
+//! Lanes to which memory is refused.
+
+use crate::lanes::glance;
+use exch_lane::{End, Lane, LaneEntry, LaneFault, LaneStep, lane_replay};
+use pldm_base::Reply;
+
+/// Each request that is taken is the last that was asked, and is taken once; each reply that is learnt is the last one
+/// that was given, and is learnt once.
+fn is_of_a_cell(entries: &[LaneEntry]) -> bool {
+    let mut request = None;
+    let mut answer = None;
+    for entry in entries {
+        let fits = match entry {
+            LaneEntry::Asked(command, body) => {
+                request = Some((command, body));
+                answer = None;
+                true
+            }
+            LaneEntry::Taken(command, body, reply) => {
+                answer = Some(reply);
+                request.take() == Some((command, body))
+            }
+            LaneEntry::Learnt(reply) => answer.take() == Some(reply),
+        };
+        if !fits {
+            return false;
+        }
+    }
+    true
+}
+
+/// Whether a lane takes a step, at the second time where memory is refused to it and it stays as it is.
+fn takes(lane: &mut Lane, step: &LaneStep) -> bool {
+    let step = std::slice::from_ref(step);
+    let before = glance(lane);
+    match lane_replay(lane, step) {
+        Ok(()) => true,
+        Err((_, fault)) => {
+            fault == LaneFault::Memory
+                && glance(lane) == before
+                && lane_replay(lane, step) == Ok(())
+        }
+    }
+}
+
+/// Whether a request of this command is answered, with a reply of four packets, in one tick.
+fn exchanges(lane: &mut Lane, command: u8) -> bool {
+    let first = lane.packets().len().wrapping_add(1);
+    let mut reply = Reply::new();
+    let _ = reply.try_extend_from_slice(&[command; 200]);
+    let to_asker = |at: usize| LaneStep::Deliver(at, End::Asker, Reply::new());
+    let steps = [
+        LaneStep::Begin(command, Reply::new()),
+        LaneStep::Deliver(first, End::Taker, reply),
+        to_asker(first.wrapping_add(1)),
+        to_asker(first.wrapping_add(2)),
+        to_asker(first.wrapping_add(3)),
+        to_asker(first.wrapping_add(4)),
+        LaneStep::Tick,
+    ];
+    for step in &steps {
+        if !takes(lane, step) {
+            return false;
+        }
+    }
+    true
+}
+
+/// Holds whichever single allocation is refused.
+#[test]
+fn refused_memory_leaves_the_lane(rt: HostRuntime) {
+    let mut lane = Lane::new(rt.alloc(), 8, 9);
+    for command in 0..8u8 {
+        assert!(rt; exchanges(&mut lane, command));
+    }
+    assert!(rt; lane.now() == 8 && lane.packets().len() == 40 && lane.history().len() == 24);
+    assert!(rt; is_of_a_cell(lane.history()));
+}

@@ -1,0 +1,274 @@
+//! Lanes, step by step: what is sent, and what happened.
+
+use exch_lane::{End, Lane, LaneEntry, LaneFault, LaneStep, lane_replay};
+use pldm_base::Reply;
+use std::alloc::Global;
+
+/// What is done to a lane.
+#[derive(Clone, Copy)]
+enum Act<'a> {
+    /// The asker begins a request of this command and data.
+    Begin(u8, &'a [u8]),
+    /// The asker gives its request up.
+    Abandon,
+    /// The packet of this number comes to the taker, which answers a new request so.
+    ToTaker(usize, &'a [u8]),
+    /// The packet of this number comes to the asker.
+    ToAsker(usize),
+    /// The asker starts anew.
+    Restart,
+    /// So many ticks pass.
+    Ticks(u32),
+    /// So many ticks pass, before each of which the asker is deaf and does nothing.
+    Deaf(u32),
+}
+
+use Act::{Abandon, Begin, Deaf, Restart, Ticks, ToAsker, ToTaker};
+
+/// What happened, as an entry of a lane's history.
+#[derive(Clone, Copy)]
+enum Noted<'a> {
+    Asked(u8, &'a [u8]),
+    Taken(u8, &'a [u8], &'a [u8]),
+    Learnt(&'a [u8]),
+}
+
+use Noted::{Asked, Learnt, Taken};
+
+/// The bytes of a request, a reply or their data.
+fn data(bytes: &[u8]) -> Reply {
+    let mut data = Reply::new();
+    let _ = data.try_extend_from_slice(bytes);
+    data
+}
+
+/// The step that is done; a tick for ticks.
+fn step_of(act: Act<'_>) -> LaneStep {
+    match act {
+        Begin(command, body) => LaneStep::Begin(command, data(body)),
+        Abandon => LaneStep::Abandon,
+        ToTaker(number, reply) => LaneStep::Deliver(number, End::Taker, data(reply)),
+        ToAsker(number) => LaneStep::Deliver(number, End::Asker, Reply::new()),
+        Restart => LaneStep::Restart(End::Asker),
+        Ticks(_) | Deaf(_) => LaneStep::Tick,
+    }
+}
+
+/// How a lane stands: its time, how many packets were sent and how much happened; and whether a request is open, all is
+/// quiet, and one may begin.
+pub fn glance(lane: &Lane) -> [usize; 6] {
+    [
+        lane.now() as usize,
+        lane.packets().len(),
+        lane.history().len(),
+        usize::from(lane.is_open()),
+        usize::from(lane.is_quiet()),
+        usize::from(lane.can_begin()),
+    ]
+}
+
+/// Whether a lane takes a step, or refuses it for this fault and stays as it is.
+fn takes(lane: &mut Lane, act: Act<'_>, wanted: Option<LaneFault>) -> bool {
+    let before = glance(lane);
+    match lane_replay(lane, &[step_of(act)]) {
+        Ok(()) => wanted.is_none(),
+        Err((at, fault)) => at == 0 && wanted == Some(fault) && glance(lane) == before,
+    }
+}
+
+/// Whether the asker alone is deaf, and neither begins nor gives up.
+fn is_deaf(lane: &mut Lane) -> bool {
+    lane.is_deaf(End::Asker)
+        && !lane.is_deaf(End::Taker)
+        && !lane.is_open()
+        && !lane.can_begin()
+        && takes(lane, Begin(0x02, &[]), Some(LaneFault::NotNow))
+        && takes(lane, Abandon, Some(LaneFault::NotNow))
+}
+
+/// Whether a lane takes ticks.
+fn ticks(lane: &mut Lane, count: u32, deaf: bool) -> bool {
+    for _ in 0..count {
+        if deaf && !is_deaf(lane) || !takes(lane, Ticks(1), None) {
+            return false;
+        }
+    }
+    !deaf || !lane.is_deaf(End::Asker) && lane.can_begin()
+}
+
+/// Whether the packet of a number has this date and these bytes.
+fn is_sent(lane: &Lane, number: usize, date: u32, bytes: &[u8]) -> bool {
+    match lane.packets().get(number.wrapping_sub(1)) {
+        Some(packet) => packet.date == date && packet.bytes.as_slice() == bytes,
+        None => false,
+    }
+}
+
+/// Whether an entry says that this happened.
+fn is_noted(entry: &LaneEntry, noted: Noted<'_>) -> bool {
+    match (entry, noted) {
+        (LaneEntry::Asked(command, body), Asked(code, bytes)) => {
+            *command == code && body.as_slice() == bytes
+        }
+        (LaneEntry::Taken(command, body, reply), Taken(code, bytes, answer)) => {
+            *command == code && body.as_slice() == bytes && reply.as_slice() == answer
+        }
+        (LaneEntry::Learnt(reply), Learnt(answer)) => reply.as_slice() == answer,
+        _ => false,
+    }
+}
+
+/// A situation: what is done, each with its fault; how many packets were sent then, some of them by number, date and bytes; and what
+/// happened.
+struct Row<'a> {
+    situation: &'a str,
+    acts: &'a [(Act<'a>, Option<LaneFault>)],
+    count: usize,
+    sent: &'a [(usize, u32, &'a [u8])],
+    history: &'a [Noted<'a>],
+}
+
+/// Whether a lane comes to what a row says.
+fn holds(alloc: Global, row: &Row<'_>) -> bool {
+    let mut lane = Lane::new(alloc, 8, 9);
+    for (act, fault) in row.acts {
+        let taken = match *act {
+            Ticks(count) => ticks(&mut lane, count, false),
+            Deaf(count) => ticks(&mut lane, count, true),
+            act => takes(&mut lane, act, *fault),
+        };
+        if !taken {
+            return false;
+        }
+    }
+    for (number, date, bytes) in row.sent {
+        if !is_sent(&lane, *number, *date, bytes) {
+            return false;
+        }
+    }
+    for (entry, noted) in lane.history().iter().zip(row.history) {
+        if !is_noted(entry, *noted) {
+            return false;
+        }
+    }
+    lane.packets().len() == row.count && lane.history().len() == row.history.len()
+}
+
+const REQUEST: [u8; 10] = [0x01, 9, 8, 0xC8, 0x01, 0x80, 0x05, 0x10, 0xF0, 0x00];
+
+const REPLY: [u8; 10] = [0x01, 8, 9, 0xC0, 0x01, 0x00, 0x05, 0x10, 0x00, 0x01];
+
+/// The reply of code 0 to command 13.
+const REPLY_13: [u8; 9] = [0x01, 8, 9, 0xC0, 0x01, 0x00, 0x05, 0x13, 0x00];
+
+const BODY: [u8; 100] = [0x5A; 100];
+
+const ROWS: [Row<'static>; 4] = [
+    Row {
+        situation: "a repeated request gets its first reply again",
+        acts: &[
+            (Begin(0x10, &[0xF0, 0x00]), None),
+            (ToTaker(1, &[0x00, 0x01]), None),
+            (Ticks(6), None),
+            (ToTaker(3, &[0x00, 0x02]), None),
+            (ToAsker(4), None),
+            (ToAsker(2), None),
+        ],
+        count: 4,
+        sent: &[
+            (1, 0, &REQUEST),
+            (2, 0, &REPLY),
+            (3, 6, &REQUEST),
+            (4, 6, &REPLY),
+        ],
+        history: &[
+            Asked(0x10, &[0xF0, 0x00]),
+            Taken(0x10, &[0xF0, 0x00], &[0x00, 0x01]),
+            Learnt(&[0x00, 0x01]),
+        ],
+    },
+    Row {
+        // a second piece alone; the first of the repeat with the second of the first sending; and the other way round
+        situation: "pieces of a sending and of its repeat mix",
+        acts: &[
+            (Begin(0x13, &BODY), None),
+            (Ticks(6), None),
+            (ToAsker(5), Some(LaneFault::NoSuchPacket)),
+            (ToTaker(2, &[0x05]), None),
+            (ToTaker(3, &[0x06]), None),
+            (ToTaker(2, &[0x00]), None),
+            (ToTaker(1, &[0x07]), None),
+            (ToTaker(4, &[0x08]), None),
+        ],
+        count: 6,
+        sent: &[(5, 6, &REPLY_13), (6, 6, &REPLY_13)],
+        history: &[Asked(0x13, &BODY), Taken(0x13, &BODY, &[0x00])],
+    },
+    Row {
+        // it neither repeats nor learns; its next request has the first tag and identifier again, and is new to the taker
+        situation: "an asker that starts anew is deaf for 40 ticks",
+        acts: &[
+            (Begin(0x01, &[]), None),
+            (ToTaker(1, &[0x00]), None),
+            (Restart, None),
+            (ToAsker(2), None),
+            (Deaf(40), None),
+            (ToTaker(3, &[]), Some(LaneFault::NoSuchPacket)),
+            (Begin(0x02, &[]), None),
+            (ToTaker(3, &[0x00, 0x02]), None),
+            (ToAsker(4), None),
+        ],
+        count: 4,
+        sent: &[(3, 40, &[0x01, 9, 8, 0xC8, 0x01, 0x80, 0x05, 0x02])],
+        history: &[
+            Asked(0x01, &[]),
+            Taken(0x01, &[], &[0x00]),
+            Asked(0x02, &[]),
+            Taken(0x02, &[], &[0x00, 0x02]),
+            Learnt(&[0x00, 0x02]),
+        ],
+    },
+    Row {
+        situation: "faults are named and change nothing",
+        acts: &[
+            (Abandon, Some(LaneFault::NotNow)),
+            (ToTaker(0, &[0x00]), Some(LaneFault::NoSuchPacket)),
+            (ToTaker(1, &[0x00]), Some(LaneFault::NoSuchPacket)),
+            (Begin(0x01, &[]), None),
+            (Begin(0x01, &[]), Some(LaneFault::NotNow)),
+            (ToAsker(2), Some(LaneFault::NoSuchPacket)),
+            (Ticks(9), None),
+            (ToTaker(1, &[0x00]), Some(LaneFault::Dead)),
+        ],
+        count: 2,
+        sent: &[],
+        history: &[Asked(0x01, &[])],
+    },
+];
+
+#[test]
+fn lanes_come_to_what_the_rows_say(rt: HostRuntime) {
+    for row in &ROWS {
+        assert!(rt; holds(rt.alloc(), row), "{}", row.situation);
+    }
+}
+
+/// Whether the steps before a fault are taken, and none after it.
+fn stops_at_its_fault(alloc: Global) -> bool {
+    let steps = [
+        LaneStep::Begin(0x01, Reply::new()),
+        LaneStep::Abandon,
+        LaneStep::Tick,
+        LaneStep::Abandon,
+        LaneStep::Tick,
+    ];
+    let mut lane = Lane::new(alloc, 8, 9);
+    lane_replay(&mut lane, &steps) == Err((3, LaneFault::NotNow))
+        && lane.now() == 1
+        && !lane.is_open()
+}
+
+#[test]
+fn a_run_stops_at_its_fault(rt: HostRuntime) {
+    assert!(rt; stops_at_its_fault(rt.alloc()));
+}

@@ -1,4 +1,0 @@
-mod configs;
-mod memory;
-mod noise;
-mod schedules;

@@ -1,7 +1,0 @@
-use Rattle.std.proofs.Common.{take}
-use Rattle.fw_world.specs.Replays.{Run}
-use Rattle.fw_world.proofs.replays.replay.Given as goal
-
--- the steps so far are taken
-abbrev pub invariant-loop-i : goal.invariant-loop-i
-invariant-loop-i g l = Run l.fn.world (take l.i l.steps) l.world

@@ -1,6 +1,0 @@
-use Rattle.fwupd.proofs.Started.{Begun}
-use Rattle.fwupd.proofs.running.start_all.Given as goal
-
--- so many updates are started
-abbrev pub invariant-loop-place : goal.invariant-loop-place
-invariant-loop-place l = Begun l.fn.world l.place l.world

@@ -1,0 +1,293 @@
+-- Lemmas on lines, and on what is answered of a text so far.
+use Rattle.std.proofs.Common.{IsOk, is_ok, if◌then◌else◌, ◌-◌, min, get_or, OnErr, IfErr, zero, suc, ◌≡◌, ◌≢◌, ◌<◌, ◌≤◌, ◌+◌, ◌∙◌, ℕ, List, [], ◌∷◌, ◌++◌, length, refl, sym, ap, subst, take, drop, append_assoc, append-nil, length-append, arith, IfSome, OnOk, Result, Ok, Err, Option, Some, None}
+use Rattle.std.proofs.lemmas.Bool.{ne_eqb}
+use Rattle.std.proofs.lemmas.List.{take_more, drop_more, take_all, take-append-drop, length-drop, length-take-le}
+use Rattle.std.proofs.Math.Seq.{take-add}
+use Rattle.std.specs.Io.KnownBytes.{Appends, Consumes, IsAtEnd, Keeps}
+use Rattle.std.proofs.KnownBytes.{Consumes-nil, Consumes-trans, Consumes-kept, Appends-nil, Appends-trans, Appends-kept}
+use Rattle.mctp_ctl.specs.declared.answers.Endpoint.{Endpoint}
+use Rattle.fwupd_base.specs.Answers.{printed, tid_left_by, lines_text, tid_along, answers_of}
+use Rattle.fwupd_base.specs.Lines.{lines_of, ended, AreLines, IsOneLine}
+use Rattle.fwupd_base.specs.Stream.{Begins, Broken, BrokenOff, IsEnded, Reads, Stands, Stopped}
+use Rattle.fwupd_base.specs.declared.stream.AnswerFault.{AnswerFault}
+use Rattle.fwupd_base.specs.declared.stream.AnswerFault.TheVariants.{Read, Write}
+
+pub IsOneLine-push : (xs : List ℕ) (b : ℕ) → IsOneLine xs → b ≢ 10 → IsOneLine (xs ++ b ∷ [])
+IsOneLine-push [] b h n = (n, tt)
+IsOneLine-push (x ∷ xs) b h n = (h.0, IsOneLine-push xs b h.1 n)
+
+AreLines-push : (ls : List (List ℕ)) (l : List ℕ) → AreLines ls → IsOneLine l → AreLines (ls ++ l ∷ [])
+AreLines-push [] l h n = (n, tt)
+AreLines-push (x ∷ ls) l h n = (h.0, AreLines-push ls l h.1 n)
+
+ended-push : (ls : List (List ℕ)) (l : List ℕ) → ended (ls ++ l ∷ []) ≡ ended ls ++ (l ++ 10 ∷ [])
+ended-push [] l = append-nil _
+ended-push (x ∷ ls) l = ap (λ t. (x ++ 10 ∷ []) ++ t) (ended-push ls l) ∙ sym (append_assoc (x ++ 10 ∷ []) (ended ls) (l ++ 10 ∷ []))
+
+-- a line and its line feed come first
+lines_of-line : (l t : List ℕ) → IsOneLine l → lines_of ((l ++ 10 ∷ []) ++ t) ≡ l ∷ lines_of t
+lines_of-line [] t h = refl
+lines_of-line (b ∷ l) t h = rw (ne_eqb b 10 h.0, lines_of-line l t h.1)
+
+lines_of-ended : (ls : List (List ℕ)) (t : List ℕ) → AreLines ls → lines_of (ended ls ++ t) ≡ ls ++ lines_of t
+lines_of-ended [] t h = refl
+lines_of-ended (l ∷ ls) t h = rw (append_assoc (l ++ 10 ∷ []) (ended ls) t, lines_of-line l (ended ls ++ t) h.0, lines_of-ended ls t h.1)
+
+-- what follows the last line feed is a line
+lines_of-part : (b : ℕ) (l : List ℕ) → IsOneLine (b ∷ l) → lines_of (b ∷ l) ≡ (b ∷ l) ∷ []
+lines_of-part b [] h = rw (ne_eqb b 10 h.0)
+lines_of-part b (x ∷ l) h = rw (ne_eqb b 10 h.0, lines_of-part x l h.1)
+
+-- one more line is printed after the others, and finds the identifier that they left
+lines_text-push : (e : Endpoint) (tid : ℕ) (ls : List (List ℕ)) (l : List ℕ) → lines_text e tid (ls ++ l ∷ []) ≡ lines_text e tid ls ++ printed e (tid_along e tid ls) l
+lines_text-push e tid [] l = append-nil (printed e tid l)
+lines_text-push e tid (x ∷ ls) l =
+    ap (λ t. printed e tid x ++ t) (lines_text-push e (tid_left_by e tid x) ls l)
+    ∙ sym (append_assoc (printed e tid x) (lines_text e (tid_left_by e tid x) ls) (printed e (tid_along e (tid_left_by e tid x) ls) l))
+
+tid_along-push : (e : Endpoint) (tid : ℕ) (ls : List (List ℕ)) (l : List ℕ) → tid_along e tid (ls ++ l ∷ []) ≡ tid_left_by e (tid_along e tid ls) l
+tid_along-push e tid [] l = refl
+tid_along-push e tid (x ∷ ls) l = tid_along-push e (tid_left_by e tid x) ls l
+
+-- what is printed for whole lines, and for a part that follows them
+answers_of-ended : (e : Endpoint) (ls : List (List ℕ)) → AreLines ls → answers_of e (ended ls ++ []) ≡ lines_text e 0 ls
+answers_of-ended e ls h = ap (lines_text e 0) (lines_of-ended ls [] h ∙ append-nil ls)
+
+answers_of-part : (e : Endpoint) (ls : List (List ℕ)) (part : List ℕ) → AreLines ls → IsOneLine part → 0 < length part
+    → answers_of e (ended ls ++ part) ≡ lines_text e 0 ls ++ printed e (tid_along e 0 ls) part
+answers_of-part e ls [] h one more = absurd (omega arith)
+answers_of-part e ls (b ∷ part) h one more =
+    ap (lines_text e 0) (lines_of-ended ls (b ∷ part) h ∙ ap (λ ps. ls ++ ps) (lines_of-part b part one))
+    ∙ lines_text-push e 0 ls (b ∷ part)
+
+-- nothing is read yet
+pub stands_start : (e : Endpoint) (w : Option (List ℕ)) → Stands e 0 [] w w []
+stands_start e w = record { lines = []; each = tt; one = tt; is = refl; written = Appends-nil w; terminus = refl }
+
+-- a byte of a line
+pub stands_byte : (e : Endpoint) (tid : ℕ) (text : List ℕ) (a w : Option (List ℕ)) (part : List ℕ) (b : ℕ) → Stands e tid text a w part → b ≢ 10
+    → Stands e tid (text ++ b ∷ []) a w (part ++ b ∷ [])
+stands_byte e tid text a w part b h n = record {
+  lines = h.lines;
+  each = h.each;
+  one = IsOneLine-push part b h.one n;
+  is = rw h.is (append_assoc (ended h.lines) part (b ∷ []));
+  written = h.written;
+  terminus = h.terminus;
+}
+
+-- a line ends, and is answered
+pub stands_line : (e : Endpoint) (tid : ℕ) (text : List ℕ) (a w u : Option (List ℕ)) (part : List ℕ) → Stands e tid text a w part → Appends w u (printed e tid part)
+    → Stands e (tid_left_by e tid part) (text ++ 10 ∷ []) a u []
+stands_line e tid text a w u part h wrote = record {
+  lines = h.lines ++ part ∷ [];
+  each = AreLines-push h.lines part h.each h.one;
+  one = tt;
+  is = rw h.is (append_assoc (ended h.lines) part (10 ∷ []) ∙ sym (ended-push h.lines part) ∙ sym (append-nil (ended (h.lines ++ part ∷ []))));
+  written = subst (Appends a u) (sym (lines_text-push e 0 h.lines part))
+      (Appends-trans a w u (lines_text e 0 h.lines) (printed e (tid_along e 0 h.lines) part) h.written (subst (λ t. Appends w u (printed e t part)) h.terminus wrote));
+  terminus = ap (λ t. tid_left_by e t part) h.terminus ∙ sym (tid_along-push e 0 h.lines part);
+}
+
+-- a write of a line's answer fell short
+pub broken_line : (e : Endpoint) (tid : ℕ) (text rest : List ℕ) (a w u : Option (List ℕ)) (part : List ℕ) → Stands e tid text a w part → Begins w u (printed e tid part) → IsEnded rest
+    → BrokenOff e (text ++ rest) a u
+broken_line e tid text rest a w u part h began whole = record {
+  lines = h.lines;
+  each = h.each;
+  line = part;
+  one = h.one;
+  rest = rest;
+  whole = whole;
+  is = rw h.is (append_assoc (ended h.lines) part rest);
+  count = began.count;
+  written = Appends-trans a w u (lines_text e 0 h.lines) _ h.written (subst (λ t. Appends w u (take began.count (printed e t part))) h.terminus began.written);
+}
+
+taken : (m n : ℕ) (xs : List ℕ) → m ≤ n → take m (take n xs) ≡ take m xs
+taken zero n xs le = refl
+taken (suc m) zero xs le = absurd (omega arith)
+taken (suc m) (suc n) [] le = refl
+taken (suc m) (suc n) (x ∷ xs) le = ap (λ l. x ∷ l) (taken m n xs (omega arith))
+
+-- the rest of a list, taken whole
+pub slice_rest : (i : ℕ) (xs : List ℕ) → take (length xs - i) (drop i xs) ≡ drop i xs
+slice_rest i xs = take_all (length xs - i) (drop i xs) (rw (length-drop i xs) (omega arith))
+
+pub within_more : (i n : ℕ) (xs : List ℕ) → i ≤ length xs → n ≤ length (take (length xs - i) (drop i xs)) → i + n ≤ length xs
+within_more i n xs le more = let here : n ≤ length xs - i = rw (slice_rest i xs, length-drop i xs) at more in omega (arith, here)
+
+-- so much more of a piece is written
+pub appends_more : (a b c : Option (List ℕ)) (xs : List ℕ) (i n : ℕ) → Appends a b (take i xs) → Appends b c (take n (drop i xs)) → Appends a c (take (i + n) xs)
+appends_more a b c xs i n first second = subst (Appends a c) (sym (take-add i n xs)) (Appends-trans a b c (take i xs) (take n (drop i xs)) first second)
+
+-- a byte of a piece is a byte of a line
+pub piece_byte : (e : Endpoint) (tid : ℕ) (text piece : List ℕ) (i : ℕ) (a w : Option (List ℕ)) (part : List ℕ) → Stands e tid (text ++ take i piece) a w part → i < length piece → get_or piece i 0 ≢ 10
+    → Stands e tid (text ++ take (i + 1) piece) a w (part ++ get_or piece i 0 ∷ [])
+piece_byte e tid text piece i a w part h below n =
+    rw (take_more piece i 0 below, ← append_assoc text (take i piece) (get_or piece i 0 ∷ [])) (stands_byte e tid (text ++ take i piece) a w part (get_or piece i 0) h n)
+
+-- or it ends one
+pub piece_line : (e : Endpoint) (tid : ℕ) (text piece : List ℕ) (i : ℕ) (a w u : Option (List ℕ)) (part : List ℕ) → Stands e tid (text ++ take i piece) a w part → i < length piece → get_or piece i 0 ≡ 10
+    → Appends w u (printed e tid part) → Stands e (tid_left_by e tid part) (text ++ take (i + 1) piece) a u []
+piece_line e tid text piece i a w u part h below is wrote =
+    rw (take_more piece i 0 below, is, ← append_assoc text (take i piece) (10 ∷ [])) (stands_line e tid (text ++ take i piece) a w u part h wrote)
+
+pub piece_broken : (e : Endpoint) (tid : ℕ) (text piece : List ℕ) (i : ℕ) (a w u : Option (List ℕ)) (part : List ℕ) → Stands e tid (text ++ take i piece) a w part → i < length piece → get_or piece i 0 ≡ 10
+    → Begins w u (printed e tid part) → BrokenOff e (text ++ piece) a u
+piece_broken e tid text piece i a w u part h below is began =
+    let joined : (text ++ take i piece) ++ drop i piece ≡ text ++ piece = append_assoc text (take i piece) (drop i piece) ∙ ap (λ t. text ++ t) (take-append-drop i piece) in
+    subst (λ t. BrokenOff e t a u) joined
+    (broken_line e tid (text ++ take i piece) (drop i piece) a w u part h began (subst IsEnded (sym (drop_more piece i 0 below)) is))
+
+-- nothing follows the last line feed
+pub finish_empty : (e : Endpoint) (tid : ℕ) (text : List ℕ) (a w : Option (List ℕ)) (part : List ℕ) → Stands e tid text a w part → length part ≡ 0 → Appends a w (answers_of e text)
+finish_empty e tid text a w [] h none = subst (λ t. Appends a w (answers_of e t)) (sym h.is) (subst (Appends a w) (sym (answers_of-ended e h.lines h.each)) h.written)
+finish_empty e tid text a w (x ∷ part) h none = absurd (omega arith)
+
+-- what follows it is answered
+pub finish_line : {T : Type 0} (r : Result T AnswerFault) (e : Endpoint) (tid : ℕ) (text : List ℕ) (a w u v : Option (List ℕ)) (part : List ℕ) → Stands e tid text a w part → length part ≢ 0 → Appends w u (printed e tid part) → Keeps u v
+    → OnOk r (Appends a v (answers_of e text))
+finish_line (Err f) e tid text a w u v part h some wrote kept = tt
+finish_line (Ok f) e tid text a w u v [] h some wrote kept = absurd (some refl)
+finish_line (Ok f) e tid text a w u v (x ∷ part) h some wrote kept =
+    Appends-kept a u v (answers_of e text) (subst (λ t. Appends a u (answers_of e t)) (sym h.is)
+    (subst (Appends a u) (sym (answers_of-part e h.lines (x ∷ part) h.each h.one (omega arith)))
+    (Appends-trans a w u (lines_text e 0 h.lines) (printed e (tid_along e 0 h.lines) (x ∷ part)) h.written (subst (λ t. Appends w u (printed e t (x ∷ part))) h.terminus wrote)))) kept
+
+-- it is written and not flushed
+pub finish_unflushed : {T : Type 0} (r : Result T AnswerFault) (e : Endpoint) (tid : ℕ) (text : List ℕ) (a w u v : Option (List ℕ)) (part : List ℕ) → Stands e tid text a w part → Appends w u (printed e tid part) → Keeps u v → OnErr r (BrokenOff e text a v)
+finish_unflushed (Ok f) e tid text a w u v part h wrote kept = tt
+finish_unflushed (Err f) e tid text a w u v part h wrote kept =
+    let all = printed e tid part in
+    let began : Begins w v all = record { count = length all; written = Appends-kept w u v (take (length all) all) (subst (Appends w u) (sym (take_all (length all) all (omega arith))) wrote) kept } in
+    subst (λ t. BrokenOff e t a v) (append-nil text) (broken_line e tid text [] a w v part h began tt)
+
+-- a flush changes nothing
+pub stands_kept : (e : Endpoint) (tid : ℕ) (text : List ℕ) (a w v : Option (List ℕ)) (part : List ℕ) → Stands e tid text a w part → Keeps w v → Stands e tid text a v part
+stands_kept e tid text a w v part h kept = record {
+  lines = h.lines;
+  each = h.each;
+  one = h.one;
+  is = h.is;
+  written = Appends-kept a w v (lines_text e 0 h.lines) h.written kept;
+  terminus = h.terminus;
+}
+
+-- all lines are written and not flushed
+pub unflushed : (e : Endpoint) (tid : ℕ) (text : List ℕ) (a w v : Option (List ℕ)) (part : List ℕ) → Stands e tid text a w part → Keeps w v → BrokenOff e text a v
+unflushed e tid text a w v part h kept =
+    let began : Begins w v (printed e tid part) = record { count = 0; written = Appends-kept w w v [] (Appends-nil w) kept } in
+    subst (λ t. BrokenOff e t a v) (append-nil text) (broken_line e tid text [] a w v part h began tt)
+
+pub reads_start : (e : Endpoint) (a w : Option (List ℕ)) → Reads e 0 0 a a w w []
+reads_start e a w = record { text = []; past = []; limit = λ n. absurd (n refl); size = refl; read = Consumes-nil a; stands = stands_start e w }
+
+-- within the limit there is no byte past it
+none_past : (text past : List ℕ) (count : ℕ) → (past ≢ [] → (length past ≡ 1) × (length text ≡ 16777216)) → length text + length past ≡ count → count ≤ 16777216 → past ≡ []
+none_past text [] count limit size within = refl
+none_past text (x ∷ past) count limit size within = let both = limit (λ e. absurd (cc)) in let h = both.1 in absurd (omega arith)
+
+read_text : (e : Endpoint) (tid count : ℕ) (a b c w v : Option (List ℕ)) (part more : List ℕ) (r : Reads e tid count a b w v part) → count ≤ 16777216 → Consumes b c more → Consumes a c (r.text ++ more)
+read_text e tid count a b c w v part more r within read =
+    let none : r.text ++ r.past ≡ r.text = ap (λ p. r.text ++ p) (none_past r.text r.past count r.limit r.size within) ∙ append-nil r.text in
+    subst (λ p. Consumes a c (p ++ more)) none (Consumes-trans a b c (r.text ++ r.past) more r.read read)
+
+pub stopped_within : (e : Endpoint) (tid count : ℕ) (a b c w v : Option (List ℕ)) (part : List ℕ) (fault : AnswerFault) → Reads e tid count a b w v part → count ≤ 16777216 → Keeps b c → Stopped e fault a c w v
+stopped_within e tid count a b c w v part fault r within kept = record {
+  lines = r.stands.lines;
+  each = r.stands.each;
+  part = part;
+  one = r.stands.one;
+  past = [];
+  limit = λ n. absurd (n refl);
+  read = subst (λ t. Consumes a c (t ++ [])) r.stands.is (read_text e tid count a b c w v part [] r within (Consumes-kept b b c [] (Consumes-nil b) kept));
+  written = r.stands.written;
+}
+
+pub stopped_past : (e : Endpoint) (tid count : ℕ) (a b w v : Option (List ℕ)) (part : List ℕ) → Reads e tid count a b w v part → Stopped e Read a b w v
+stopped_past e tid count a b w v part r = record {
+  lines = r.stands.lines;
+  each = r.stands.each;
+  part = part;
+  one = r.stands.one;
+  past = r.past;
+  limit = λ n. (refl, (r.limit n).0, subst (λ t. length t ≡ 16777216) r.stands.is (r.limit n).1);
+  read = subst (λ t. Consumes a b (t ++ r.past)) r.stands.is r.read;
+  written = r.stands.written;
+}
+
+-- a reader at its end gave this text
+whole : (a b : Option (List ℕ)) (text : List ℕ) (P : List ℕ → Type 0) → Consumes a b text → IsAtEnd b → P text → IfSome a P
+whole None b text P read end h = tt
+whole (Some x) None text P read end h = absurd read
+whole (Some x) (Some y) text P read end h = subst P (sym (read ∙ ap (λ t. text ++ t) end ∙ append-nil text)) h
+
+pub finished : {T : Type 0} (e : Endpoint) (tid count : ℕ) (a b c w v u : Option (List ℕ)) (part : List ℕ) (f : Result T AnswerFault) (r : Reads e tid count a b w v part) → count ≤ 16777216 → Consumes b c [] → IsAtEnd c
+    → OnOk f (Appends w u (answers_of e r.text)) → OnOk f (IfSome a (λ text. Appends w u (answers_of e text)))
+finished e tid count a b c w v u part (Err x) r within read end h = tt
+finished e tid count a b c w v u part (Ok x) r within read end h =
+    whole a c (r.text ++ []) (λ text. Appends w u (answers_of e text)) (read_text e tid count a b c w v part [] r within read) end (subst (λ t. Appends w u (answers_of e t)) (sym (append-nil r.text)) h)
+
+pub read_whole : {T : Type 0} (e : Endpoint) (tid count : ℕ) (a b c w v : Option (List ℕ)) (part : List ℕ) (f : Result T AnswerFault) (r : Reads e tid count a b w v part) → count ≤ 16777216 → Consumes b c [] → IsAtEnd c
+    → OnOk f (IfSome a (λ text. length text ≤ 16777216))
+read_whole e tid count a b c w v part (Err x) r within read end = tt
+read_whole e tid count a b c w v part (Ok x) r within read end =
+    let size : length (r.text ++ []) ≤ 16777216 = rw (append-nil r.text) (omega (arith, r.size)) in
+    whole a c (r.text ++ []) (λ text. length text ≤ 16777216) (read_text e tid count a b c w v part [] r within read) end size
+
+pub finish_broken : {T : Type 0} (e : Endpoint) (tid count : ℕ) (a b c w v u : Option (List ℕ)) (part : List ℕ) (f : Result T AnswerFault) (r : Reads e tid count a b w v part) → count ≤ 16777216 → Consumes b c []
+    → OnErr f (BrokenOff e r.text w u) → IfErr f (λ x. x ≡ Write → Broken e a c w u)
+finish_broken e tid count a b c w v u part (Ok x) r within read h = tt
+finish_broken e tid count a b c w v u part (Err x) r within read h =
+    λ _. record { text = r.text; past = []; most = omega arith; read = read_text e tid count a b c w v part [] r within read; off = h }
+
+-- so much was read of which so much is within the limit
+read_on : (e : Endpoint) (tid count : ℕ) (a b c w v : Option (List ℕ)) (part got : List ℕ) (n m : ℕ) (r : Reads e tid count a b w v part) → count ≤ 16777216 → Consumes b c (take n got) → m ≤ n
+    → Consumes a c ((r.text ++ take m got) ++ drop m (take n got))
+read_on e tid count a b c w v part got n m r within read le =
+    let parted : take n got ≡ take m got ++ drop m (take n got) = sym (take-append-drop m (take n got)) ∙ ap (λ t. t ++ drop m (take n got)) (taken m n got le) in
+    subst (Consumes a c) (sym (append_assoc r.text (take m got) (drop m (take n got))))
+    (subst (λ t. Consumes a c (r.text ++ t)) parted (read_text e tid count a b c w v part (take n got) r within read))
+
+length_rest : (m n : ℕ) (got : List ℕ) → n ≤ length got → length (drop m (take n got)) ≡ n - m
+length_rest m n got le = let size : length (take n got) ≡ n = length-take-le n got le in rw (length-drop m (take n got), size) refl
+
+nonempty : (xs : List ℕ) → xs ≢ [] → 1 ≤ length xs
+nonempty [] some = absurd (some refl)
+nonempty (x ∷ xs) some = omega arith
+
+-- a turn ends: so much more was read and is answered
+pub reads_more : (e : Endpoint) (tid next count : ℕ) (a b c w v u : Option (List ℕ)) (part after got : List ℕ) (n m : ℕ) (r : Reads e tid count a b w v part) → count ≤ 16777216 → Consumes b c (take n got)
+    → n + count ≤ 16777217 → m ≡ min n (16777216 - count) → n ≤ length got → Stands e next (r.text ++ take m got) w u after → Reads e next (count + n) a c w u after
+reads_more e tid next count a b c w v u part after got n m r within read most is room stands =
+    let none = ap length (none_past r.text r.past count r.limit r.size within) in
+    let rest = length_rest m n got room in
+    let first : length (take m got) ≡ m = length-take-le m got (omega (arith, is)) in
+    let joined : length (r.text ++ take m got) ≡ length r.text + length (take m got) = length-append r.text (take m got) in
+    record {
+      text = r.text ++ take m got;
+      past = drop m (take n got);
+      limit = λ some. (let more = nonempty (drop m (take n got)) some in (omega (arith, more, rest, is), omega (arith, more, rest, is, joined, first, r.size, none)));
+      size = omega (arith, rest, is, joined, first, r.size, none);
+      read = read_on e tid count a b c w v part got n m r within read (omega (arith, is));
+      stands = stands;
+    }
+
+-- a write failed in a turn
+pub turn_broken : (e : Endpoint) (tid count : ℕ) (a b c w v u : Option (List ℕ)) (part got : List ℕ) (n m : ℕ) (r : Reads e tid count a b w v part) → count ≤ 16777216 → Consumes b c (take n got)
+    → n + count ≤ 16777217 → m ≡ min n (16777216 - count) → n ≤ length got → BrokenOff e (r.text ++ take m got) w u → Broken e a c w u
+turn_broken e tid count a b c w v u part got n m r within read most is room off =
+    let rest = length_rest m n got room in
+    record {
+      text = r.text ++ take m got;
+      past = drop m (take n got);
+      most = omega (arith, rest, is);
+      read = read_on e tid count a b c w v part got n m r within read (omega (arith, is));
+      off = off;
+    }
+
+-- a push with room
+pub pushed : {T E : Type 0} (r : Result T E) (old new : List ℕ) (b : ℕ) → IsOk r → new ≡ (if is_ok r then old ++ b ∷ [] else old) → new ≡ old ++ b ∷ []
+pushed (Ok x) old new b ok is = is
+pushed (Err e) old new b ok is = absurd (cc)

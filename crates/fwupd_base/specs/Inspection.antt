@@ -1,0 +1,50 @@
+-- What `fwupd inspect` prints of a package: a line for the package, its records with their descriptors, its components.
+use Rattle.std.specs.Prelude.{ℕ, ◌+◌, List, [], ◌∷◌, ◌++◌, codes, length}
+use Rattle.std.specs.List.{flat_map}
+use Rattle.fw_package.specs.Package.{ComponentOf, DescriptorOf, PackageText, RecordOf}
+use Rattle.fw_text.specs.Printing.{data_text, in_eight, in_four, numbered, quoted}
+
+-- the numbers of the components that a record uses, from 1; none is a dash
+abbrev pub use_text : ℕ → List ℕ
+use_text n = numbered (codes " ") (n + 1)
+
+unfoldable pub uses_text : List ℕ → List ℕ
+uses_text [] = codes " -"
+uses_text (n ∷ ns) = flat_map use_text (n ∷ ns)
+
+abbrev pub package_line : PackageText → List ℕ
+package_line p =
+    numbered (codes "package header ") p.header_size ++ numbered (codes " records ") (length p.records)
+    ++ numbered (codes " components ") (length p.components) ++ codes "\n"
+
+unfoldable pub descriptor_line : DescriptorOf → List ℕ
+descriptor_line d = in_four (codes "descriptor ") d.kind ++ codes " " ++ data_text d.bytes ++ codes "\n"
+
+unfoldable pub record_line : ℕ → RecordOf → List ℕ
+record_line n r =
+    numbered (codes "record ") n ++ in_eight (codes " flags ") r.flags ++ quoted (codes " set ") r.set_text.bytes
+    ++ codes " uses" ++ uses_text r.uses ++ codes "\n"
+
+-- a record's line, and those of its descriptors
+unfoldable pub record_text : ℕ → RecordOf → List ℕ
+record_text n r = record_line n r ++ flat_map descriptor_line r.descriptors
+
+-- records from number n on
+abbrev pub records_text : ℕ → List RecordOf → List ℕ
+records_text n [] = []
+records_text n (r ∷ rs) = record_text n r ++ records_text (n + 1) rs
+
+unfoldable pub component_line : ℕ → ComponentOf → List ℕ
+component_line n c =
+    numbered (codes "component ") n ++ numbered (codes " class ") c.classification ++ numbered (codes " ident ") c.identifier
+    ++ in_eight (codes " stamp ") c.stamp ++ in_four (codes " options ") c.options ++ numbered (codes " offset ") c.offset
+    ++ numbered (codes " size ") (length c.image) ++ quoted (codes " version ") c.text.bytes ++ codes "\n"
+
+-- components from number n on
+abbrev pub components_text : ℕ → List ComponentOf → List ℕ
+components_text n [] = []
+components_text n (c ∷ cs) = component_line n c ++ components_text (n + 1) cs
+
+-- what is printed of a package
+abbrev pub inspect_of : PackageText → List ℕ
+inspect_of p = package_line p ++ records_text 1 p.records ++ components_text 1 p.components

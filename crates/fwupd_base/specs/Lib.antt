@@ -1,0 +1,4 @@
+pub mod Answers
+pub mod Inspection
+pub mod Lines
+pub mod Stream

@@ -1,0 +1,68 @@
+-- What an answering program does with a text that it reads piece by piece.
+use Rattle.std.specs.Prelude.{ℕ, ◌≡◌, ◌≢◌, ◌≤◌, ◌+◌, List, [], ◌∷◌, ◌++◌, length, take, Option}
+use Rattle.std.specs.Io.KnownBytes.{Appends, Consumes}
+use Rattle.mctp_ctl.specs.declared.answers.Endpoint.{Endpoint}
+use Rattle.fwupd_base.specs.Answers.{lines_text, printed, tid_along}
+use Rattle.fwupd_base.specs.Lines.{ended, AreLines, IsOneLine}
+use Rattle.fwupd_base.specs.declared.stream.AnswerFault.{AnswerFault}
+use Rattle.fwupd_base.specs.declared.stream.AnswerFault.TheVariants.{Read}
+
+-- Of a text each of these lines is answered, and this part of the next line follows them.
+pub record Stands (e : Endpoint) (tid : ℕ) (text : List ℕ) (before now : Option (List ℕ)) (part : List ℕ) : Type 0 where
+  pub lines : List (List ℕ)
+  pub each : AreLines lines
+  pub one : IsOneLine part
+  pub is : text ≡ ended lines ++ part
+  pub written : Appends before now (lines_text e 0 lines)
+  pub terminus : tid ≡ tid_along e 0 lines
+
+-- A run stopped for this fault, which isn't the writer's. Of what it read each of these lines is answered, and all else is
+-- less than one line: a part without a line feed, and the byte past the limit where that one stopped the run.
+pub record Stopped (e : Endpoint) (fault : AnswerFault) (read_before read_now written_before written_now : Option (List ℕ)) : Type 0 where
+  pub lines : List (List ℕ)
+  pub each : AreLines lines
+  pub part : List ℕ
+  pub one : IsOneLine part
+  pub past : List ℕ
+  pub limit : past ≢ [] → (fault ≡ Read) × (length past ≡ 1) × (length (ended lines ++ part) ≡ 16777216)
+  pub read : Consumes read_before read_now ((ended lines ++ part) ++ past)
+  pub written : Appends written_before written_now (lines_text e 0 lines)
+
+-- a beginning of this piece was written
+pub record Begins (before now : Option (List ℕ)) (piece : List ℕ) : Type 0 where
+  pub count : ℕ
+  pub written : Appends before now (take count piece)
+
+-- a line ends here
+abbrev pub IsEnded : List ℕ → Type 0
+IsEnded [] = Unit {0}
+IsEnded (b ∷ _) = b ≡ 10
+
+-- A write failed. Of a text each of these lines is answered, and a beginning of the answer to the next one is written.
+pub record BrokenOff (e : Endpoint) (text : List ℕ) (before now : Option (List ℕ)) : Type 0 where
+  pub lines : List (List ℕ)
+  pub each : AreLines lines
+  pub line : List ℕ
+  pub one : IsOneLine line
+  pub rest : List ℕ
+  pub whole : IsEnded rest
+  pub is : text ≡ ended lines ++ (line ++ rest)
+  pub count : ℕ
+  pub written : Appends before now (lines_text e 0 lines ++ take count (printed e (tid_along e 0 lines) line))
+
+-- A write failed, and this is so of the text that was read, but for the byte past the limit.
+pub record Broken (e : Endpoint) (read_before read_now written_before written_now : Option (List ℕ)) : Type 0 where
+  pub text : List ℕ
+  pub past : List ℕ
+  pub most : length past ≤ 1
+  pub read : Consumes read_before read_now (text ++ past)
+  pub off : BrokenOff e text written_before written_now
+
+-- So many bytes were read. Of all but the one past the limit each whole line is answered, and this part follows them.
+pub record Reads (e : Endpoint) (tid count : ℕ) (read_before read_now written_before written_now : Option (List ℕ)) (part : List ℕ) : Type 0 where
+  pub text : List ℕ
+  pub past : List ℕ
+  pub limit : past ≢ [] → (length past ≡ 1) × (length text ≡ 16777216)
+  pub size : length text + length past ≡ count
+  pub read : Consumes read_before read_now (text ++ past)
+  pub stands : Stands e tid text written_before written_now part

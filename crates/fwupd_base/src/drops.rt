@@ -1,0 +1,49 @@
+//! Why a line gets no answer.
+
+ghost use Rattle.std.specs.Prelude.{◌≡◌, ◌≤◌, length};
+ghost use Rattle.fwupd_base.specs.Answers.{name_of};
+
+use mctp_wire::WireFault;
+
+/// Why a line gets no answer: the first of these, in this order, that holds.
+#[derive(Clone, Copy, PartialEq, Eq)]
+pub enum DropCause {
+    /// The line isn't an even number of hexadecimal digits.
+    Hex,
+    /// The bytes are no packet.
+    Wire(WireFault),
+    /// The packet goes to another endpoint.
+    Destination,
+    /// The packet isn't a whole message: SOM or EOM is clear.
+    NotWhole,
+    /// The packet's sequence number isn't 0.
+    StartNumber,
+    /// The packet isn't a request: TO is clear.
+    NotRequest,
+    /// The message is neither a control message nor of PLDM.
+    Kind,
+    /// The message is no request that gets an answer.
+    Message,
+}
+
+impl DropCause {
+    /// The word that names the cause in the program's output.
+    pub fn name(self) -> &'static str
+        ensures name { result.now ≡ name_of self }
+        ensures short { length result.now ≤ 11 }
+    {
+        match self {
+            DropCause::Hex => "Hex",
+            DropCause::Wire(WireFault::Short) => "Short",
+            DropCause::Wire(WireFault::Version) => "Version",
+            DropCause::Wire(WireFault::Empty) => "Empty",
+            DropCause::Wire(WireFault::TooLong) => "TooLong",
+            DropCause::Destination => "Destination",
+            DropCause::NotWhole => "NotWhole",
+            DropCause::StartNumber => "StartNumber",
+            DropCause::NotRequest => "NotRequest",
+            DropCause::Kind => "Type",
+            DropCause::Message => "Message",
+        }
+    }
+}

@@ -1,0 +1,211 @@
+//! The text of `fwupd inspect`.
+
+ghost use Rattle.std.specs.Prelude.{◌≡◌, ◌≢◌, ◌++◌, ◌+◌, IfErr, IfOk, OnOk};
+ghost use Rattle.std.specs.List.{flat_map};
+ghost use Rattle.std.specs.Result.{result_map_both};
+ghost use Rattle.fw_text.specs.Printing.{Adds};
+ghost use Rattle.fw_package.specs.Lent.{component_seen, record_seen};
+ghost use Rattle.fw_package.specs.Package.{descriptor_of};
+ghost use Rattle.fw_package.specs.Reading.{package_of};
+ghost use Rattle.fwupd_base.specs.Inspection.{component_line, components_text, descriptor_line, inspect_of, package_line, record_line, records_text, record_text, use_text, uses_text};
+
+use fw_package::{
+    Component, Components, Descriptor, Descriptors, Package, PackageFault, Record, Records, Uses,
+};
+use fw_text::{push_data, push_eight, push_four, push_number, push_quoted, push_words};
+use std::alloc::{AllocError, Global};
+
+/// Appends the package's line.
+fn push_package(alloc: Global, text: &mut Vec<u8>, contents: &Package<'_>) -> Result<(), AllocError>
+    ensures { OnOk result (Adds text.old.items text.new.items (package_line contents.now)) }
+{
+    push_number(alloc, text, "package header ", contents.header_size())?;
+    push_number(alloc, text, " records ", contents.record_count())?;
+    push_number(alloc, text, " components ", contents.component_count())?;
+    push_words(text, "\n")?;
+    Ok(())
+}
+
+/// Appends a descriptor's line.
+fn push_descriptor(
+    alloc: Global,
+    text: &mut Vec<u8>,
+    descriptor: Descriptor<'_>,
+) -> Result<(), AllocError>
+    ensures { OnOk result (Adds text.old.items text.new.items (descriptor_line (descriptor_of descriptor.entry))) }
+{
+    push_four(alloc, text, "descriptor ", descriptor.kind)?;
+    push_words(text, " ")?;
+    push_data(alloc, text, descriptor.bytes)?;
+    push_words(text, "\n")?;
+    Ok(())
+}
+
+/// Appends the number of each component that a record uses.
+#[tactic(auto, using(fw_text::proofs::Chains::telling))]
+fn push_each_use(alloc: Global, text: &mut Vec<u8>, uses: Uses<'_>) -> Result<(), AllocError>
+    ensures { OnOk result (Adds text.old.items text.new.items (flat_map use_text uses.entry)) }
+{
+    for component in uses {
+        push_number(alloc, text, " ", usize::from(component) + 1)?;
+    }
+    Ok(())
+}
+
+/// Appends the numbers of the components that a record uses, or a dash.
+#[tactic(auto, using(crate::proofs::Uses::uses_none, crate::proofs::Uses::uses_some))]
+fn push_uses(alloc: Global, text: &mut Vec<u8>, uses: Uses<'_>) -> Result<(), AllocError>
+    ensures { OnOk result (Adds text.old.items text.new.items (uses_text uses.entry)) }
+{
+    if uses.is_empty() {
+        push_words(text, " -")?;
+        return Ok(());
+    }
+    push_each_use(alloc, text, uses)?;
+    Ok(())
+}
+
+/// Appends a record's line.
+fn push_record_line(
+    alloc: Global,
+    text: &mut Vec<u8>,
+    number: usize,
+    contents: &Record<'_>,
+) -> Result<(), AllocError>
+    ensures { OnOk result (Adds text.old.items text.new.items (record_line number (record_seen contents.now))) }
+{
+    push_number(alloc, text, "record ", number)?;
+    push_eight(alloc, text, " flags ", contents.flags)?;
+    push_quoted(alloc, text, " set ", contents.set_text.bytes)?;
+    push_words(text, " uses")?;
+    push_uses(alloc, text, contents.uses.iter())?;
+    push_words(text, "\n")?;
+    Ok(())
+}
+
+/// Appends a component's line.
+fn push_component(
+    alloc: Global,
+    text: &mut Vec<u8>,
+    number: usize,
+    contents: Component<'_>,
+) -> Result<(), AllocError>
+    ensures { OnOk result (Adds text.old.items text.new.items (component_line number (component_seen contents.entry))) }
+{
+    push_number(alloc, text, "component ", number)?;
+    push_number(alloc, text, " class ", usize::from(contents.classification))?;
+    push_number(alloc, text, " ident ", usize::from(contents.identifier))?;
+    push_eight(alloc, text, " stamp ", contents.stamp)?;
+    push_four(alloc, text, " options ", contents.options)?;
+    push_number(alloc, text, " offset ", contents.offset)?;
+    push_number(alloc, text, " size ", contents.image.len())?;
+    push_quoted(alloc, text, " version ", contents.text.bytes)?;
+    push_words(text, "\n")?;
+    Ok(())
+}
+
+/// Appends the lines of a record's descriptors.
+#[tactic(auto, using(fw_text::proofs::Chains::telling))]
+fn push_descriptors(
+    alloc: Global,
+    text: &mut Vec<u8>,
+    descriptors: Descriptors<'_>,
+) -> Result<(), AllocError>
+    ensures { OnOk result (Adds text.old.items text.new.items (flat_map descriptor_line descriptors.entry)) }
+{
+    for descriptor in descriptors {
+        push_descriptor(alloc, text, descriptor)?;
+    }
+    Ok(())
+}
+
+/// Appends a record's line and those of its descriptors.
+fn push_record(
+    alloc: Global,
+    text: &mut Vec<u8>,
+    number: usize,
+    contents: Record<'_>,
+) -> Result<(), AllocError>
+    ensures { OnOk result (Adds text.old.items text.new.items (record_text number (record_seen contents.entry))) }
+{
+    push_record_line(alloc, text, number, &contents)?;
+    push_descriptors(alloc, text, contents.descriptors)?;
+    Ok(())
+}
+
+/// Appends the lines of all records.
+#[tactic(auto, using(fw_text::proofs::Chains::telling))]
+fn push_records(
+    alloc: Global,
+    text: &mut Vec<u8>,
+    mut records: Records<'_>,
+) -> Result<(), AllocError>
+    ensures { OnOk result (Adds text.old.items text.new.items (records_text 1 records.entry)) }
+{
+    for number in 0..records.len() {
+        let Some(contents) = records.next() else {
+            unreachable!()
+        };
+        push_record(alloc, text, number + 1, contents)?;
+    }
+    Ok(())
+}
+
+/// Appends the lines of all components.
+#[tactic(auto, using(fw_text::proofs::Chains::telling))]
+fn push_components(
+    alloc: Global,
+    text: &mut Vec<u8>,
+    mut components: Components<'_>,
+) -> Result<(), AllocError>
+    ensures { OnOk result (Adds text.old.items text.new.items (components_text 1 components.entry)) }
+{
+    for number in 0..components.len() {
+        let Some(contents) = components.next() else {
+            unreachable!()
+        };
+        push_component(alloc, text, number + 1, contents)?;
+    }
+    Ok(())
+}
+
+/// What `fwupd inspect` prints of a package.
+///
+/// # Errors
+/// Memory was refused.
+fn inspection(alloc: Global, contents: &Package<'_>) -> Result<Vec<u8>, AllocError>
+    ensures { IfOk result (λ text. text.items ≡ inspect_of contents.now) }
+{
+    let mut text = Vec::new(alloc);
+    push_package(alloc, &mut text, contents)?;
+    push_records(alloc, &mut text, contents.records())?;
+    push_components(alloc, &mut text, contents.components())?;
+    Ok(text)
+}
+
+/// Why a package isn't inspected.
+#[derive(Clone, Copy, PartialEq, Eq)]
+pub enum InspectFault {
+    /// The bytes are no package.
+    Package(PackageFault),
+    /// Memory was refused.
+    Memory,
+}
+
+/// Inspects a firmware package: what its records name, and its components, a line each.
+///
+/// # Errors
+/// Bytes that are no package are refused by the first fault that holds; `Memory` only where memory was refused.
+pub fn inspect(alloc: Global, bytes: &[u8]) -> Result<Vec<u8>, InspectFault>
+    ensures text { IfOk result (λ text. result_map_both inspect_of (λ e. e) (package_of bytes.now) ≡ Ok text.items) }
+    ensures fault { IfErr result (λ e. e ≢ InspectFault.Memory → result_map_both (λ p. p) InspectFault.Package (package_of bytes.now) ≡ Err e) }
+{
+    let contents = match Package::read(bytes) {
+        Ok(contents) => contents,
+        Err(fault) => return Err(InspectFault::Package(fault)),
+    };
+    let Ok(text) = inspection(alloc, &contents) else {
+        return Err(InspectFault::Memory);
+    };
+    Ok(text)
+}

@@ -1,0 +1,14 @@
+//! What stands on no world: the answers to packets, line by line, and the text of a package.
+#![tactic(auto)]
+
+mod drops;
+mod inspection;
+mod responder;
+mod retries;
+mod stream;
+mod text;
+
+pub use drops::DropCause;
+pub use inspection::{InspectFault, inspect};
+pub use retries::{read_some, write_whole};
+pub use stream::{AnswerFault, answer_stream};

@@ -1,0 +1,139 @@
+//! An endpoint without a device behind it: what it answers to a packet.
+
+ghost use Rattle.std.specs.Prelude.{◌≡◌, ◌<◌, ◌≤◌, [], ◌∷◌, length};
+ghost use Rattle.std.specs.Result.{result_map_both};
+ghost use Rattle.mctp_wire.specs.Packet.{packet_of};
+ghost use Rattle.pldm_base.specs.declared.header.PldmHead.{PldmHead};
+ghost use Rattle.pldm_base.specs.Header.{pldm_of};
+ghost use Rattle.fwupd_base.specs.Answers.{answered, body_reply, completion_of, packet_reply, pldm_reply, tid_left, wire_reply};
+
+use crate::drops::DropCause;
+use mctp_ctl::{CONTROL, Endpoint};
+use mctp_wire::{Head, RawPacket};
+use pldm_base::{
+    MESSAGE_TYPE, PldmHead, Reply, Role, TYPE_BASE, TYPE_FIRMWARE_UPDATE, Tid, answer_base,
+    completion,
+};
+
+/// An MCTP endpoint and PLDM terminus that holds no firmware device.
+#[derive(Clone, Copy)]
+pub struct Responder {
+    /// Its identifier and UUID.
+    pub endpoint: Endpoint,
+    /// Its terminus identifier, which SetTID sets.
+    pub tid: Tid,
+}
+
+impl Responder {
+    /// Answers a packet that holds a whole request, by a packet.
+    ///
+    /// # Errors
+    /// A packet that gets no answer is dropped for the first cause that holds; the terminus keeps its identifier.
+    pub fn answer(&mut self, bytes: &[u8]) -> Result<RawPacket, DropCause>
+        ensures reply { result_map_both (λ p. p.items) (λ e. e) result ≡ (wire_reply self.old.endpoint self.old.tid (packet_of bytes.now)).reply }
+        ensures after { self.new ≡ record self.old { tid = (wire_reply self.old.endpoint self.old.tid (packet_of bytes.now)).tid } }
+    {
+        let packet = mctp_wire::decode(bytes).map_err(DropCause::Wire)?;
+        self.answer_packet(&packet.head, packet.body)
+    }
+
+    /// Answers a packet of this head and body, if it is a whole request to this endpoint.
+    fn answer_packet(&mut self, head: &Head, body: &[u8]) -> Result<RawPacket, DropCause>
+        requires { head.now.tag < 8 }
+        ensures reply { result_map_both (λ p. p.items) (λ e. e) result ≡ (packet_reply self.old.endpoint self.old.tid head.now body.now).reply }
+        ensures after { self.new ≡ record self.old { tid = (packet_reply self.old.endpoint self.old.tid head.now body.now).tid } }
+    {
+        if head.dest != self.endpoint.eid {
+            return Err(DropCause::Destination);
+        }
+        if !(head.som && head.eom) {
+            return Err(DropCause::NotWhole);
+        }
+        if head.seq != 0 {
+            return Err(DropCause::StartNumber);
+        }
+        if !head.to {
+            return Err(DropCause::NotRequest);
+        }
+        self.answer_message(head, body)
+    }
+
+    /// Answers a message that came under this head, by its type.
+    fn answer_message(&mut self, head: &Head, message: &[u8]) -> Result<RawPacket, DropCause>
+        requires { head.now.tag < 8 }
+        ensures reply { result_map_both (λ p. p.items) (λ e. e) result ≡ (body_reply self.old.endpoint head.now self.old.tid message.now).reply }
+        ensures after { self.new ≡ record self.old { tid = (body_reply self.old.endpoint head.now self.old.tid message.now).tid } }
+    {
+        match message {
+            [CONTROL, ..] => match mctp_ctl::answer(&self.endpoint, message) {
+                Some(answer) => Ok(self.packet(head, answer.as_slice())),
+                None => Err(DropCause::Message),
+            },
+            [MESSAGE_TYPE, ..] => self.answer_pldm(head, message),
+            _ => Err(DropCause::Kind),
+        }
+    }
+
+    /// Answers a PLDM message.
+    fn answer_pldm(&mut self, head: &Head, message: &[u8]) -> Result<RawPacket, DropCause>
+        requires { head.now.tag < 8 }
+        ensures reply { result_map_both (λ p. p.items) (λ e. e) result ≡ (pldm_reply self.old.endpoint head.now self.old.tid (pldm_of message.now)).reply }
+        ensures after { self.new ≡ record self.old { tid = (pldm_reply self.old.endpoint head.now self.old.tid (pldm_of message.now)).tid } }
+    {
+        let Ok((request, fields)) = pldm_base::decode(message) else {
+            return Err(DropCause::Message);
+        };
+        if !request.rq {
+            return Err(DropCause::Message);
+        }
+        let completion = self.complete(&request, fields);
+        let answering = PldmHead {
+            rq: false,
+            ..request
+        };
+        let answer = pldm_base::encode(&answering, completion.as_slice());
+        Ok(self.packet(head, answer.as_slice()))
+    }
+
+    /// The code and fields that answer a PLDM request.
+    fn complete(&mut self, request: &PldmHead, fields: &[u8]) -> Reply
+        ensures reply { result.items ≡ completion_of self.old.tid request.now fields.now }
+        ensures one_packet { length result.items ≤ 60 }
+        ensures after { self.new ≡ record self.old { tid = tid_left self.old.tid request.now fields.now } }
+    {
+        match request.pldm_type {
+            TYPE_BASE => answer_base(&mut self.tid, Role::Device, request.command, fields),
+            TYPE_FIRMWARE_UPDATE => code_alone(completion::ERROR_NOT_READY),
+            _ => code_alone(completion::ERROR_INVALID_PLDM_TYPE),
+        }
+    }
+
+    /// The packet that carries an answer to a packet with this head.
+    fn packet(&self, head: &Head, answer: &[u8]) -> RawPacket
+        requires head { head.now.tag < 8 }
+        requires answer { (1 ≤ length answer.now) × (length answer.now ≤ 64) }
+        ensures { Ok result.items ≡ (answered self.now.endpoint head.now self.now.tid answer.now).reply }
+    {
+        let head = Head {
+            dest: head.source,
+            source: self.endpoint.eid,
+            som: true,
+            eom: true,
+            seq: 0,
+            to: false,
+            tag: head.tag,
+        };
+        let mut packet = RawPacket::new();
+        mctp_wire::encode(&head, answer, &mut packet);
+        packet
+    }
+}
+
+/// An answer that ends at its code.
+fn code_alone(code: u8) -> Reply
+    ensures { result.items ≡ code ∷ [] }
+{
+    let mut reply = Reply::new();
+    reply.push(code);
+    reply
+}

@@ -1,0 +1,204 @@
+//! Lines in, answers out: the engine of `fwupd answer`.
+
+ghost use Rattle.std.specs.Prelude.{◌≡◌, ◌≢◌, ◌≤◌, ◌+◌, ◌*◌, ◌++◌, List, ℕ, Option, length, vec_capacity, IfErr, IfSome, OnErr, OnOk};
+ghost use Rattle.std.specs.Io.KnownBytes.{Appends, Keeps};
+ghost use Rattle.fwupd_base.specs.Answers.{answers_of, endpoint_of, printed, tid_left_by};
+ghost use Rattle.fwupd_base.specs.Stream.{Begins, Broken, BrokenOff, Stands, Stopped};
+
+use crate::responder::Responder;
+use crate::retries::{read_some, write_whole};
+use crate::text;
+use mctp_ctl::Endpoint;
+use pldm_base::Tid;
+use std::alloc::Global;
+use std::io::{Read, Write};
+use thiserror::Error;
+use uuid::Uuid;
+
+/// The most bytes that one run reads, so that it returns whatever the reader gives.
+const LIMIT: usize = 16_777_216;
+
+/// The most bytes that are asked for at once.
+const PIECE: usize = 65_536;
+
+/// Why a run of answers stopped.
+#[derive(Clone, Copy, Debug, PartialEq, Eq, Error)]
+pub enum AnswerFault {
+    /// The reader failed, or gave more bytes than a run reads.
+    #[error("input")]
+    Read,
+    /// The writer failed.
+    #[error("output")]
+    Write,
+    /// There was no memory for a line.
+    #[error("memory")]
+    Memory,
+}
+
+/// Writes the answer to one line.
+fn write_answer<W: Write>(
+    responder: &mut Responder,
+    digits: &[u8],
+    bytes: &mut Vec<u8>,
+    writer: &mut W,
+) -> Result<(), AnswerFault>
+    requires room { length digits.now ≤ 2 * vec_capacity bytes.old }
+    ensures ok { OnOk result (Appends (W.contents writer.old) (W.contents writer.new) (printed responder.old.endpoint responder.old.tid digits.now)) }
+    ensures after { responder.new ≡ record responder.old { tid = tid_left_by responder.old.endpoint responder.old.tid digits.now } }
+    ensures fault { IfErr result (λ e. (e ≡ AnswerFault.Write) × Begins (W.contents writer.old) (W.contents writer.new) (printed responder.old.endpoint responder.old.tid digits.now)) }
+    ensures capacity { vec_capacity bytes.old ≤ vec_capacity bytes.new }
+{
+    let line = text::answer_line(responder, digits, bytes);
+    write_whole(writer, line.as_slice())
+}
+
+/// Answers the lines that end in a piece of what was read, and holds what follows them.
+fn answer_piece<W: Write>(
+    responder: &mut Responder,
+    held: &mut Vec<u8>,
+    piece: &[u8],
+    bytes: &mut Vec<u8>,
+    writer: &mut W,
+) -> Result<(), AnswerFault>
+    requires holds { length held.old.items + length piece.now ≤ vec_capacity held.old }
+    requires decodes { length held.old.items + length piece.now ≤ 2 * vec_capacity bytes.old }
+    ensures endpoint { responder.new.endpoint ≡ responder.old.endpoint }
+    ensures ok { (text : List ℕ) (before : Option (List ℕ)) → Stands responder.old.endpoint responder.old.tid text before (W.contents writer.old) held.old.items
+        → OnOk result (Stands responder.old.endpoint responder.new.tid (text ++ piece.now) before (W.contents writer.new) held.new.items) }
+    ensures fault { IfErr result (λ e. e ≡ AnswerFault.Write) }
+    ensures broken { (text : List ℕ) (before : Option (List ℕ)) → Stands responder.old.endpoint responder.old.tid text before (W.contents writer.old) held.old.items
+        → OnErr result (BrokenOff responder.old.endpoint (text ++ piece.now) before (W.contents writer.new)) }
+{
+    for byte in piece {
+        if *byte == b'\n' {
+            match write_answer(responder, held, bytes, writer) {
+                Ok(()) => held.clear(),
+                Err(fault) => return Err(fault),
+            }
+        } else {
+            let _ = held.push(*byte);
+        }
+    }
+    Ok(())
+}
+
+/// Flushes what was written.
+fn flush<W: Write>(writer: &mut W) -> Result<(), AnswerFault>
+    ensures kept { Keeps (W.contents writer.old) (W.contents writer.new) }
+    ensures fault { IfErr result (λ e. e ≡ AnswerFault.Write) }
+{
+    match writer.flush() {
+        Ok(()) => Ok(()),
+        Err(_) => Err(AnswerFault::Write),
+    }
+}
+
+/// Makes room, before so many bytes are read, for them and for the bytes that the digits held then spell.
+fn make_room(held: &mut Vec<u8>, bytes: &mut Vec<u8>, most: usize) -> Result<(), AnswerFault>
+    ensures same { held.new.items ≡ held.old.items }
+    ensures holds { OnOk result (length held.new.items + most ≤ vec_capacity held.new) }
+    ensures decodes { OnOk result (length held.new.items + most ≤ 2 * vec_capacity bytes.new) }
+    ensures fault { IfErr result (λ e. e ≡ AnswerFault.Memory) }
+{
+    let Ok(()) = held.reserve(most) else {
+        return Err(AnswerFault::Memory);
+    };
+    bytes.clear();
+    let Ok(()) = bytes.reserve((held.len() + most) / 2 + 1) else {
+        return Err(AnswerFault::Memory);
+    };
+    Ok(())
+}
+
+/// Answers what follows the last line feed: a line, unless it is empty.
+fn finish<W: Write>(
+    responder: &mut Responder,
+    held: &[u8],
+    bytes: &mut Vec<u8>,
+    writer: &mut W,
+) -> Result<(), AnswerFault>
+    requires decodes { length held.now ≤ 2 * vec_capacity bytes.old }
+    ensures ok { (text : List ℕ) (before : Option (List ℕ)) → Stands responder.old.endpoint responder.old.tid text before (W.contents writer.old) held.now
+        → OnOk result (Appends before (W.contents writer.new) (answers_of responder.old.endpoint text)) }
+    ensures fault { IfErr result (λ e. e ≡ AnswerFault.Write) }
+    ensures broken { (text : List ℕ) (before : Option (List ℕ)) → Stands responder.old.endpoint responder.old.tid text before (W.contents writer.old) held.now
+        → OnErr result (BrokenOff responder.old.endpoint text before (W.contents writer.new)) }
+{
+    if held.is_empty() {
+        return Ok(());
+    }
+    match write_answer(responder, held, bytes, writer) {
+        Ok(()) => flush(writer),
+        Err(fault) => Err(fault),
+    }
+}
+
+/// Reads lines of hexadecimal digits and writes one line for each: the packet by which an endpoint without a device
+/// answers the packet that the line spells, or why it doesn't answer. A line feed ends a line; what follows the last
+/// one is a line too, unless it is empty. The terminus identifier is kept from line to line; at first it is 0.
+///
+/// All whole lines of what one read gave are answered, and the answers flushed, before the next read: a partner over a
+/// pipe never waits for an answer to a line that it has sent. Work is linear in the input. Reads and writes that are
+/// interrupted are tried again.
+///
+/// # Errors
+/// - `Read` where the reader failed, and at the first byte past 16,777,216;
+/// - `Memory` where there was none for a line; in both cases each whole line before is answered, and nothing else;
+/// - `Write` where the writer failed: the lines before are answered, and a beginning of the answer to the next.
+pub fn answer_stream<R: Read, W: Write>(
+    alloc: Global,
+    reader: &mut R,
+    writer: &mut W,
+    eid: u8,
+    uuid: Uuid,
+) -> Result<(), AnswerFault>
+    ensures ok { OnOk result (IfSome (R.remaining reader.old) (λ text.
+        Appends (W.contents writer.old) (W.contents writer.new) (answers_of (endpoint_of eid uuid) text))) }
+    ensures within { OnOk result (IfSome (R.remaining reader.old) (λ text. length text ≤ 16777216)) }
+    ensures stopped { IfErr result (λ e. e ≢ AnswerFault.Write →
+        Stopped (endpoint_of eid uuid) e (R.remaining reader.old) (R.remaining reader.new) (W.contents writer.old) (W.contents writer.new)) }
+    ensures broken { IfErr result (λ e. e ≡ AnswerFault.Write →
+        Broken (endpoint_of eid uuid) (R.remaining reader.old) (R.remaining reader.new) (W.contents writer.old) (W.contents writer.new)) }
+{
+    let mut responder = Responder {
+        endpoint: Endpoint { eid, uuid },
+        tid: Tid::unassigned(),
+    };
+    let mut held: Vec<u8> = Vec::new(alloc);
+    let mut bytes: Vec<u8> = Vec::new(alloc);
+    let mut storage: Vec<u8> = Vec::new(alloc);
+    let Ok(()) = storage.resize(PIECE, 0) else {
+        return Err(AnswerFault::Memory);
+    };
+    let buffer = storage.as_mut_slice();
+    let mut count = 0;
+    while count <= LIMIT {
+        let most = PIECE.min(LIMIT + 1 - count);
+        match make_room(&mut held, &mut bytes, most) {
+            Ok(()) => {}
+            Err(fault) => return Err(fault),
+        }
+        let read = match read_some(reader, buffer, most) {
+            Ok(0) => return finish(&mut responder, &held, &mut bytes, writer),
+            Ok(read) => read,
+            Err(fault) => return Err(fault),
+        };
+        let within = read.min(LIMIT - count);
+        match answer_piece(
+            &mut responder,
+            &mut held,
+            &buffer[..within],
+            &mut bytes,
+            writer,
+        ) {
+            Ok(()) => {}
+            Err(fault) => return Err(fault),
+        }
+        match flush(writer) {
+            Ok(()) => {}
+            Err(fault) => return Err(fault),
+        }
+        count += read;
+    }
+    Err(AnswerFault::Read)
+}

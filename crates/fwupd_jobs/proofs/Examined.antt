@@ -1,0 +1,42 @@
+-- What is told of a package in a file.
+use Rattle.std.proofs.Common.{◌≡◌, ◌≢◌, ◌⊎◌, ℕ, List, Result, Ok, Err, inl, inr, refl, sym, ap, subst}
+use Rattle.std.specs.Result.{result_map_both}
+use Rattle.fw_package.specs.Package.{PackageText}
+use Rattle.fw_package.specs.Reading.{package_of}
+use Rattle.fw_package.specs.declared.fault.PackageFault.{PackageFault}
+use Rattle.fwupd_jobs.specs.Inspected.{BreaksInspection, InspectEnds, Inspects, told_as}
+use Rattle.fwupd_base.specs.Inspection.{inspect_of}
+use Rattle.fwupd_jobs.specs.Outputs.{FailsToPrint, OutputOf, Prints}
+use Rattle.fwupd_jobs.specs.Setups.{FileOf, IsNone, MayHold, PackageFails}
+use Rattle.fwupd_jobs.specs.declared.faults.RunFault.{RunFault}
+use Rattle.fwupd_jobs.specs.declared.faults.RunFault.TheVariants as faults
+use Rattle.fwupd_base.specs.declared.inspection.InspectFault.{InspectFault}
+use Rattle.fwupd_base.specs.declared.inspection.InspectFault.TheVariants as inspected
+
+-- it isn't one
+refused : (r : Result PackageText PackageFault) (f : PackageFault) → result_map_both (λ p. p) inspected.Package r ≡ Err (inspected.Package f) → r ≡ Err f
+refused (Ok p) f e = absurd cc
+refused (Err g) f e = ap Err (let same : Err (inspected.Package g) ≡ Err (inspected.Package f) = e in cc)
+
+pub inspection_fails : (files : List ℕ → FileOf) (path bytes : List ℕ) (fault : InspectFault) (told : RunFault) → MayHold (files path) bytes → told ≡ told_as fault
+    → (fault ≢ inspected.Memory → result_map_both (λ p. p) inspected.Package (package_of bytes) ≡ Err fault) → (told ≡ faults.Memory) ⊎ PackageFails files path told
+inspection_fails files path bytes inspected.Memory told held e first = inl e
+inspection_fails files path bytes (inspected.Package f) told held e first =
+    inr (inr (subst (IsNone (files path)) (sym e) (record { bytes = bytes; held = held; is = refused (package_of bytes) f (first (λ h. cc)) })))
+
+-- it is
+read : (r : Result PackageText PackageFault) (text : List ℕ) → result_map_both inspect_of (λ e. e) r ≡ Ok text → (p : PackageText) × (r ≡ Ok p) × (text ≡ inspect_of p)
+read (Ok p) text e = (p, refl, (let same : Ok (inspect_of p) ≡ Ok text = e in cc))
+read (Err f) text e = absurd cc
+
+pub inspects : (file : FileOf) (bytes text : List ℕ) (before now : OutputOf) → MayHold file bytes → result_map_both inspect_of (λ e. e) (package_of bytes) ≡ Ok text → Prints before now text
+    → Inspects file before now
+inspects file bytes text before now held is written =
+    let found = read (package_of bytes) text is in
+    record { contents = found.0; is = record { bytes = bytes; held = held; is = found.1 }; written = subst (Prints before now) found.2 written }
+
+pub breaks : (file : FileOf) (bytes text : List ℕ) (told : RunFault) (before now : OutputOf) → told ≡ faults.Output → MayHold file bytes → result_map_both inspect_of (λ e. e) (package_of bytes) ≡ Ok text → FailsToPrint before now text
+    → BreaksInspection file told before now
+breaks file bytes text told before now e held is begun =
+    let found = read (package_of bytes) text is in
+    record { is = e; contents = found.0; read = record { bytes = bytes; held = held; is = found.1 }; begun = subst (FailsToPrint before now) found.2 begun }

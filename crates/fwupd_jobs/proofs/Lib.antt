@@ -1,0 +1,5 @@
+mod Examined
+mod Making
+mod Packed
+mod Started
+mod Told

@@ -1,0 +1,203 @@
+-- Files that are read one after the other.
+use Rattle.std.proofs.Common.{◌≡◌, ◌≢◌, ◌<◌, ◌+◌, ◌++◌, ◌⊎◌, ◌∙◌, ℕ, suc, List, [], ◌∷◌, false, true, Result, Ok, Err, IsOk, inl, inr, length, map, take, get_or, Vec, String, Global, refl, sym, ap, subst, arith}
+use Rattle.std.specs.Prelude.{drop, string_bytes}
+use Rattle.std.proofs.Math.Seq.{split_at, take-suc}
+use Rattle.std.proofs.lemmas.List.{map-append}
+use Rattle.std.specs.List.{AllByRecursion}
+use Rattle.fw_package.specs.Package.{PackageText}
+use Rattle.fw_package.specs.Reading.{package_of}
+use Rattle.fw_package.specs.declared.fault.PackageFault.{PackageFault}
+use Rattle.fw_node.specs.Nodes.{DeviceNodeOf}
+use Rattle.fw_script.specs.Configs.{config_of}
+use Rattle.fw_script.specs.Seen.{config_seen, device_of}
+use Rattle.fw_script.specs.declared.config.Config.{Config}
+use Rattle.fw_script.specs.declared.faults.ScriptCause.TheVariants as causes
+use Rattle.fw_script.specs.declared.faults.ScriptFault.{ScriptFault}
+use Rattle.fw_world.specs.Replays.{new_world}
+use Rattle.fw_world.specs.Worlds.{WorldOf}
+use Rattle.fwupd_jobs.specs.Nodes.{nodes_made}
+use Rattle.fwupd_jobs.specs.Running.{IsNamed}
+use Rattle.fwupd_jobs.specs.Setups.{ArePackages, ArePacked, FileOf, IsPacked, IsSetup, IsUnreadable, IsUnsaid, MayHold, NamesNone, PackageFails, PackagesFail, Says, TextFails, TextFault}
+use Rattle.fwupd_jobs.specs.declared.faults.RunFault.{RunFault}
+use Rattle.fwupd_jobs.specs.declared.faults.RunFault.TheVariants as faults
+use Rattle.fwupd_jobs.specs.declared.files.FileFault.{FileFault}
+use Rattle.fwupd_jobs.specs.declared.files.FileFault.TheVariants as unread
+
+-- the fault that is told of a text is its first
+pub unsaid_so : {A : Type 0} (read : List ℕ → Result A ScriptFault) (path text : List ℕ) (file : FileOf) (fault : ScriptFault) (told : RunFault)
+    → TextFault path fault told → MayHold file text → (fault.cause ≢ causes.Memory → read text ≡ Err fault) → IsUnsaid read path file told
+unsaid_so read path text file fault (faults.Answer f) h held is = absurd h
+unsaid_so read path text file fault (faults.Unreadable name) h held is = absurd h
+unsaid_so read path text file fault (faults.Package f) h held is = absurd h
+unsaid_so read path text file fault (faults.Text name told) h held is =
+    (h.0, record { text = text; held = held; is = is h.2 ∙ ap Err (sym h.1) })
+unsaid_so read path text file fault (faults.Step n f) h held is = absurd h
+unsaid_so read path text file fault faults.NoPackage h held is = absurd h
+unsaid_so read path text file fault (faults.Socket device) h held is = absurd h
+unsaid_so read path text file fault faults.Trace h held is = absurd h
+unsaid_so read path text file fault (faults.Edge f) h held is = absurd h
+unsaid_so read path text file fault faults.Output h held is = absurd h
+unsaid_so read path text file fault faults.Memory h held is = absurd h
+
+-- a file that isn't read
+pub unread_text : {A : Type 0} (read : List ℕ → Result A ScriptFault) (files : List ℕ → FileOf) (path : List ℕ) (fault : FileFault) (told : RunFault)
+    → (told ≡ faults.Memory) ⊎ ((fault ≡ unread.Unreadable) × IsUnreadable path told) → (fault ≡ unread.Unreadable → (files path).may_fail ≡ true)
+    → (told ≡ faults.Memory) ⊎ TextFails read files path told
+unread_text read files path fault told (inl e) fails = inl e
+unread_text read files path fault told (inr h) fails = inr (inl (h.1, fails h.0))
+
+pub unread_package : (files : List ℕ → FileOf) (path : List ℕ) (fault : FileFault) (told : RunFault) → (told ≡ faults.Memory) ⊎ ((fault ≡ unread.Unreadable) × IsUnreadable path told)
+    → (fault ≡ unread.Unreadable → (files path).may_fail ≡ true) → (told ≡ faults.Memory) ⊎ PackageFails files path told
+unread_package files path fault told (inl e) fails = inl e
+unread_package files path fault told (inr h) fails = inr (inl (h.1, fails h.0))
+
+-- one more file is a package
+pub packed_more : (files : List ℕ → FileOf) (paths contents : List (List ℕ)) (path bytes : List ℕ) → ArePacked files paths contents → IsPacked (files path) bytes
+    → ArePacked files (paths ++ path ∷ []) (contents ++ bytes ∷ [])
+packed_more files [] [] path bytes h k = (k, tt)
+packed_more files [] (c ∷ cs) path bytes h k = absurd h
+packed_more files (p ∷ ps) [] path bytes h k = absurd h
+packed_more files (p ∷ ps) (c ∷ cs) path bytes h k = (h.0, packed_more files ps cs path bytes h.1 k)
+
+-- each of the files is one
+pub packed_each : (files : List ℕ → FileOf) (paths contents : List (List ℕ)) → ArePacked files paths contents → AllByRecursion (λ b. IsOk (package_of b)) contents
+packed_each files [] [] h = tt
+packed_each files [] (c ∷ cs) h = absurd h
+packed_each files (p ∷ ps) [] h = absurd h
+packed_each files (p ∷ ps) (c ∷ cs) h = (h.0.is, packed_each files ps cs h.1)
+
+-- they are these
+head_is : {A : Type 0} (x y : A) (xs ys : List A) → x ∷ xs ≡ y ∷ ys → x ≡ y
+head_is x y xs ys e = cc
+
+tail_is : {A : Type 0} (x y : A) (xs ys : List A) → x ∷ xs ≡ y ∷ ys → xs ≡ ys
+tail_is x y xs ys e = cc
+
+pub packages_so : (files : List ℕ → FileOf) (paths contents : List (List ℕ)) (ps : List PackageText) → ArePacked files paths contents
+    → map (λ p. Ok p) ps ≡ map package_of contents → ArePackages files paths ps
+packages_so files [] [] [] h e = tt
+packages_so files [] [] (p ∷ ps) h e = absurd cc
+packages_so files [] (c ∷ cs) ps h e = absurd h
+packages_so files (path ∷ paths) [] ps h e = absurd h
+packages_so files (path ∷ paths) (c ∷ cs) [] h e = absurd cc
+packages_so files (path ∷ paths) (c ∷ cs) (p ∷ ps) h e = (
+  record { bytes = c; held = h.0.held; is = sym (head_is (Ok p) (package_of c) (map (λ q. Ok q) ps) (map package_of cs) e) },
+  packages_so files paths cs ps h.1 (tail_is (Ok p) (package_of c) (map (λ q. Ok q) ps) (map package_of cs) e),
+)
+
+-- there are such packages
+a_package : (r : Result PackageText PackageFault) → IsOk r → (p : PackageText) × (r ≡ Ok p)
+a_package (Ok p) h = (p, refl)
+a_package (Err fault) h = absurd (let e : false ≡ true = h in cc)
+
+pub packages_there : (files : List ℕ → FileOf) (paths contents : List (List ℕ)) → ArePacked files paths contents → (ps : List PackageText) × ArePackages files paths ps
+packages_there files [] [] h = ([], tt)
+packages_there files [] (c ∷ cs) h = absurd h
+packages_there files (path ∷ paths) [] h = absurd h
+packages_there files (path ∷ paths) (c ∷ cs) h =
+    let found = a_package (package_of c) h.0.is in
+    let rest = packages_there files paths cs h.1 in
+    (found.0 ∷ rest.0, (record { bytes = c; held = h.0.held; is = found.1 }, rest.1))
+
+-- the first that isn't one
+pub fails_there : (files : List ℕ → FileOf) (paths before after contents : List (List ℕ)) (path : List ℕ) (told : RunFault)
+    → paths ≡ before ++ path ∷ after → ArePacked files before contents → PackageFails files path told → PackagesFail files paths told
+fails_there files paths before after contents path told e h fails =
+    let there = packages_there files before contents h in
+    record { before = before; path = path; after = after; packages = there.0; is = e; read = there.1; fails = fails }
+
+-- where the paths are texts
+pub packed_next : (files : List ℕ → FileOf) (paths : List (String Global)) (i : ℕ) (p : String Global) (name : List ℕ) (contents after : List (Vec ℕ Global)) (more : Vec ℕ Global)
+    → i < length paths → p ≡ get_or paths i p → name ≡ string_bytes p → after ≡ contents ++ more ∷ []
+    → ArePacked files (map (λ q. string_bytes q) (take i paths)) (map (λ f. f.items) contents) → IsPacked (files name) more.items
+    → ArePacked files (map (λ q. string_bytes q) (take (i + 1) paths)) (map (λ f. f.items) after)
+packed_next files paths i p name contents after more lt is called e h k =
+    let next : suc i ≡ i + 1 = omega arith in
+    let taken : take (i + 1) paths ≡ take i paths ++ p ∷ [] = ap (λ n. take n paths) (sym next) ∙ take-suc paths i p lt ∙ ap (λ q. take i paths ++ q ∷ []) (sym is) in
+    subst (λ qs. ArePacked files (map (λ q. string_bytes q) qs) (map (λ f. f.items) after)) (sym taken)
+    (subst (λ fs. ArePacked files (map (λ q. string_bytes q) (take i paths ++ p ∷ [])) (map (λ f. f.items) fs)) (sym e)
+    (subst (λ ns. ArePacked files ns (map (λ f. f.items) (contents ++ more ∷ []))) (sym (map-append (λ q. string_bytes q) (take i paths) (p ∷ [])))
+    (subst (λ fs. ArePacked files (map (λ q. string_bytes q) (take i paths) ++ string_bytes p ∷ []) fs) (sym (map-append (λ f. f.items) contents (more ∷ [])))
+    (packed_more files (map (λ q. string_bytes q) (take i paths)) (map (λ f. f.items) contents) (string_bytes p) more.items h (subst (λ n. IsPacked (files n) more.items) called k)))))
+
+pub fails_at : (files : List ℕ → FileOf) (paths : List (String Global)) (i : ℕ) (p : String Global) (name : List ℕ) (contents : List (List ℕ)) (told : RunFault)
+    → i < length paths → p ≡ get_or paths i p → name ≡ string_bytes p → ArePacked files (map (λ q. string_bytes q) (take i paths)) contents
+    → (told ≡ faults.Memory) ⊎ PackageFails files name told → (told ≡ faults.Memory) ⊎ PackagesFail files (map (λ q. string_bytes q) paths) told
+fails_at files paths i p name contents told lt is called h (inl e) = inl e
+fails_at files paths i p name contents told lt is called h (inr f) =
+    let split : paths ≡ take i paths ++ p ∷ drop (suc i) paths = split_at paths i p lt ∙ ap (λ q. take i paths ++ q ∷ drop (suc i) paths) (sym is) in
+    inr (fails_there files (map (λ q. string_bytes q) paths) (map (λ q. string_bytes q) (take i paths)) (map (λ q. string_bytes q) (drop (suc i) paths)) contents (string_bytes p) told
+    (ap (map (λ q. string_bytes q)) split ∙ map-append (λ q. string_bytes q) (take i paths) (p ∷ drop (suc i) paths)) h
+    (subst (λ n. PackageFails files n told) called f))
+
+-- the bytes of the files, as vectors
+through : (fs : List (Vec ℕ Global)) → map (λ f. package_of f.items) fs ≡ map package_of (map (λ f. f.items) fs)
+through [] = refl
+through (f ∷ fs) = ap (λ rs. package_of f.items ∷ rs) (through fs)
+
+each_through : (fs : List (Vec ℕ Global)) → AllByRecursion (λ b. IsOk (package_of b)) (map (λ f. f.items) fs) → AllByRecursion (λ f. IsOk (package_of f.items)) fs
+each_through [] h = tt
+each_through (f ∷ fs) h = (h.0, each_through fs h.1)
+
+pub packed_slice : (files : List ℕ → FileOf) (names : List (List ℕ)) (contents slice : List (Vec ℕ Global)) → ArePacked files names (map (λ f. f.items) contents) → slice ≡ contents
+    → AllByRecursion (λ f. IsOk (package_of f.items)) slice
+packed_slice files names contents slice h e =
+    subst (λ fs. AllByRecursion (λ f. IsOk (package_of f.items)) fs) (sym e) (each_through contents (packed_each files names (map (λ f. f.items) contents) h))
+
+-- a configuration's file with its packages is a world
+pub set_up : (files : List ℕ → FileOf) (path : List ℕ) (config : Config) (names : List (String Global)) (contents slice : List (Vec ℕ Global)) (ps packs : List PackageText)
+    (nodes : List DeviceNodeOf) (w : WorldOf) → Says config_of (files path) (config_seen config) → names ≡ config.packages.items
+    → ArePacked files (map (λ p. string_bytes p) names) (map (λ f. f.items) contents) → slice ≡ contents → map (λ p. Ok p) ps ≡ map (λ f. package_of f.items) slice
+    → nodes ≡ nodes_made config.agent.eid (map device_of config.devices.items) → packs ≡ ps → w ≡ new_world config.agent nodes packs → IsSetup files path w
+set_up files path config names contents slice ps packs nodes w says named packed same read made lent is = record {
+  config = config_seen config;
+  packages = ps;
+  says = says;
+  are =
+      packages_so files (map (λ p. string_bytes p) config.packages.items) (map (λ f. f.items) contents) ps
+      (subst (λ ns. ArePacked files (map (λ p. string_bytes p) ns) (map (λ f. f.items) contents)) named packed)
+      (read ∙ ap (map (λ f. package_of f.items)) same ∙ through contents);
+  world =
+      is ∙ ap (λ n. new_world config.agent n packs) made
+      ∙ ap (λ q. new_world config.agent (nodes_made config.agent.eid (map device_of config.devices.items)) q) lent;
+}
+
+nothing : {A : Type 0} (xs : List A) → length xs ≡ 0 → xs ≡ []
+nothing [] e = refl
+nothing (x ∷ xs) e = absurd (omega arith)
+
+-- it names no package
+pub names_none : (files : List ℕ → FileOf) (path : List ℕ) (config : Config) → Says config_of (files path) (config_seen config) → config.packages.len ≡ 0 → NamesNone files path
+names_none files path config says none = record {
+  config = config_seen config;
+  says = says;
+  none = ap (map (λ p. string_bytes p)) (nothing config.packages.items (sym config.packages.ok.0 ∙ none));
+}
+
+-- and one that names a package
+some_packages : (files : List ℕ → FileOf) (paths : List (List ℕ)) (ps : List PackageText) → ArePackages files paths ps → paths ≢ [] → ps ≢ []
+some_packages files [] ps h none e = none refl
+some_packages files (path ∷ paths) [] h none e = h
+some_packages files (path ∷ paths) (p ∷ ps) h none e = cc
+
+some_named : (config : Config) → (config.packages.len ≡ 0 → ⊥) → map (λ p. string_bytes p) config.packages.items ≢ []
+some_named config some e = some (config.packages.ok.0 ∙ none config.packages.items e)
+  where
+    none : (xs : List (String Global)) → map (λ p. string_bytes p) xs ≡ [] → length xs ≡ 0
+    none [] h = refl
+    none (x ∷ xs) h = absurd cc
+
+named_up : (files : List ℕ → FileOf) (path : List ℕ) (config : Config) (w : WorldOf) (s : IsSetup files path w) → s.config ≡ config_seen config → (config.packages.len ≡ 0 → ⊥) → IsNamed files path w
+named_up files path config w s is some = record {
+  setup = s;
+  some = λ e.
+      some_packages files s.config.packages s.packages s.are (subst (λ k. k.packages ≢ []) (sym is) (some_named config some)) (sym (ap (λ x. x.packages) s.world) ∙ e);
+}
+
+pub set_up_named : (files : List ℕ → FileOf) (path : List ℕ) (config : Config) (names : List (String Global)) (contents slice : List (Vec ℕ Global)) (ps packs : List PackageText)
+    (nodes : List DeviceNodeOf) (w : WorldOf) → Says config_of (files path) (config_seen config) → names ≡ config.packages.items
+    → ArePacked files (map (λ p. string_bytes p) names) (map (λ f. f.items) contents) → slice ≡ contents → map (λ p. Ok p) ps ≡ map (λ f. package_of f.items) slice
+    → nodes ≡ nodes_made config.agent.eid (map device_of config.devices.items) → packs ≡ ps → w ≡ new_world config.agent nodes packs → (config.packages.len ≡ 0 → ⊥) → IsNamed files path w
+unfolding set_up
+set_up_named files path config names contents slice ps packs nodes w says named packed same read made lent is some =
+    named_up files path config w (set_up files path config names contents slice ps packs nodes w says named packed same read made lent is) refl some

@@ -1,0 +1,172 @@
+-- Updates that are started one by one, and the steps that follow.
+use Rattle.std.proofs.Common.{◌≡◌, ◌⊎◌, ◌+◌, ◌-◌, ◌^◌, ◌++◌, ◌∙◌, ℕ, zero, suc, List, [], ◌∷◌, Some, None, Bool, true, Result, Ok, Err, inl, inr, append_assoc, append-nil, arith, length, map, refl, sym, ap, subst, take}
+use Rattle.std.specs.Prelude.{IfErr, IfSome, Option, option_map, slice_get}
+use Rattle.std.proofs.Math.Seq.{take-length}
+use Rattle.std.proofs.lemmas.List.{map-append}
+use Rattle.std.proofs.lemmas.List.Sums.{sum_by-append}
+use Rattle.fw_edge.specs.Drives.{AreDriven, Drives, tick_in, ticks_in}
+use Rattle.fw_edge.proofs.Going.{driven_append, run_append}
+use Rattle.fw_edge.proofs.Rising.{map_length}
+use Rattle.fw_edge.specs.Ledgers.{packet_counts}
+use Rattle.fw_node.specs.Nodes.{DeviceNodeOf}
+use Rattle.fw_world.specs.Replays.{Leads, Run, may_step}
+use Rattle.fw_world.specs.Worlds.{SiteOf, WorldOf}
+use Rattle.fw_world.specs.declared.step.StepFault.{StepFault}
+use Rattle.fw_world.specs.declared.step.Step.{Step}
+use Rattle.fw_world.specs.declared.step.Step.TheVariants as steps
+use Rattle.fw_edge.specs.declared.driving.EdgeFault.{EdgeFault}
+use Rattle.fw_edge.specs.declared.driving.EdgeFault.TheVariants as edges
+use Rattle.fwupd_jobs.specs.Running.{IsCaused, IsRefusedStart, IsUnlinked, MayEnd, StepsLead, Updates, WatchOf, starts_of, told_by, told_of}
+use Rattle.fwupd_jobs.specs.declared.faults.RunFault.{RunFault}
+use Rattle.fwupd_jobs.specs.declared.faults.RunFault.TheVariants as told
+use Rattle.fwupd_jobs.specs.declared.running.WatchFault.{WatchFault}
+use Rattle.fwupd_jobs.specs.declared.running.WatchFault.TheVariants as watches
+
+take_next : {A : Type 0} (xs : List A) (i : ℕ) (x : A) → slice_get xs i ≡ Some x → take (suc i) xs ≡ take i xs ++ x ∷ []
+take_next [] i x e = absurd cc
+take_next (y ∷ ys) zero x e = ap (λ z. z ∷ []) (let same : Some y ≡ Some x = e in cc)
+take_next (y ∷ ys) (suc i) x e = ap (λ zs. y ∷ zs) (take_next ys i x e)
+
+-- The updates of so many devices are started. A start changes no device.
+pub record Begun (w : WorldOf) (place : ℕ) (v : WorldOf) : Type 0 where
+  pub run : Run w (starts_of (take place w.sites)) v
+  pub same : v.sites ≡ w.sites
+
+pub begun_none : (w : WorldOf) → Begun w 0 w
+begun_none w = record { run = refl; same = refl }
+
+abbrev start_of : SiteOf → Step
+start_of x = steps.Start x.node.endpoint.eid 1
+
+starts_next : (xs : List SiteOf) (place : ℕ) (x : SiteOf) → slice_get xs place ≡ Some x → starts_of (take (suc place) xs) ≡ starts_of (take place xs) ++ start_of x ∷ []
+starts_next xs place x e = ap starts_of (take_next xs place x e) ∙ map-append start_of (take place xs) (x ∷ [])
+
+pub begun_more : (w v u : WorldOf) (place : ℕ) (x : SiteOf) → Begun w place v → slice_get v.sites place ≡ Some x → Leads v (steps.Start x.node.endpoint.eid 1) u → Begun w (place + 1) u
+begun_more w v u place x h e l = record {
+  run =
+      let next : suc place ≡ place + 1 = omega arith in
+      subst (λ ss. Run w ss u) (sym (starts_next w.sites place x (ap (λ xs. slice_get xs place) (sym h.same) ∙ e)) ∙ ap (λ n. starts_of (take n w.sites)) next)
+      (run_append w v u (starts_of (take place w.sites)) (start_of x ∷ []) h.run (u, l, refl));
+  same = ap (λ y. y.sites) l.after ∙ h.same;
+}
+
+-- the device that stands at a place
+node_there : (o : Option SiteOf) (n : DeviceNodeOf) → option_map (λ x. x.node) o ≡ Some n → (x : SiteOf) × (o ≡ Some x) × (x.node ≡ n)
+node_there None n e = absurd cc
+node_there (Some x) n e = (x, refl, (let same : Some x.node ≡ Some n = e in cc))
+
+pub begun_by : (w v u : WorldOf) (place device : ℕ) (n : DeviceNodeOf) → Begun w place v → option_map (λ x. x.node) (slice_get v.sites place) ≡ Some n → device ≡ n.endpoint.eid
+    → Leads v (steps.Start device 1) u → Begun w (place + 1) u
+begun_by w v u place device n h at is l =
+    let there = node_there (slice_get v.sites place) n at in
+    let own : device ≡ there.0.node.endpoint.eid = is ∙ ap (λ m. m.endpoint.eid) (sym there.2) in
+    begun_more w v u place there.0 h there.1 (subst (λ d. Leads v (steps.Start d 1) u) own l)
+
+-- its start isn't allowed
+pub refused_at : (w v : WorldOf) (place device : ℕ) (n : DeviceNodeOf) (fault : StepFault) → Begun w place v → option_map (λ x. x.node) (slice_get v.sites place) ≡ Some n → device ≡ n.endpoint.eid
+    → may_step v (steps.Start device 1) ≡ Some fault → IsRefusedStart w v
+refused_at w v place device n fault h at is refused =
+    let there = node_there (slice_get v.sites place) n at in
+    let own : device ≡ there.0.node.endpoint.eid = is ∙ ap (λ m. m.endpoint.eid) (sym there.2) in
+    record {
+      place = place;
+      site = there.0;
+      at = ap (λ xs. slice_get xs place) (sym h.same) ∙ there.1;
+      begun = h.run;
+      fault = fault;
+      refused = subst (λ d. may_step v (steps.Start d 1) ≡ Some fault) own refused;
+    }
+
+pub begun_all : (w v : WorldOf) (place : ℕ) → Begun w place v → place ≡ length v.sites → Run w (starts_of w.sites) v
+begun_all w v place h e =
+    subst (λ xs. Run w (starts_of xs) v) (ap (λ n. take n w.sites) (e ∙ ap length h.same) ∙ take-length w.sites) h.run
+
+pub begun_reached : (w v : WorldOf) (place : ℕ) → Begun w place v → StepsLead w v
+begun_reached w v place h = record {
+  started = place;
+  steps = [];
+  run = subst (λ ss. Run w ss v) (sym (append-nil (starts_of (take place w.sites)))) h.run;
+  driven = refl;
+  all = inl refl;
+}
+
+-- steps that are taken once all are started
+led : (w v : WorldOf) (ss : List Step) → Run w (starts_of w.sites ++ ss) v → AreDriven ss → StepsLead w v
+led w v ss run driven = record {
+  started = length w.sites;
+  steps = ss;
+  run = subst (λ xs. Run w (starts_of xs ++ ss) v) (sym (take-length w.sites)) run;
+  driven = driven;
+  all = inr refl;
+}
+
+-- no tick has passed
+pub updates_none : (w v : WorldOf) → Run w (starts_of w.sites) v → Updates w v 0
+updates_none w v h = record { steps = []; run = subst (λ ss. Run w ss v) (sym (append-nil (starts_of w.sites))) h; driven = refl; ticks_are = refl }
+
+-- steps are taken over links, with so many ticks
+pub updates_more : (w v u : WorldOf) (ticks more : ℕ) (before after : List Step) → Updates w v ticks → before ≡ [] → Drives v before u after → ticks_in after ≡ ticks_in before + more → Updates w u (ticks + more)
+updates_more w v u ticks more before after h none k counts = record {
+  steps = h.steps ++ k.steps;
+  run =
+      subst (λ ss. Run w ss u) (append_assoc (starts_of w.sites) h.steps k.steps)
+      (run_append w v u (starts_of w.sites ++ h.steps) k.steps h.run k.run);
+  driven = driven_append h.steps k.steps h.driven k.driven;
+  ticks_are =
+      let a : ticks_in h.steps ≡ ticks = h.ticks_are in
+      let all : after ≡ k.steps = k.appended ∙ ap (λ ss. ss ++ k.steps) none in
+      let none_before : ticks_in before ≡ 0 = ap ticks_in none in
+      let b : ticks_in k.steps ≡ more = ap ticks_in (sym all) ∙ counts ∙ omega arith in
+      sum_by-append tick_in h.steps k.steps ∙ omega arith;
+}
+
+-- whatever was done, steps led there
+pub updates_reached : (w v : WorldOf) (ticks : ℕ) → Updates w v ticks → StepsLead w v
+updates_reached w v ticks h = led w v h.steps h.run h.driven
+
+pub updates_off : (w v u : WorldOf) (ticks : ℕ) (before after : List Step) → Updates w v ticks → Drives v before u after → StepsLead w u
+updates_off w v u ticks before after h k =
+    led w u (h.steps ++ k.steps)
+    (subst (λ ss. Run w ss u) (append_assoc (starts_of w.sites) h.steps k.steps)
+    (run_append w v u (starts_of w.sites ++ h.steps) k.steps h.run k.run))
+    (driven_append h.steps k.steps h.driven k.driven)
+
+-- what ends the watch is told otherwise than what ends a turn
+pub watched_apart : (f : WatchFault) (e : EdgeFault) → told_by f ≡ told.Edge e → ⊥
+watched_apart watches.Unwritten e h = cc
+watched_apart watches.Memory e h = cc
+
+pub turned_apart : (e : EdgeFault) → told_of e ≡ told.Trace → ⊥
+turned_apart edges.Frame h = cc
+turned_apart edges.Step h = cc
+turned_apart edges.Memory h = cc
+
+-- what looks on can't be written
+pub unwritten_by : (f : WatchFault) (seen : Option WatchFault) → told_by f ≡ told.Trace → seen ≡ Some f → seen ≡ Some watches.Unwritten
+unwritten_by watches.Unwritten seen e is = is
+unwritten_by watches.Memory seen e is = absurd (let h : told.Memory ≡ told.Trace = e in cc)
+
+-- and its first fault stays
+pub first_still : (r : Result Unit WatchFault) (old new : Option WatchFault) (f : WatchFault) → old ≡ Some f → IfSome old (λ g. r ≡ Err g) → IfErr r (λ g. new ≡ Some g) → new ≡ Some f
+first_still r old new f e first after =
+    let is : r ≡ Err f = subst (λ o. IfSome o (λ g. r ≡ Err g)) e first in
+    subst (λ q. IfErr q (λ g. new ≡ Some g)) is after
+
+-- the cause of an update's end
+pub update_caused : (w v : WorldOf) (fault : RunFault) (watched : WatchOf) → MayEnd fault → (fault ≡ told.Edge edges.Step → IsRefusedStart w v ⊎ (v.now ≡ 2 ^ 32 - 1))
+    → (fault ≡ told.Trace → watched.fault ≡ Some watches.Unwritten) → watched.has_ended ≡ true → (fault ≡ told.Memory) ⊎ IsCaused w v fault watched
+update_caused w v fault watched (inl e) step unwritten ended = inl e
+update_caused w v fault watched (inr b) step unwritten ended = inr (record { broken = b; stopped = step; unwritten = unwritten; let_end = ended })
+
+-- a device to which no link is opened
+pub unlinked_at : (w : WorldOf) (lacks : ℕ → Bool) (place device : ℕ) (n : DeviceNodeOf) (fault : RunFault) → option_map (λ x. x.node) (slice_get w.sites place) ≡ Some n → device ≡ n.endpoint.eid
+    → (fault ≡ told.Memory) ⊎ ((fault ≡ told.Socket device) × (lacks device ≡ true)) → (fault ≡ told.Memory) ⊎ IsUnlinked w lacks fault
+unlinked_at w lacks place device n fault at is (inl e) = inl e
+unlinked_at w lacks place device n fault at is (inr h) =
+    let there = node_there (slice_get w.sites place) n at in
+    let own : device ≡ there.0.node.endpoint.eid = is ∙ ap (λ m. m.endpoint.eid) (sym there.2) in
+    inr (record { place = place; site = there.0; at = there.1; is = h.0 ∙ ap (λ d. told.Socket d) own; lacking = subst (λ d. lacks d ≡ true) own h.1 })
+
+-- as many counts as there are links, one a pair
+pub counted_alike : {A : Type 0} (sites : List SiteOf) (f : A → ℕ) (xs : List A) → length xs ≡ length sites → length (packet_counts sites) ≡ length (map f xs)
+counted_alike sites f xs e = map_length (λ x. length x.packets) sites ∙ sym e ∙ sym (map_length f xs)

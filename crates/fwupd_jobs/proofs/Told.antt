@@ -1,0 +1,90 @@
+-- What is told of a job on a world.
+use Rattle.std.proofs.Common.{◌++◌, take, ◌≡◌, ◌⊎◌, ◌<◌, ◌+◌, ℕ, Bool, List, Option, None, Some, inl, inr, length, refl, ap, subst}
+use Rattle.fw_script.specs.Reports.{report_of}
+use Rattle.fw_script.specs.Schedules.{script_of}
+use Rattle.fw_world.specs.Replays.{IsOpeningWorld}
+use Rattle.fw_world.specs.Safety.{IsSafeWorld, WorldsAreSafe}
+use Rattle.fw_world.specs.Worlds.{WorldOf}
+use Rattle.fw_world.specs.declared.step.Step.{Step}
+use Rattle.fw_world.specs.declared.step.StepFault.{StepFault}
+use Rattle.fwupd_jobs.specs.Replayed.{IsReplayed, IsReport, Leaves, ReplayEnds, Reports}
+use Rattle.fwupd_jobs.specs.Outputs.{FailsToPrint, OutputOf, Prints}
+use Rattle.fwupd_jobs.specs.Promises.{IsSafeSince}
+use Rattle.fwupd_jobs.specs.Running.{DrivingEnds, IsNamed, IsUnlinked, LacksLink, StepsLead, UpdateEnds, WatchOf, starts_of}
+use Rattle.fwupd_jobs.specs.Setups.{FileOf, IsSetup, NamesNone, Says, SetupFails, TextFails}
+use Rattle.fwupd_jobs.specs.declared.faults.RunFault.{RunFault}
+use Rattle.fwupd_jobs.specs.declared.faults.RunFault.TheVariants as faults
+
+-- the world that steps lead to is safe
+pub safe_reached : (w v : WorldOf) → WorldsAreSafe → IsOpeningWorld w → StepsLead w v → IsSafeSince w v
+safe_reached w v law opens h = record { begins = opens; safe = law w v (starts_of (take h.started w.sites) ++ h.steps) opens h.run }
+
+-- and so is the one that a replay leaves
+safe_left : (w v : WorldOf) (steps : List Step) (fault : Option (ℕ × StepFault)) → WorldsAreSafe → IsOpeningWorld w → Leaves w steps fault v → IsSafeWorld w v
+safe_left w v steps None law opens h = law w v steps opens h
+safe_left w v steps (Some f) law opens h = law w v (take f.0 steps) opens h.1
+
+-- what a replay leaves, and what is promised of it
+pub replayed_by : (w x v : WorldOf) (steps : List Step) (fault : Option (ℕ × StepFault)) (text : List ℕ) → x ≡ w → IsOpeningWorld x → WorldsAreSafe
+    → Leaves x steps fault v → text ≡ report_of v → IsReplayed w steps fault text
+replayed_by w x v steps fault text is opens law left report =
+    subst (λ z. IsReplayed z steps fault text) is (record {
+      world = v;
+      left = left;
+      promised = record { begins = opens; safe = safe_left x v steps fault law opens left };
+      report = report;
+    })
+
+-- no link is opened
+unopened : (files : List ℕ → FileOf) (path : List ℕ) (lacks : ℕ → Bool) (w : WorldOf) (told : RunFault) → IsNamed files path w → (told ≡ faults.Memory) ⊎ IsUnlinked w lacks told
+    → (told ≡ faults.Memory) ⊎ (SetupFails files path told ⊎ (((told ≡ faults.NoPackage) × NamesNone files path) ⊎ LacksLink files path lacks told))
+unopened files path lacks w told named (inl e) = inl e
+unopened files path lacks w told named (inr u) = inr (inr (inr (record { world = w; named = named; unlinked = u })))
+
+-- a run over links that doesn't end well
+pub update_ends : (files : List ℕ → FileOf) (path : List ℕ) (lacks : ℕ → Bool) (w v : WorldOf) (told : RunFault) (watched : WatchOf) (before now : OutputOf)
+    → IsNamed files path w → StepsLead w v → IsSafeSince w v → DrivingEnds lacks w v told watched before now → UpdateEnds files path lacks told watched before now
+update_ends files path lacks w v told watched before now named reached promised (inl h) =
+    inl (record { world = w; named = named; left = v; reached = reached; promised = promised; caused = h.0; written = h.1 })
+update_ends files path lacks w v told watched before now named reached promised (inr (inl h)) =
+    inr (inl (record { is = h.0; world = w; named = named; left = v; reached = reached; promised = promised; begun = h.1 }))
+update_ends files path lacks w v told watched before now named reached promised (inr (inr h)) =
+    inr (inr (record { kept = h.1; cause = unopened files path lacks w told named h.0 }))
+
+-- a replay whose schedule isn't read
+pub schedule_ends : (files : List ℕ → FileOf) (config schedule : List ℕ) (w : WorldOf) (told : RunFault) (before : OutputOf) → IsSetup files config w
+    → (told ≡ faults.Memory) ⊎ TextFails script_of files schedule told → ReplayEnds files config schedule told before before
+schedule_ends files config schedule w told before setup (inl e) = inr (inr (record { kept = refl; cause = inl e }))
+schedule_ends files config schedule w told before setup (inr f) = inr (inr (record { kept = refl; cause = inr (inr (record { world = w; setup = setup; fails = f })) }))
+
+-- the report of what its steps leave
+pub report_there : (files : List ℕ → FileOf) (config schedule : List ℕ) (w : WorldOf) (steps slice : List Step) (fault : Option (ℕ × StepFault)) (text : List ℕ)
+    → IsSetup files config w → Says script_of (files schedule) steps → slice ≡ steps → IsReplayed w slice fault text → IsReport files config schedule fault text
+report_there files config schedule w steps slice fault text setup says same h =
+    record { world = w; setup = setup; steps = steps; says = says; replayed = subst (λ ss. IsReplayed w ss fault text) same h }
+
+-- it isn't written whole
+pub breaks_off : (files : List ℕ → FileOf) (config schedule : List ℕ) (fault : Option (ℕ × StepFault)) (text : List ℕ) (before now : OutputOf)
+    → IsReport files config schedule fault text → FailsToPrint before now text → ReplayEnds files config schedule faults.Output before now
+breaks_off files config schedule fault text before now report begun = inr (inl (record { is = refl; fault = fault; text = text; report = report; begun = begun }))
+
+-- a step isn't taken
+pub place_within : (w : WorldOf) (steps : List Step) (fault : Option (ℕ × StepFault)) (text : List ℕ) (place : ℕ) (why : StepFault) → IsReplayed w steps fault text → fault ≡ Some (place, why)
+    → place < length steps
+place_within w steps fault text place why h e = (subst (λ f. IsReplayed w steps f text) e h).left.0
+
+pub step_ends : (files : List ℕ → FileOf) (config schedule : List ℕ) (fault : Option (ℕ × StepFault)) (text : List ℕ) (place number : ℕ) (why : StepFault) (before now : OutputOf)
+    → IsReport files config schedule fault text → fault ≡ Some (place, why) → number ≡ place + 1 → Prints before now text
+    → ReplayEnds files config schedule (faults.Step number why) before now
+step_ends files config schedule fault text place number why before now report e is written = inl (record {
+  place = place;
+  fault = why;
+  is = ap (λ n. faults.Step n why) is;
+  reports = record { text = text; report = subst (λ f. IsReport files config schedule f text) e report; written = written };
+})
+
+-- all are
+pub replay_reports : (files : List ℕ → FileOf) (config schedule : List ℕ) (fault : Option (ℕ × StepFault)) (text : List ℕ) (before now : OutputOf)
+    → IsReport files config schedule fault text → fault ≡ None → Prints before now text → Reports files config schedule None before now
+replay_reports files config schedule fault text before now report e written =
+    record { text = text; report = subst (λ f. IsReport files config schedule f text) e report; written = written }

@@ -1,0 +1,75 @@
+use Rattle.std.proofs.Common.{◌∙◌, ◌+◌, arith, ap, inl, length, map, refl, subst, sym}
+use Rattle.fwupd_jobs.specs.Running.{Updates}
+use Rattle.fw_edge.specs.Ledgers.{AllSent, packet_counts}
+use Rattle.fw_edge.proofs.Sending.{sent_none, sent_on}
+use Rattle.fwupd_jobs.proofs.Started.{counted_alike, turned_apart, unwritten_by, updates_more, updates_none, updates_off, updates_reached, watched_apart}
+use Rattle.fw_edge.specs.declared.driving.EdgeFault.TheVariants as edges
+use Rattle.fwupd_jobs.proofs.running.update_all.Goals as goal
+
+pub loop-init : goal.loop-init
+loop-init g c = record {
+  updates = updates_none c.args.world.now c.start_all.new.world c.in-Ok.ensures.started;
+  devices = c.requires ∙ ap length (sym c.in-Ok.ensures.same);
+  none = c.new-steps.ensures.items;
+  sent =
+      subst (λ xs. AllSent (packet_counts c.args.world.now.sites) (packet_counts xs) (map (λ k. (g.L.Link.tally k).sent) c.args.links.now) (map (λ k. (g.L.Link.tally k).sent) c.args.links.now)) (sym c.in-Ok.ensures.same)
+      (sent_none (packet_counts c.args.world.now.sites) (map (λ k. (g.L.Link.tally k).sent) c.args.links.now) (counted_alike c.args.world.now.sites (λ k. (g.L.Link.tally k).sent) c.args.links.now c.requires));
+  kept = refl;
+}
+
+pub returns-in-Err-drive-clause-reached : goal.returns-in-Err-drive-clause-reached
+returns-in-Err-drive-clause-reached g c =
+    updates_off c.args.world.now c.loop.world c.drive.new.world c.loop.counter c.loop.steps.items c.drive.new.steps.items c.loop.invariant.updates c.drive.ensures.drives.drives
+
+pub returns-then-driven-eq0-clause-updated : goal.returns-then-driven-eq0-clause-updated
+returns-then-driven-eq0-clause-updated g c = record {
+  ticks = c.loop.counter + c.in-Ok-drive.driven.turns;
+  updates =
+      updates_more c.args.world.now c.loop.world c.drive.new.world c.loop.counter c.in-Ok-drive.driven.turns c.loop.steps.items c.drive.new.steps.items c.loop.invariant.updates
+      c.loop.invariant.none c.drive.ensures.drives.drives c.in-Ok-drive.ensures.ticks;
+  within = omega (arith, c.if-driven-eq0.true);
+  ended = inl (c.in-Ok-drive.ensures.ended (omega (arith, c.if-driven-eq0.true)));
+}
+
+pub returns-then-driven-eq0-clause-reached : goal.returns-then-driven-eq0-clause-reached
+returns-then-driven-eq0-clause-reached g c =
+    updates_off c.args.world.now c.loop.world c.drive.new.world c.loop.counter c.loop.steps.items c.drive.new.steps.items c.loop.invariant.updates c.drive.ensures.drives.drives
+
+pub returns-in-Err-see-clause-reached : goal.returns-in-Err-see-clause-reached
+returns-in-Err-see-clause-reached g c =
+    updates_off c.args.world.now c.loop.world c.drive.new.world c.loop.counter c.loop.steps.items c.drive.new.steps.items c.loop.invariant.updates c.drive.ensures.drives.drives
+
+pub returns-in-Err-see-clause-frame : goal.returns-in-Err-see-clause-frame
+returns-in-Err-see-clause-frame g c e = absurd (watched_apart c.in-Err-see.fault edges.Frame (sym c.watch_fault.ensures.told ∙ e))
+
+pub returns-in-Err-see-clause-step : goal.returns-in-Err-see-clause-step
+returns-in-Err-see-clause-step g c e = absurd (watched_apart c.in-Err-see.fault edges.Step (sym c.watch_fault.ensures.told ∙ e))
+
+pub returns-in-Err-drive-clause-unwritten : goal.returns-in-Err-drive-clause-unwritten
+returns-in-Err-drive-clause-unwritten g c e = absurd (turned_apart c.in-Err-drive.fault (sym c.broken_off.ensures ∙ e))
+
+pub returns-in-Err-see-clause-unwritten : goal.returns-in-Err-see-clause-unwritten
+returns-in-Err-see-clause-unwritten g c e =
+    unwritten_by c.in-Err-see.fault (g.V.Watch.watched c.see.new.self).fault (sym c.watch_fault.ensures.told ∙ e) c.in-Err-see.ensures.err
+
+pub returns-then-driven-eq0-clause-sent : goal.returns-then-driven-eq0-clause-sent
+returns-then-driven-eq0-clause-sent g c =
+    sent_on (packet_counts c.args.world.now.sites) (packet_counts c.loop.world.sites) (packet_counts c.drive.new.world.sites)
+    (map (λ k. (g.L.Link.tally k).sent) c.args.links.now) (map (λ k. (g.L.Link.tally k).sent) c.loop.links) (map (λ k. (g.L.Link.tally k).sent) c.drive.new.links) c.loop.invariant.sent c.in-Ok-drive.ensures.sent
+
+pub loop-preserved : goal.loop-preserved
+loop-preserved g c = record {
+  updates =
+      subst (λ n. Updates c.args.world.now c.drive.new.world (c.loop.counter + n)) (omega (arith, c.in-Ok-drive.ensures.within, c.if-driven-eq0.false))
+      (updates_more c.args.world.now c.loop.world c.drive.new.world c.loop.counter c.in-Ok-drive.driven.turns c.loop.steps.items c.drive.new.steps.items c.loop.invariant.updates
+      c.loop.invariant.none c.drive.ensures.drives.drives c.in-Ok-drive.ensures.ticks);
+  devices = c.drive.ensures.devices;
+  none = c.clear.ensures.items;
+  sent =
+      sent_on (packet_counts c.args.world.now.sites) (packet_counts c.loop.world.sites) (packet_counts c.drive.new.world.sites)
+      (map (λ k. (g.L.Link.tally k).sent) c.args.links.now) (map (λ k. (g.L.Link.tally k).sent) c.loop.links) (map (λ k. (g.L.Link.tally k).sent) c.drive.new.links) c.loop.invariant.sent c.in-Ok-drive.ensures.sent;
+  kept = c.in-Ok-drive.ensures.kept ∙ c.loop.invariant.kept;
+}
+
+pub returns-clause-reached : goal.returns-clause-reached
+returns-clause-reached g c = updates_reached c.args.world.now c.loop.world c.loop.counter c.loop.invariant.updates

@@ -1,0 +1,14 @@
+use Rattle.std.proofs.Common.{◌≡◌, [], length, map}
+use Rattle.fw_edge.specs.Ledgers.{AllSent, packet_counts}
+use Rattle.fwupd_jobs.specs.Running.{Updates}
+use Rattle.fwupd_jobs.proofs.running.update_all.Given as goal
+
+-- so many ticks have passed
+abbrev pub invariant-loop : goal.invariant-loop
+invariant-loop g l = record {
+  updates : Updates l.fn.world l.world l.counter;
+  devices : length l.links ≡ length l.world.sites;
+  none : l.steps.items ≡ [];
+  sent : AllSent (packet_counts l.fn.world.sites) (packet_counts l.world.sites) (map (λ k. (g.L.Link.tally k).sent) l.fn.links) (map (λ k. (g.L.Link.tally k).sent) l.links);
+  kept : map (λ k. (g.L.Link.tally k).failures) l.links ≡ map (λ k. (g.L.Link.tally k).failures) l.fn.links;
+}

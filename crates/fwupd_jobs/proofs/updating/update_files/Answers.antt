@@ -1,0 +1,44 @@
+use Rattle.std.proofs.Common.{inl, inr, map, refl, sym}
+use Rattle.std.proofs.lemmas.Bool.{eqb-false, eqb-true}
+use Rattle.std.specs.Prelude.{string_bytes}
+use Rattle.fwupd_jobs.proofs.Packed.{names_none, packed_slice, set_up_named}
+use Rattle.fwupd_jobs.proofs.Told.{safe_reached, update_ends}
+use Rattle.fwupd_jobs.proofs.updating.update_files.Goals as goal
+
+pub returns-then-is_empty-clause-fault : goal.returns-then-is_empty-clause-fault
+returns-then-is_empty-clause-fault g c =
+    let none = names_none (g.F.Files.holds c.args.files.now) c.args.config.now c.in-Ok.config c.in-Ok.ensures.says (eqb-true _ _ (sym c.if-is_empty.ensures)) in
+    inr (inr (record { kept = refl; cause = inr (inr (inl (refl, none))) }))
+
+pub packages_in-requires : goal.packages_in-requires
+packages_in-requires g c =
+    packed_slice (g.F.Files.holds c.args.files.now) (map (λ p. string_bytes p) c.as_slice.result.now) c.in-Ok-package_files.contents.items c.as_slice-2.result.now c.in-Ok-package_files.ensures.packed
+    c.as_slice-2.ensures.value
+
+pub returns-in-Ok-update_over-clause-ok : goal.returns-in-Ok-update_over-clause-ok
+returns-in-Ok-update_over-clause-ok g c = record {
+  world = c.in-Ok-new.world;
+  named =
+      set_up_named (g.F.Files.holds c.args.files.now) c.args.config.now c.in-Ok.config c.as_slice.result.now c.in-Ok-package_files.contents.items c.as_slice-2.result.now c.in-Ok-packages_in.packages.items
+      c.as_slice-3.result.now c.in-Ok-nodes.nodes.items c.in-Ok-new.world c.in-Ok.ensures.says c.as_slice.ensures.value c.in-Ok-package_files.ensures.packed c.as_slice-2.ensures.value
+      c.in-Ok-packages_in.ensures.is c.in-Ok-nodes.ensures.is c.as_slice-3.ensures.value c.in-Ok-new.ensures.made
+      (λ e. eqb-false _ _ (sym c.if-is_empty.ensures) e);
+  left = c.update_over.new.world;
+  updated = c.in-Ok-update_over.ensures.updated;
+  promised = safe_reached c.in-Ok-new.world c.update_over.new.world c.packets_are_safe.ensures.law c.in-Ok-new.ensures.opens c.update_over.ensures.reached;
+  seen = c.in-Ok-update_over.ensures.seen;
+  let_end = c.in-Ok-update_over.ensures.let_end;
+  written = c.in-Ok-update_over.ensures.written;
+}
+
+pub returns-clause-fault : goal.returns-clause-fault
+returns-clause-fault g c =
+    update_ends (g.F.Files.holds c.args.files.now) c.args.config.now (g.S.Wires.lacks c.args.wires.now) c.in-Ok-new.world c.update_over.new.world c.in-Err-update_over.fault
+    (g.V.Watch.watched c.update_over.new.watch) c.args.output.now c.update_over.new.output
+    (set_up_named (g.F.Files.holds c.args.files.now) c.args.config.now c.in-Ok.config c.as_slice.result.now c.in-Ok-package_files.contents.items c.as_slice-2.result.now c.in-Ok-packages_in.packages.items
+    c.as_slice-3.result.now c.in-Ok-nodes.nodes.items c.in-Ok-new.world c.in-Ok.ensures.says c.as_slice.ensures.value c.in-Ok-package_files.ensures.packed c.as_slice-2.ensures.value
+    c.in-Ok-packages_in.ensures.is c.in-Ok-nodes.ensures.is c.as_slice-3.ensures.value c.in-Ok-new.ensures.made
+    (λ e. eqb-false _ _ (sym c.if-is_empty.ensures) e))
+    c.update_over.ensures.reached
+    (safe_reached c.in-Ok-new.world c.update_over.new.world c.packets_are_safe.ensures.law c.in-Ok-new.ensures.opens c.update_over.ensures.reached)
+    c.in-Err-update_over.ensures.fault

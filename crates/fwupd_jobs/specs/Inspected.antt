@@ -1,0 +1,33 @@
+-- What is written of the package in a file.
+use Rattle.std.specs.Prelude.{ℕ, ◌≡◌, ◌⊎◌, List}
+use Rattle.fw_package.specs.Package.{PackageText}
+use Rattle.fwupd_base.specs.Inspection.{inspect_of}
+use Rattle.fwupd_jobs.specs.Outputs.{FailsToPrint, OutputOf, Prints}
+use Rattle.fwupd_jobs.specs.Setups.{FileOf, IsPackageFile, PackageFails}
+use Rattle.fwupd_jobs.specs.declared.faults.RunFault.{RunFault}
+use Rattle.fwupd_jobs.specs.declared.faults.RunFault.TheVariants as faults
+use Rattle.fwupd_base.specs.declared.inspection.InspectFault.{InspectFault}
+use Rattle.fwupd_base.specs.declared.inspection.InspectFault.TheVariants as inspected
+
+-- how it is told that a package isn't inspected
+abbrev pub told_as : InspectFault → RunFault
+told_as (inspected.Package fault) = faults.Package fault
+told_as inspected.Memory = faults.Memory
+
+-- Its text is.
+pub record Inspects (file : FileOf) (before now : OutputOf) : Type 0 where
+  pub contents : PackageText
+  pub is : IsPackageFile file contents
+  pub written : Prints before now (inspect_of contents)
+
+-- A beginning of it is.
+pub record BreaksInspection (file : FileOf) (told : RunFault) (before now : OutputOf) : Type 0 where
+  pub is : told ≡ faults.Output
+  pub contents : PackageText
+  pub read : IsPackageFile file contents
+  pub begun : FailsToPrint before now (inspect_of contents)
+
+-- How an inspection ends that doesn't end well: else nothing is written, and memory was refused, or the file isn't read or holds no package.
+abbrev pub InspectEnds : (files : List ℕ → FileOf) (path : List ℕ) → RunFault → (before now : OutputOf) → Type 0
+InspectEnds files path told before now =
+    BreaksInspection (files path) told before now ⊎ (((told ≡ faults.Memory) ⊎ PackageFails files path told) × (now ≡ before))

@@ -1,0 +1,158 @@
+-- What a run over links makes of a world, and what is written of it.
+use Rattle.std.specs.Prelude.{ℕ, ◌≡◌, ◌≢◌, ◌≤◌, ◌-◌, ◌^◌, ◌++◌, ◌⊎◌, Bool, true, List, [], Option, None, Some, length, map, slice_get, take}
+use Rattle.fw_edge.specs.Drives.{AreDriven, all_over, ticks_in}
+use Rattle.fw_edge.specs.declared.driving.EdgeFault.{EdgeFault}
+use Rattle.fw_edge.specs.declared.driving.EdgeFault.TheVariants as edges
+use Rattle.fw_script.specs.Reports.{report_of}
+use Rattle.fw_world.specs.Replays.{Run, may_step}
+use Rattle.fw_world.specs.Worlds.{SiteOf, WorldOf}
+use Rattle.fw_world.specs.declared.step.StepFault.{StepFault}
+use Rattle.fw_world.specs.declared.step.Step.{Step}
+use Rattle.fw_world.specs.declared.step.Step.TheVariants as steps
+use Rattle.fwupd_jobs.specs.Outputs.{FailsToPrint, OutputOf, Prints}
+use Rattle.fwupd_jobs.specs.Promises.{IsSafeSince}
+use Rattle.fwupd_jobs.specs.Setups.{FileOf, IsSetup, NamesNone, SetupFails}
+use Rattle.fwupd_jobs.specs.declared.faults.RunFault.{RunFault}
+use Rattle.fwupd_jobs.specs.declared.faults.RunFault.TheVariants as faults
+use Rattle.fwupd_jobs.specs.declared.running.WatchFault.{WatchFault}
+use Rattle.fwupd_jobs.specs.declared.running.WatchFault.TheVariants as watches
+
+-- the update of each device is started with package 1, in configured order
+abbrev pub starts_of : List SiteOf → List Step
+starts_of sites = map (λ x. steps.Start x.node.endpoint.eid 1) sites
+
+-- Each update is started.
+abbrev pub Starts : WorldOf → WorldOf → Type 0
+Starts w v = Run w (starts_of w.sites) v
+
+-- Each update is started, and then what comes over links is done for so many ticks.
+pub record Updates (w v : WorldOf) (ticks : ℕ) : Type 0 where
+  pub steps : List Step
+  pub run : Run w (starts_of w.sites ++ steps) v
+  pub driven : AreDriven steps
+  pub ticks_are : ticks_in steps ≡ ticks
+
+-- Each session is Done or Failed, or 80,000 ticks have passed, and no more.
+pub record IsUpdated (w v : WorldOf) : Type 0 where
+  pub ticks : ℕ
+  pub updates : Updates w v ticks
+  pub within : ticks ≤ 80000
+  pub ended : (all_over v ≡ true) ⊎ (ticks ≡ 80000)
+
+-- The updates of the first so many devices are started, and once all are, what comes over links is done.
+pub record StepsLead (w v : WorldOf) : Type 0 where
+  pub started : ℕ
+  pub steps : List Step
+  pub run : Run w (starts_of (take started w.sites) ++ steps) v
+  pub driven : AreDriven steps
+  pub all : (steps ≡ []) ⊎ (started ≡ length w.sites)
+
+-- a run doesn't go on: what is told of the world that was reached. Want of memory is told alone.
+abbrev pub IsBroken : RunFault → Type 0
+IsBroken (faults.Edge edges.Frame) = Unit {0}
+IsBroken (faults.Edge edges.Step) = Unit {0}
+IsBroken faults.Trace = Unit {0}
+IsBroken fault = ⊥
+
+-- how a run is told of that ends within a turn
+abbrev pub told_of : EdgeFault → RunFault
+told_of edges.Memory = faults.Memory
+told_of fault = faults.Edge fault
+
+-- and where what looks on can't go on
+abbrev pub told_by : WatchFault → RunFault
+told_by watches.Unwritten = faults.Trace
+told_by watches.Memory = faults.Memory
+
+-- The updates of the devices before one are started, and its start with package 1 is not allowed.
+pub record IsRefusedStart (w v : WorldOf) : Type 0 where
+  pub place : ℕ
+  pub site : SiteOf
+  pub at : slice_get w.sites place ≡ Some site
+  pub begun : Run w (starts_of (take place w.sites)) v
+  pub fault : StepFault
+  pub refused : may_step v (steps.Start site.node.endpoint.eid 1) ≡ Some fault
+
+-- or memory was refused
+abbrev pub MayEnd : RunFault → Type 0
+MayEnd fault = (fault ≡ faults.Memory) ⊎ IsBroken fault
+
+-- What looks on: its first fault, if it had one, and whether it was let end.
+pub record WatchOf : Type 0 where
+  pub fault : Option WatchFault
+  pub has_ended : Bool
+
+-- Why a run doesn't go on is so: a start is refused or the clock stands at its end, and what looks on can't be written. It was let end.
+pub record IsCaused (w v : WorldOf) (told : RunFault) (watched : WatchOf) : Type 0 where
+  pub broken : IsBroken told
+  pub stopped : told ≡ faults.Edge edges.Step → IsRefusedStart w v ⊎ (v.now ≡ 2 ^ 32 - 1)
+  pub unwritten : told ≡ faults.Trace → watched.fault ≡ Some watches.Unwritten
+  pub let_end : watched.has_ended ≡ true
+
+-- No link to this device of a world is opened, and it may be lacking.
+pub record IsUnlinked (w : WorldOf) (lacks : ℕ → Bool) (told : RunFault) : Type 0 where
+  pub place : ℕ
+  pub site : SiteOf
+  pub at : slice_get w.sites place ≡ Some site
+  pub is : told ≡ faults.Socket site.node.endpoint.eid
+  pub lacking : lacks site.node.endpoint.eid ≡ true
+
+-- Where the links of a world are driven and the run doesn't end well: the report of the world that was reached is written, or a
+-- beginning of it, or nothing.
+abbrev pub DrivingEnds : (lacks : ℕ → Bool) (w v : WorldOf) → RunFault → WatchOf → (before now : OutputOf) → Type 0
+DrivingEnds lacks w v told watched before now =
+    (IsCaused w v told watched × Prints before now (report_of v))
+    ⊎ (((told ≡ faults.Output) × FailsToPrint before now (report_of v)) ⊎ (((told ≡ faults.Memory) ⊎ IsUnlinked w lacks told) × (now ≡ before)))
+
+-- The world of a configuration that names a package.
+pub record IsNamed (files : List ℕ → FileOf) (config : List ℕ) (w : WorldOf) : Type 0 where
+  pub setup : IsSetup files config w
+  pub some : w.packages ≢ []
+
+-- The report is written of what an update leaves of the world that a configuration's file is of, and what looks on had no fault,
+-- and was let end.
+pub record ReportsUpdate (files : List ℕ → FileOf) (config : List ℕ) (watched : WatchOf) (before now : OutputOf) : Type 0 where
+  pub world : WorldOf
+  pub named : IsNamed files config world
+  pub left : WorldOf
+  pub updated : IsUpdated world left
+  pub promised : IsSafeSince world left
+  pub seen : watched.fault ≡ None
+  pub let_end : watched.has_ended ≡ true
+  pub written : Prints before now (report_of left)
+
+-- It is written of what was reached.
+pub record ReportsReached (files : List ℕ → FileOf) (config : List ℕ) (told : RunFault) (watched : WatchOf) (before now : OutputOf) : Type 0 where
+  pub world : WorldOf
+  pub named : IsNamed files config world
+  pub left : WorldOf
+  pub reached : StepsLead world left
+  pub promised : IsSafeSince world left
+  pub caused : IsCaused world left told watched
+  pub written : Prints before now (report_of left)
+
+-- A beginning of it is.
+pub record BreaksReport (files : List ℕ → FileOf) (config : List ℕ) (told : RunFault) (before now : OutputOf) : Type 0 where
+  pub is : told ≡ faults.Output
+  pub world : WorldOf
+  pub named : IsNamed files config world
+  pub left : WorldOf
+  pub reached : StepsLead world left
+  pub promised : IsSafeSince world left
+  pub begun : FailsToPrint before now (report_of left)
+
+-- No link to a device of the configuration is opened.
+pub record LacksLink (files : List ℕ → FileOf) (config : List ℕ) (lacks : ℕ → Bool) (told : RunFault) : Type 0 where
+  pub world : WorldOf
+  pub named : IsNamed files config world
+  pub unlinked : IsUnlinked world lacks told
+
+-- Nothing is written: memory was refused, or there is no world, no package or no link.
+pub record ReportsNothing (files : List ℕ → FileOf) (config : List ℕ) (lacks : ℕ → Bool) (told : RunFault) (before now : OutputOf) : Type 0 where
+  pub kept : now ≡ before
+  pub cause : (told ≡ faults.Memory) ⊎ (SetupFails files config told ⊎ (((told ≡ faults.NoPackage) × NamesNone files config) ⊎ LacksLink files config lacks told))
+
+-- How an update ends that doesn't end well.
+abbrev pub UpdateEnds : (files : List ℕ → FileOf) (config : List ℕ) (lacks : ℕ → Bool) (told : RunFault) (watched : WatchOf) (before now : OutputOf) → Type 0
+UpdateEnds files config lacks told watched before now =
+    ReportsReached files config told watched before now ⊎ (BreaksReport files config told before now ⊎ ReportsNothing files config lacks told before now)

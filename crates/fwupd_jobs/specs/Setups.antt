@@ -1,0 +1,132 @@
+-- What the jobs on worlds begin with: the configuration in a file, and the packages in the files that it names.
+use Rattle.std.specs.Prelude.{ℕ, ◌≡◌, ◌≢◌, ◌++◌, ◌⊎◌, Bool, true, List, [], ◌∷◌, Option, None, Result, Ok, Err, IfSome, IsOk, string_bytes}
+use Rattle.fw_package.specs.Package.{PackageText}
+use Rattle.fw_package.specs.Reading.{package_of}
+use Rattle.fw_package.specs.declared.fault.PackageFault.{PackageFault}
+use Rattle.fw_script.specs.Configs.{ConfigOf, config_of}
+use Rattle.fw_script.specs.declared.faults.ScriptCause.TheVariants as causes
+use Rattle.fw_script.specs.declared.faults.ScriptFault.{ScriptFault}
+use Rattle.fw_world.specs.Replays.{new_world}
+use Rattle.fw_world.specs.Worlds.{WorldOf}
+use Rattle.fwupd_jobs.specs.Nodes.{nodes_made}
+use Rattle.fwupd_jobs.specs.declared.faults.RunFault.{RunFault}
+use Rattle.fwupd_jobs.specs.declared.faults.RunFault.TheVariants as faults
+
+-- What is known of a file before it is read: its bytes, if they are, and whether it may be that it can't be read.
+pub record FileOf : Type 0 where
+  pub bytes : Option (List ℕ)
+  pub may_fail : Bool
+
+-- nothing is
+abbrev pub any_file : FileOf
+any_file = record { bytes = None; may_fail = true }
+
+-- bytes that a file may hold of which this is known
+abbrev pub MayHold : FileOf → List ℕ → Type 0
+MayHold file bytes = IfSome file.bytes (λ known. bytes ≡ known)
+
+-- a text in a file says this
+pub record Says {A : Type 0} (read : List ℕ → Result A ScriptFault) (file : FileOf) (value : A) : Type 0 where
+  pub text : List ℕ
+  pub held : MayHold file text
+  pub is : read text ≡ Ok value
+
+-- or has this fault
+pub record IsFaulty {A : Type 0} (read : List ℕ → Result A ScriptFault) (file : FileOf) (fault : ScriptFault) : Type 0 where
+  pub text : List ℕ
+  pub held : MayHold file text
+  pub is : read text ≡ Err fault
+
+-- bytes that a file may hold, which are a package
+pub record IsPacked (file : FileOf) (bytes : List ℕ) : Type 0 where
+  pub held : MayHold file bytes
+  pub is : IsOk (package_of bytes)
+
+-- so of each of these files
+abbrev pub ArePacked : (files : List ℕ → FileOf) → (paths contents : List (List ℕ)) → Type 0
+ArePacked files [] [] = Unit {0}
+ArePacked files (path ∷ paths) (bytes ∷ contents) = IsPacked (files path) bytes × ArePacked files paths contents
+ArePacked files paths contents = ⊥
+
+-- a file is a package
+pub record IsPackageFile (file : FileOf) (p : PackageText) : Type 0 where
+  pub bytes : List ℕ
+  pub held : MayHold file bytes
+  pub is : package_of bytes ≡ Ok p
+
+-- or isn't, for this reason
+pub record IsNoPackage (file : FileOf) (fault : PackageFault) : Type 0 where
+  pub bytes : List ℕ
+  pub held : MayHold file bytes
+  pub is : package_of bytes ≡ Err fault
+
+-- it is told that the file of this path can't be read
+abbrev pub IsUnreadable : (path : List ℕ) → RunFault → Type 0
+IsUnreadable path (faults.Unreadable name) = string_bytes name ≡ path
+IsUnreadable path fault = ⊥
+
+-- and that may be so
+abbrev pub IsUnread : (path : List ℕ) → (file : FileOf) → RunFault → Type 0
+IsUnread path file fault = IsUnreadable path fault × (file.may_fail ≡ true)
+
+-- the text in it has this fault
+abbrev pub TextFault : (path : List ℕ) → ScriptFault → RunFault → Type 0
+TextFault path fault (faults.Text name told) = (string_bytes name ≡ path) × (told ≡ fault) × (fault.cause ≢ causes.Memory)
+TextFault path fault other = ⊥
+
+-- the text in the file of this path is none
+abbrev pub IsUnsaid : {A : Type 0} → (List ℕ → Result A ScriptFault) → (path : List ℕ) → (file : FileOf) → RunFault → Type 0
+IsUnsaid read path file (faults.Text name fault) = (string_bytes name ≡ path) × IsFaulty read file fault
+IsUnsaid read path file fault = ⊥
+
+-- the file holds no package
+abbrev pub IsNone : (file : FileOf) → RunFault → Type 0
+IsNone file (faults.Package fault) = IsNoPackage file fault
+IsNone file fault = ⊥
+
+-- why a text isn't read from the file of a path
+abbrev pub TextFails : {A : Type 0} → (List ℕ → Result A ScriptFault) → (files : List ℕ → FileOf) → (path : List ℕ) → RunFault → Type 0
+TextFails read files path fault = IsUnread path (files path) fault ⊎ IsUnsaid read path (files path) fault
+
+-- and why no package is
+abbrev pub PackageFails : (files : List ℕ → FileOf) → (path : List ℕ) → RunFault → Type 0
+PackageFails files path fault = IsUnread path (files path) fault ⊎ IsNone (files path) fault
+
+-- the files of these paths are these packages, one by one
+abbrev pub ArePackages : (files : List ℕ → FileOf) → (paths : List (List ℕ)) → List PackageText → Type 0
+ArePackages files [] [] = Unit {0}
+ArePackages files (path ∷ paths) (p ∷ ps) = IsPackageFile (files path) p × ArePackages files paths ps
+ArePackages files paths ps = ⊥
+
+-- the first of these files that isn't, and why
+pub record PackagesFail (files : List ℕ → FileOf) (paths : List (List ℕ)) (fault : RunFault) : Type 0 where
+  pub before : List (List ℕ)
+  pub path : List ℕ
+  pub after : List (List ℕ)
+  pub packages : List PackageText
+  pub is : paths ≡ before ++ path ∷ after
+  pub read : ArePackages files before packages
+  pub fails : PackageFails files path fault
+
+-- a configuration's file, its packages, and the world that they are of before its first step
+pub record IsSetup (files : List ℕ → FileOf) (path : List ℕ) (w : WorldOf) : Type 0 where
+  pub config : ConfigOf
+  pub packages : List PackageText
+  pub says : Says config_of (files path) config
+  pub are : ArePackages files config.packages packages
+  pub world : w ≡ new_world config.agent (nodes_made config.agent.eid config.devices) packages
+
+-- why there is none
+pub record PackagesOfFail (files : List ℕ → FileOf) (path : List ℕ) (fault : RunFault) : Type 0 where
+  pub config : ConfigOf
+  pub says : Says config_of (files path) config
+  pub fail : PackagesFail files config.packages fault
+
+abbrev pub SetupFails : (files : List ℕ → FileOf) → (path : List ℕ) → RunFault → Type 0
+SetupFails files path fault = TextFails config_of files path fault ⊎ PackagesOfFail files path fault
+
+-- The configuration in a file names no package.
+pub record NamesNone (files : List ℕ → FileOf) (path : List ℕ) : Type 0 where
+  pub config : ConfigOf
+  pub says : Says config_of (files path) config
+  pub none : config.packages ≡ []

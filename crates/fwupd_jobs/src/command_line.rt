@@ -1,0 +1,282 @@
+//! The command line: what the words ask for.
+
+use clap::error::ErrorKind;
+use clap::{Arg, ArgAction, ArgMatches, Command, value_parser};
+use mctp_ctl::Endpoint;
+use std::alloc::Global;
+use uuid::Uuid;
+
+/// What the words ask for.
+#[derive(Clone, Copy)]
+pub enum Job<'a> {
+    /// Answer packets as this endpoint, whose identifier is one of a node's, 8 to 254.
+    Answer(Endpoint),
+    /// Inspect the package in the file of this path.
+    Inspect(&'a str),
+    /// Replay, with the configuration of the first path, the schedule of the second.
+    Replay(&'a str, &'a str),
+    /// Update the devices of the configuration of the first path over sockets in the folder of the second.
+    Run(&'a str, &'a str, Show<'a>),
+}
+
+/// What is shown of a run while it goes on.
+#[derive(Clone, Copy)]
+pub struct Show<'a> {
+    /// No progress, also on a terminal.
+    pub is_quiet: bool,
+    /// The file that each packet is written to as it goes out, if there is one.
+    pub trace: Option<&'a str>,
+}
+
+/// What stands below the help of `answer`.
+const ANSWER_HELP: &str = "\
+Examples:
+  printf '010908C8008002\\n' | fwupd answer 9        prints 010809C000000200090100
+  printf '020908C8008002\\n' | fwupd answer 9        prints drop Version
+
+Causes of a drop. The first that holds is printed:
+  Hex          the line isn't an even number of hexadecimal digits
+  Short        less than 4 bytes
+  Version      the low half of byte 0 isn't 1
+  Empty        no byte after the header
+  TooLong      more than 64 bytes after the header
+  Destination  byte 1 isn't EID
+  NotWhole     SOM or EOM is clear: the packet isn't a whole message
+  StartNumber  the packet's sequence number isn't 0
+  NotRequest   TO is clear
+  Type         the message type is neither 0x00 (control) nor 0x01 (PLDM)
+  Message      the message isn't a request that gets an answer
+
+Limits: a run reads at most 16777216 bytes. The next byte ends it with 'fwupd: input'.
+
+Status: 0; 1 if standard error says 'fwupd: input', 'fwupd: output' or 'fwupd: memory'; 2 for wrong usage.";
+
+/// What stands below the help of `inspect`.
+const INSPECT_HELP: &str = "\
+Example:
+  fwupd inspect examples/two-records.fwpkg
+
+Faults of a package. The first that holds is printed:
+  Short         fewer bytes than the fixed part of a header
+  Identifier    the identifier isn't that of this format
+  Revision      the header revision isn't 1
+  HeaderSize    the header is longer than the file, or its parts don't end where it does
+  BitmapLength  the bitmap's bit length is 0, not a multiple of 8, or less than the number of components
+  RecordLength  a record's length isn't the sum of its parts
+  Checksum      the header's checksum isn't that of the bytes before it
+  ImageRange    a component's image goes past the file's end
+
+Limits: the file's path is UTF-8 text, and the file fits into memory.
+
+Status: 0; 1 if standard error says 'fwupd: package: ' and a fault, 'fwupd: FILE: unreadable', 'fwupd: output' or
+'fwupd: memory'; 2 for wrong usage.";
+
+/// The subcommand `answer`.
+fn answer_command<'a>(alloc: Global) -> Result<Command<'a>, clap::Error> {
+    let eid = Arg::new(alloc, "EID")
+        .help("The endpoint identifier to answer as, 8 to 254")
+        .required(true)
+        .value_parser(value_parser!(u8).range(8..255))
+        .action(ArgAction::Set);
+    let uuid = Arg::new(alloc, "uuid")
+        .long("uuid")
+        .value_name("UUID")
+        .help("The answer to Get Endpoint UUID")
+        .default_value("00000000-0000-0000-0000-000000000000");
+    let command = Command::new(alloc, "answer")
+        .about("Answers MCTP packets as an endpoint without a device")
+        .long_about(
+            "Answers MCTP packets as an endpoint without a device.\n\n\
+            Each line of standard input is one packet in hexadecimal digits. For each line, standard output gets one: the packet\n\
+            that answers it, in upper-case digits, or 'drop' and the cause. The answers to all whole lines are written before more\n\
+            input is awaited.",
+        )
+        .after_long_help(ANSWER_HELP)
+        .arg(eid)?
+        .arg(uuid)?;
+    Ok(command)
+}
+
+/// The subcommand `inspect`.
+fn inspect_command<'a>(alloc: Global) -> Result<Command<'a>, clap::Error> {
+    let file = Arg::new(alloc, "FILE")
+        .help("The package's file")
+        .required(true)
+        .action(ArgAction::Set);
+    let command = Command::new(alloc, "inspect")
+        .about("Prints what a firmware update package holds")
+        .long_about(
+            "Prints what a firmware update package holds.\n\n\
+            It prints a line for the package, one for each record and each of its descriptors, and one for each component. Records\n\
+            and components are counted from 1. A byte of a text that isn't plain ASCII is printed as \\x and two digits. A file\n\
+            that isn't a package is refused with the first fault that holds.",
+        )
+        .after_long_help(INSPECT_HELP)
+        .arg(file)?;
+    Ok(command)
+}
+
+/// What stands below the help of `replay`.
+const REPLAY_HELP: &str = "\
+Example:
+  fwupd replay examples/one.config examples/update.schedule
+
+CONFIG has these lines. Words stand one space apart; - is the empty text, or no bytes; empty lines, and lines that begin
+with #, are skipped:
+  agent EID UUID                                  the update agent, first; an EID is 8 to 254
+  device EID UUID                                 a device, at most 16; these lines follow it:
+    descriptor TYPE HEX                           four digits, and data; at most 246 bytes for a device
+    component CLASS IDENT INDEX STAMP TEXT HEX    a component with the image that runs; 1 to 3 for a device
+  package PATH                                    a package's file; these lines are last, and count from 1
+
+SCHEDULE, a step a line:
+  tick [N]                   N ticks pass, 1 to 1000
+  deliver PAIR NUMBER NODE   packet NUMBER between the agent and device PAIR is delivered to NODE
+  start EID PACKAGE          the operator starts a device's update with a package
+  cancel EID                 the operator cancels the update
+  activate EID               the operator has the device activate what it applied
+  verdict EID WORD           verify-ok, verify-fail, apply-ok or apply-fail, for the image written
+  restart EID                the agent or a device restarts, and is deaf for 40 ticks
+  sel HEX                    a command of the event log and its data, at most 64 bytes
+
+Faults of a line. The first that holds is printed:
+  Directive, Fields, Order, Number, Hex, Range, Duplicate, Limit; Missing at the line after the last
+
+Why a step isn't taken; the report is then of the world before it:
+  NoSuchNode, NoSuchPacket, Dead (sent more than 8 ticks ago), Memory, or Refused: and
+  NoSuchPackage, Busy, NotReady, NotNow, ClockEnd
+
+The report has the ticks that passed; each node, and whether it hears; for a device its state, that of the agent's
+session with it, and how many packets were sent between the two; the images that run, with size and first bytes; the
+event log's records and last answer; and what was applied, recorded and activated, in order.
+
+Status: 0; 1 if standard error says 'fwupd: PATH: line N: FAULT', 'fwupd: package: FAULT', 'fwupd: step N: FAULT',
+'fwupd: FILE: unreadable', 'fwupd: output' or 'fwupd: memory'; 2 for wrong usage.";
+
+/// The subcommand `replay`.
+fn replay_command<'a>(alloc: Global) -> Result<Command<'a>, clap::Error> {
+    let config = Arg::new(alloc, "CONFIG")
+        .help("The configuration: an agent, its devices, packages")
+        .required(true)
+        .action(ArgAction::Set);
+    let schedule = Arg::new(alloc, "SCHEDULE")
+        .help("The schedule: the steps, one after the other")
+        .required(true)
+        .action(ArgAction::Set);
+    let command = Command::new(alloc, "replay")
+        .about("Replays a schedule of packets, ticks and commands, and prints a report")
+        .long_about(
+            "Replays a schedule of packets, ticks and commands on an update agent and its devices, and prints a report.\n\n\
+            A packet may be delivered at once, later, more than once or never, for 8 ticks after it was sent. The schedule says\n\
+            which packet is delivered when.",
+        )
+        .after_long_help(REPLAY_HELP)
+        .arg(config)?
+        .arg(schedule)?;
+    Ok(command)
+}
+
+/// What stands below the help of `run`.
+const RUN_HELP: &str = "\
+Examples:
+  fwupd run examples/one.config .
+  fwupd run --quiet --trace out/packets examples/one.config .
+
+CONFIG and the report are those of 'fwupd replay --help'.
+
+If standard error is a terminal, it shows the progress of the first device that loads an image. --trace writes a line for
+each packet: the turn, the device, to-device or to-agent, and the packet in hexadecimal digits.
+
+Faults: 'package: none' if CONFIG names no package; 'socket: EID' if FOLDER/EID.sock can't be made, or is there already;
+after the report, 'edge: Frame' if a socket failed, 'edge: Step' at the end of the clock, and 'trace' if the trace can't be
+written. If its file can't be made, 'trace', and nothing is run.
+
+Limits: 80000 turns of one tick each. Three images of 1 MiB take about 66000.
+
+Status: 0; 1 if standard error says 'fwupd: ' and a fault, one of these or of 'replay'; 2 for wrong usage.";
+
+/// The subcommand `run`.
+fn run_command<'a>(alloc: Global) -> Result<Command<'a>, clap::Error> {
+    let config = Arg::new(alloc, "CONFIG")
+        .help("The configuration: an agent, its devices, packages")
+        .required(true)
+        .action(ArgAction::Set);
+    let folder = Arg::new(alloc, "FOLDER")
+        .help("The folder that the sockets are made in")
+        .required(true)
+        .action(ArgAction::Set);
+    let quiet = Arg::new(alloc, "quiet")
+        .long("quiet")
+        .help("Shows no progress")
+        .action(ArgAction::SetTrue);
+    let trace = Arg::new(alloc, "trace")
+        .long("trace")
+        .value_name("FILE")
+        .help("Writes each packet to a file as it goes out");
+    let command = Command::new(alloc, "run")
+        .about("Updates each device with the first package, over Unix sockets")
+        .long_about(
+            "Updates each device of a configuration with its first package, each over a Unix socket FOLDER/EID.sock to itself, and\n\
+            prints a report. A socket's file is removed as soon as both of its ends are connected.",
+        )
+        .after_long_help(RUN_HELP)
+        .arg(quiet)?
+        .arg(trace)?
+        .arg(config)?
+        .arg(folder)?;
+    Ok(command)
+}
+
+/// The whole command line.
+fn command<'a>(alloc: Global) -> Result<Command<'a>, clap::Error> {
+    let command = Command::new(alloc, "fwupd")
+        .version("0.1.0")
+        .about("A firmware update agent and its devices: PLDM for Firmware Update over MCTP")
+        .subcommand_required(true)
+        .arg_required_else_help(true)
+        .subcommand(answer_command(alloc)?)?
+        .subcommand(inspect_command(alloc)?)?
+        .subcommand(replay_command(alloc)?)?
+        .subcommand(run_command(alloc)?)?;
+    Ok(command)
+}
+
+/// The job of `answer`: its endpoint.
+fn answer_job<'a>(alloc: Global, matches: &ArgMatches<'a>) -> Result<Job<'a>, clap::Error> {
+    let Some(eid) = matches.get_one::<u8>("EID") else {
+        return Err(command(alloc)?.error(ErrorKind::MissingRequiredArgument, "EID is required")?);
+    };
+    let text = matches.get_str("uuid").unwrap_or("");
+    match Uuid::parse_str(text) {
+        Ok(uuid) => Ok(Job::Answer(Endpoint { eid, uuid })),
+        Err(error) => {
+            let message = format!(in alloc; "invalid value '{text}' for '--uuid <UUID>': {error}")?;
+            Err(command(alloc)?.error(ErrorKind::ValueValidation, &message)?)
+        }
+    }
+}
+
+/// Reads the words of a command line.
+///
+/// # Errors
+/// What to print in place of a job, and where: the text of help and version, or of wrong usage.
+pub fn parse<'a>(alloc: Global, words: &'a [String]) -> Result<Job<'a>, clap::Error> {
+    let matches = command(alloc)?.try_get_matches_from(words)?;
+    match matches.subcommand() {
+        Some(("answer", matches)) => answer_job(alloc, matches),
+        Some(("inspect", matches)) => Ok(Job::Inspect(matches.get_str("FILE").unwrap_or(""))),
+        Some(("replay", matches)) => Ok(Job::Replay(
+            matches.get_str("CONFIG").unwrap_or(""),
+            matches.get_str("SCHEDULE").unwrap_or(""),
+        )),
+        Some(("run", matches)) => Ok(Job::Run(
+            matches.get_str("CONFIG").unwrap_or(""),
+            matches.get_str("FOLDER").unwrap_or(""),
+            Show {
+                is_quiet: matches.get_flag("quiet"),
+                trace: matches.get_str("trace"),
+            },
+        )),
+        _ => Err(command(alloc)?.error(ErrorKind::MissingSubcommand, "a subcommand is required")?),
+    }
+}

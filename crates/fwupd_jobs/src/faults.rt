@@ -1,0 +1,71 @@
+//! Why a run ends with status 1.
+
+ghost use Rattle.std.specs.Prelude.{◌≡◌};
+ghost use Rattle.fwupd_jobs.specs.Inspected.{told_as};
+ghost use Rattle.fwupd_jobs.specs.Running.{MayEnd, told_of};
+
+use fw_edge::EdgeFault;
+use fw_package::PackageFault;
+use fw_script::ScriptFault;
+use fw_world::StepFault;
+use fwupd_base::{AnswerFault, InspectFault};
+use thiserror::Error;
+
+/// Why a run ends with status 1. The text is what is printed after `fwupd: `.
+#[derive(Debug, Drop, Error)]
+pub enum RunFault {
+    /// Packets can't be answered any more.
+    #[error("{0}")]
+    Answer(AnswerFault),
+    /// The file of this path can't be read.
+    #[error("{0}: unreadable")]
+    Unreadable(String),
+    /// The file holds no package.
+    #[error("package: {0}")]
+    Package(PackageFault),
+    /// The text in the file of this path is none of its format.
+    #[error("{0}: {1}")]
+    Text(String, ScriptFault),
+    /// A step of a schedule, numbered from 1, isn't taken.
+    #[error("step {0}: {1}")]
+    Step(usize, StepFault),
+    /// No package is configured.
+    #[error("package: none")]
+    NoPackage,
+    /// The socket of the device with this endpoint identifier can't be made.
+    #[error("socket: {0}")]
+    Socket(u8),
+    /// What is traced of a run can't be written.
+    #[error("trace")]
+    Trace,
+    /// A run over links ended early.
+    #[error("edge: {0}")]
+    Edge(EdgeFault),
+    /// Standard output takes no more.
+    #[error("output")]
+    Output,
+    /// Memory was refused.
+    #[error("memory")]
+    Memory,
+}
+
+/// Why a package couldn't be inspected.
+pub fn inspection_fault(fault: InspectFault) -> RunFault
+    ensures { result ≡ told_as fault }
+{
+    match fault {
+        InspectFault::Memory => RunFault::Memory,
+        InspectFault::Package(fault) => RunFault::Package(fault),
+    }
+}
+
+/// Why a run over links ended early.
+pub fn edge_fault(fault: EdgeFault) -> RunFault
+    ensures told { result ≡ told_of fault }
+    ensures ends { MayEnd result }
+{
+    match fault {
+        EdgeFault::Memory => RunFault::Memory,
+        _ => RunFault::Edge(fault),
+    }
+}

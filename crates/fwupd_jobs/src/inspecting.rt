@@ -1,0 +1,40 @@
+//! Inspecting the package in a file.
+
+ghost use Rattle.std.specs.Prelude.{IfErr, OnOk};
+ghost use Rattle.fwupd_jobs.specs.Inspected.{InspectEnds, Inspects};
+
+use crate::faults::{RunFault, inspection_fault};
+use crate::files::Files;
+use crate::output::Output;
+use crate::setups::read_fault;
+use fwupd_base::inspect;
+use std::alloc::Global;
+use std::io::Write;
+
+/// Inspects the package in a file, and writes the text.
+///
+/// # Errors
+/// `Unreadable` where the file can't be read, `Package` where it holds none, and `Memory` where memory is refused: nothing is written
+/// then. `Output` where the text isn't written whole: a beginning of it may be.
+pub fn inspect_file<F: Files, W: Write>(
+    alloc: Global,
+    files: &F,
+    path: &str,
+    output: &mut Output<W>,
+) -> Result<(), RunFault>
+    ensures ok { OnOk result (Inspects (F.holds files.now path.now) output.old output.new) }
+    ensures fault { IfErr result (λ e. InspectEnds (F.holds files.now) path.now e output.old output.new) }
+{
+    let bytes = match files.contents(alloc, path) {
+        Ok(bytes) => bytes,
+        Err(fault) => return Err(read_fault(alloc, path, fault)),
+    };
+    let text = match inspect(alloc, &bytes) {
+        Ok(text) => text,
+        Err(fault) => return Err(inspection_fault(fault)),
+    };
+    match output.write(&text) {
+        Ok(()) => Ok(()),
+        Err(fault) => Err(fault),
+    }
+}

@@ -1,0 +1,28 @@
+//! The jobs of the program: answers, inspections, replays and updates over links, and the words that ask for them.
+#![tactic(auto)]
+
+mod command_line;
+mod faults;
+mod files;
+mod inspecting;
+mod nodes;
+mod output;
+mod program;
+mod progress;
+mod replaying;
+mod running;
+mod setups;
+mod sockets;
+mod tracing;
+mod updating;
+mod watching;
+
+pub use command_line::{Job, Show, parse};
+pub use faults::{RunFault, inspection_fault};
+pub use files::{FileFault, Files};
+pub use inspecting::inspect_file;
+pub use output::Output;
+pub use program::perform;
+pub use replaying::replay_files;
+pub use running::{Watch, WatchFault};
+pub use updating::{Wires, update_files};

@@ -1,0 +1,106 @@
+//! How far a run is, shown on a terminal.
+
+use exch_lane::SentPacket;
+use fd_core::MemBank;
+use fw_node::DeviceNode;
+use fw_world::World;
+use fwup_wire::Command;
+use pldm_base::TYPE_FIRMWARE_UPDATE;
+use std::time::{Duration, Instant};
+
+/// How many milliseconds pass at least until progress is shown again.
+const PAUSE: u64 = 100;
+
+/// Among how many of a pair's last packets the device's last request for its image is looked for.
+const LATEST: usize = 16;
+
+/// A line without progress, which covers one that was shown.
+const BLANK: &str = "                                                                        ";
+
+/// Shows on standard error how far the first device is that loads an image, at most ten times a second.
+#[derive(Drop)]
+pub struct Progress<'a> {
+    rt: &'a HostRuntime,
+    shown: Option<Instant>,
+}
+
+/// Where the bytes end that a packet asks for, if it is a device's request for bytes of its image.
+fn asked_by(packet: &SentPacket, device: u8) -> Option<u32> {
+    let Ok(packet) = mctp_wire::decode(packet.bytes.as_slice()) else {
+        return None;
+    };
+    let Ok((head, fields)) = pldm_base::decode(packet.body) else {
+        return None;
+    };
+    if packet.head.source != device || !head.rq || head.pldm_type != TYPE_FIRMWARE_UPDATE {
+        return None;
+    }
+    match fwup_wire::read(head.command, fields) {
+        Ok(Command::RequestFirmwareData { offset, length }) => Some(offset.saturating_add(length)),
+        _ => None,
+    }
+}
+
+/// How many bytes of its image a device has asked for, as the last packets of its pair say.
+fn asked(packets: &[SentPacket], device: u8) -> u32 {
+    for back in 1..LATEST.min(packets.len()) + 1 {
+        if let Some(end) = asked_by(&packets[packets.len() - back], device) {
+            return end;
+        }
+    }
+    0
+}
+
+impl<'a> Progress<'a> {
+    /// Progress of which nothing is shown.
+    pub fn new(rt: &'a HostRuntime) -> Progress<'a> {
+        Progress { rt, shown: None }
+    }
+
+    /// The time, where progress wasn't shown a moment ago.
+    fn due(&self) -> Option<Instant> {
+        let Ok(now) = Instant::now(self.rt) else {
+            return None;
+        };
+        match self.shown {
+            Some(shown) if now.duration_since(shown) < Duration::from_millis(PAUSE) => None,
+            _ => Some(now),
+        }
+    }
+
+    /// Shows how far a device is, if it loads an image.
+    fn show(&self, node: &DeviceNode<MemBank>, packets: &[SentPacket]) -> bool {
+        let Some((key, size)) = node.device().staged() else {
+            return false;
+        };
+        let device = node.eid();
+        let bytes = asked(packets, device).min(size);
+        let (class, identifier) = (key.classification, key.identifier);
+        let _ = eprint!(self.rt;
+            "\rdevice {device} component {class} {identifier}: {bytes} of {size} bytes        "
+        );
+        true
+    }
+
+    /// Shows what a turn left, where it wasn't shown a moment ago.
+    pub fn see(&mut self, world: &World<'_, MemBank>) {
+        let Some(now) = self.due() else {
+            return;
+        };
+        for place in 0..world.device_count() {
+            if let (Some(node), Some(packets)) = (world.device_at(place), world.packets_at(place)) {
+                if self.show(node, packets) {
+                    self.shown = Some(now);
+                    return;
+                }
+            }
+        }
+    }
+
+    /// Takes away what is shown.
+    pub fn end(&mut self) {
+        if self.shown.is_some() {
+            let _ = eprint!(self.rt; "\r{BLANK}\r");
+        }
+    }
+}

@@ -1,0 +1,168 @@
+//! Updating devices over links.
+
+ghost use Rattle.std.specs.Prelude.{◌≡◌, ◌-◌, ◌^◌, ◌⊎◌, Err, IfErr, IfSome, None, OnOk, Some, length, map, true};
+ghost use Rattle.fw_edge.specs.Ledgers.{AllSent, OneFailed, packet_counts};
+ghost use Rattle.fwupd_jobs.specs.Running.{IsCaused, IsRefusedStart, IsUpdated, MayEnd, Starts, StepsLead, told_by, told_of};
+
+use crate::faults::{RunFault, edge_fault};
+use fd_core::MemBank;
+use fw_edge::{EdgeFault, Link, drive};
+use fw_world::{Step, StepFault, World};
+use std::alloc::Global;
+
+/// How many turns a run has at most: three images of the largest size take about 66,000.
+const TURNS: u32 = 80_000;
+
+/// Why what looks on ends a run.
+#[derive(Clone, Copy, PartialEq, Eq)]
+pub enum WatchFault {
+    /// What it tells can't be written.
+    Unwritten,
+    /// Memory was refused.
+    Memory,
+}
+
+/// What looks on while devices are updated, until it has a fault, which is what each later call ends with.
+pub trait Watch {
+    ghost use Rattle.fwupd_jobs.specs.Running.{WatchOf};
+
+    ghost watched: { Self → WatchOf };
+
+    /// Sees what a turn left.
+    ///
+    /// # Errors
+    /// The fault that it had; else that what it tells of the turn can't be written, or that memory is refused.
+    fn see(&mut self, world: &World<'_, MemBank>) -> Result<(), WatchFault>
+        ensures ok { OnOk result ((watched self.new).fault ≡ None) }
+        ensures err { IfErr result (λ e. (watched self.new).fault ≡ Some e) }
+        ensures first { IfSome (watched self.old).fault (λ f. result ≡ Err f) };
+
+    /// The run has ended.
+    ///
+    /// # Errors
+    /// As for a turn.
+    fn end(&mut self) -> Result<(), WatchFault>
+        ensures ok { OnOk result ((watched self.new).fault ≡ None) }
+        ensures err { IfErr result (λ e. (watched self.new).fault ≡ Some e) }
+        ensures first { IfSome (watched self.old).fault (λ f. result ≡ Err f) }
+        ensures ended { (watched self.new).has_ended ≡ true };
+}
+
+/// The run's fault when an onlooker fails.
+pub fn watch_fault(fault: WatchFault) -> RunFault
+    ensures told { result ≡ told_by fault }
+    ensures ends { MayEnd result }
+{
+    match fault {
+        WatchFault::Unwritten => RunFault::Trace,
+        WatchFault::Memory => RunFault::Memory,
+    }
+}
+
+/// Starts the update of each device with package 1.
+fn start_all(world: &mut World<'_, MemBank>) -> Result<(), RunFault>
+    ensures started { OnOk result (Starts world.old world.new) }
+    ensures same { OnOk result (world.new.sites ≡ world.old.sites) }
+    ensures reached { StepsLead world.old world.new }
+    ensures fault { IfErr result MayEnd }
+    ensures refused { IfErr result (λ e. e ≡ RunFault.Edge EdgeFault.Step → IsRefusedStart world.old world.new) }
+    ensures none { IfErr result (λ e. e ≡ RunFault.Edge EdgeFault.Frame → ⊥) }
+    ensures unseen { IfErr result (λ e. e ≡ RunFault.Trace → ⊥) }
+{
+    for place in 0..world.device_count() {
+        let Some(node) = world.device_at(place) else {
+            return Err(RunFault::Memory);
+        };
+        let start = Step::Start(node.eid(), 1);
+        match world.step(&start) {
+            Ok(()) => {}
+            Err(StepFault::Memory) => return Err(RunFault::Memory),
+            Err(_) => return Err(RunFault::Edge(EdgeFault::Step)),
+        }
+    }
+    Ok(())
+}
+
+/// The run's fault when a turn fails. The onlooker still sees that turn; a fault of its own isn't told then.
+fn broken_off<V: Watch>(world: &World<'_, MemBank>, watch: &mut V, fault: EdgeFault) -> RunFault
+    ensures { result ≡ told_of fault }
+{
+    let _ = watch.see(world);
+    edge_fault(fault)
+}
+
+/// Updates each device of a new world with package 1 over its link, turn by turn, until each session is Done or Failed, and at
+/// most for 80,000 turns. Each turn is seen by what looks on, the one too in which a link fails.
+///
+/// # Errors
+/// `Edge` where a link failed, a start is refused or the clock stands at its end, `Memory` where memory was refused, and what ends
+/// the watch.
+pub fn update_all<L: Link, V: Watch>(
+    alloc: Global,
+    world: &mut World<'_, MemBank>,
+    links: &mut [L],
+    watch: &mut V,
+) -> Result<(), RunFault>
+    requires { length links.old ≡ length world.old.sites }
+    ensures updated { OnOk result (IsUpdated world.old world.new) }
+    ensures reached { StepsLead world.old world.new }
+    ensures fault { IfErr result MayEnd }
+    ensures kept { OnOk result (map (λ l. (L.tally l).failures) links.new ≡ map (λ l. (L.tally l).failures) links.old) }
+    ensures frame { IfErr result (λ e. e ≡ RunFault.Edge EdgeFault.Frame → OneFailed (map (λ l. (L.tally l).failures) links.old) (map (λ l. (L.tally l).failures) links.new)) }
+    ensures step { IfErr result (λ e. e ≡ RunFault.Edge EdgeFault.Step → IsRefusedStart world.old world.new ⊎ (world.new.now ≡ 2 ^ 32 - 1)) }
+    ensures sent { OnOk result (AllSent (packet_counts world.old.sites) (packet_counts world.new.sites) (map (λ l. (L.tally l).sent) links.old) (map (λ l. (L.tally l).sent) links.new)) }
+    ensures unwritten { IfErr result (λ e. e ≡ RunFault.Trace → (V.watched watch.new).fault ≡ Some WatchFault.Unwritten) }
+{
+    match start_all(world) {
+        Ok(()) => {}
+        Err(fault) => return Err(fault),
+    }
+    let mut steps = Vec::new(alloc);
+    for _ in 0..TURNS {
+        let driven = match drive(world, links, 1, &mut steps) {
+            Ok(driven) => driven,
+            Err(fault) => return Err(broken_off(world, watch, fault)),
+        };
+        if driven.turns == 0 {
+            return Ok(());
+        }
+        match watch.see(world) {
+            Ok(()) => {}
+            Err(fault) => return Err(watch_fault(fault)),
+        }
+        steps.clear();
+    }
+    Ok(())
+}
+
+/// Updates each device of a new world, and lets what looks on end, whatever becomes of the update.
+///
+/// # Errors
+/// That of the update, and else what ends the watch.
+pub fn update_watched<L: Link, V: Watch>(
+    alloc: Global,
+    world: &mut World<'_, MemBank>,
+    links: &mut [L],
+    watch: &mut V,
+) -> Result<(), RunFault>
+    requires { length links.old ≡ length world.old.sites }
+    ensures updated { OnOk result (IsUpdated world.old world.new) }
+    ensures reached { StepsLead world.old world.new }
+    ensures seen { OnOk result ((V.watched watch.new).fault ≡ None) }
+    ensures ended { (V.watched watch.new).has_ended ≡ true }
+    ensures fault { IfErr result (λ e. (e ≡ RunFault.Memory) ⊎ IsCaused world.old world.new e (V.watched watch.new)) }
+    ensures kept { OnOk result (map (λ l. (L.tally l).failures) links.new ≡ map (λ l. (L.tally l).failures) links.old) }
+    ensures frame { IfErr result (λ e. e ≡ RunFault.Edge EdgeFault.Frame → OneFailed (map (λ l. (L.tally l).failures) links.old) (map (λ l. (L.tally l).failures) links.new)) }
+    ensures sent { OnOk result (AllSent (packet_counts world.old.sites) (packet_counts world.new.sites) (map (λ l. (L.tally l).sent) links.old) (map (λ l. (L.tally l).sent) links.new)) }
+{
+    let end = update_all(alloc, world, links, watch);
+    let watched = watch.end();
+    match end {
+        Ok(()) => {}
+        Err(fault) => return Err(fault),
+    }
+    match watched {
+        Ok(()) => Ok(()),
+        Err(fault) => Err(watch_fault(fault)),
+    }
+}

@@ -1,0 +1,162 @@
+//! Updating the devices of a configuration.
+
+ghost use Rattle.std.specs.Prelude.{◌≡◌, ◌⊎◌, Bool, IfErr, IfOk, None, OnOk, length, true, ℕ};
+ghost use Rattle.fw_script.specs.Reports.{report_of};
+ghost use Rattle.fwupd_jobs.specs.Outputs.{FailsToPrint, Prints};
+ghost use Rattle.fwupd_jobs.specs.Running.{DrivingEnds, IsUnlinked, IsUpdated, ReportsUpdate, StepsLead, UpdateEnds};
+
+use crate::faults::RunFault;
+use crate::files::Files;
+use crate::nodes::nodes;
+use crate::output::Output;
+use crate::running::{Watch, update_watched};
+use crate::setups::{configuration, package_files, packages_in};
+use fd_core::MemBank;
+use fw_edge::Link;
+use fw_script::{Config, report};
+use fw_world::{World, packets_are_safe};
+use std::alloc::Global;
+use std::io::Write;
+
+/// Where links to devices are opened. It is known before to which devices they may be lacking.
+pub trait Wires<L> {
+    ghost lacks: { Self → ℕ → Bool };
+
+    /// Opens a link to a device.
+    ///
+    /// # Errors
+    /// `Socket` where it can't be made, and `Memory`.
+    fn open(&mut self, device: u8) -> Result<L, RunFault>
+        ensures same { lacks self.new ≡ lacks self.old }
+        ensures fault { IfErr result (λ e. (e ≡ RunFault.Memory) ⊎ ((e ≡ RunFault.Socket device) × (lacks self.old device ≡ true))) };
+}
+
+/// Opens a link to each device of a world, in configured order.
+fn open_all<L: Link + Drop, S: Wires<L>>(
+    alloc: Global,
+    world: &World<'_, MemBank>,
+    wires: &mut S,
+) -> Result<Vec<L>, RunFault>
+    ensures links { IfOk result (λ links. length links.items ≡ length world.now.sites) }
+    ensures fault { IfErr result (λ e. (e ≡ RunFault.Memory) ⊎ IsUnlinked world.now (S.lacks wires.old) e) }
+{
+    let mut links = Vec::new(alloc);
+    for place in 0..world.device_count() {
+        let Some(node) = world.device_at(place) else {
+            return Err(RunFault::Memory);
+        };
+        let link = match wires.open(node.eid()) {
+            Ok(link) => link,
+            Err(fault) => return Err(fault),
+        };
+        let Ok(()) = links.push(link) else {
+            return Err(RunFault::Memory);
+        };
+    }
+    Ok(links)
+}
+
+/// Writes the report of a world.
+fn write_report<W: Write>(
+    alloc: Global,
+    world: &World<'_, MemBank>,
+    output: &mut Output<W>,
+) -> Result<(), RunFault>
+    ensures ok { OnOk result (Prints output.old output.new (report_of world.now)) }
+    ensures fault { IfErr result (λ e. ((e ≡ RunFault.Memory) × (output.new ≡ output.old)) ⊎ ((e ≡ RunFault.Output) × FailsToPrint output.old output.new (report_of world.now))) }
+{
+    let Ok(text) = report(alloc, world) else {
+        return Err(RunFault::Memory);
+    };
+    match output.write(&text) {
+        Ok(()) => Ok(()),
+        Err(fault) => Err(fault),
+    }
+}
+
+/// Updates each device of a new world with package 1 over a link of its own, and writes the report of what that leaves.
+fn update_over<L: Link + Drop, S: Wires<L>, V: Watch, W: Write>(
+    alloc: Global,
+    world: &mut World<'_, MemBank>,
+    wires: &mut S,
+    watch: &mut V,
+    output: &mut Output<W>,
+) -> Result<(), RunFault>
+    ensures updated { OnOk result (IsUpdated world.old world.new) }
+    ensures seen { OnOk result ((V.watched watch.new).fault ≡ None) }
+    ensures let_end { OnOk result ((V.watched watch.new).has_ended ≡ true) }
+    ensures written { OnOk result (Prints output.old output.new (report_of world.new)) }
+    ensures reached { StepsLead world.old world.new }
+    ensures fault { IfErr result (λ e. DrivingEnds (S.lacks wires.old) world.old world.new e (V.watched watch.new) output.old output.new) }
+{
+    let mut links = match open_all(alloc, world, wires) {
+        Ok(links) => links,
+        Err(fault) => return Err(fault),
+    };
+    match update_watched(alloc, world, links.as_mut_slice(), watch) {
+        Ok(()) => {}
+        Err(RunFault::Memory) => return Err(RunFault::Memory),
+        Err(fault) => {
+            match write_report(alloc, world, output) {
+                Ok(()) => {}
+                Err(other) => return Err(other),
+            }
+            return Err(fault);
+        }
+    }
+    match write_report(alloc, world, output) {
+        Ok(()) => Ok(()),
+        Err(fault) => Err(fault),
+    }
+}
+
+/// Updates the devices of the configuration in a file with its first package, each over a link of its own, and writes the report
+/// of what that leaves.
+///
+/// # Errors
+/// The first fault, in this order: of the configuration's file; `NoPackage` where it names no package; of the packages that it
+/// names, one after the other; `Socket` where a link isn't opened. `Edge` where a link failed or the clock stands at its end, and `Trace`
+/// where what looks on can't write: the report is then of the world that was reached. `Output` where the report isn't written
+/// whole: a beginning of it may be. `Memory` where memory is refused: nothing is written then.
+pub fn update_files<F: Files, L: Link + Drop, S: Wires<L>, V: Watch, W: Write>(
+    alloc: Global,
+    files: &F,
+    config: &str,
+    wires: &mut S,
+    watch: &mut V,
+    output: &mut Output<W>,
+) -> Result<(), RunFault>
+    ensures ok { OnOk result (ReportsUpdate (F.holds files.now) config.now (V.watched watch.new) output.old output.new) }
+    ensures fault { IfErr result (λ e. UpdateEnds (F.holds files.now) config.now (S.lacks wires.old) e (V.watched watch.new) output.old output.new) }
+{
+    let Config {
+        agent,
+        devices,
+        packages: paths,
+    } = match configuration(alloc, files, config) {
+        Ok(config) => config,
+        Err(fault) => return Err(fault),
+    };
+    if paths.is_empty() {
+        return Err(RunFault::NoPackage);
+    }
+    let contents = match package_files(alloc, files, paths.as_slice()) {
+        Ok(contents) => contents,
+        Err(fault) => return Err(fault),
+    };
+    let packages = match packages_in(alloc, contents.as_slice()) {
+        Ok(packages) => packages,
+        Err(fault) => return Err(fault),
+    };
+    let Ok(nodes) = nodes(alloc, agent.eid, devices) else {
+        return Err(RunFault::Memory);
+    };
+    let Ok(mut world) = World::new(alloc, agent, nodes, packages.as_slice()) else {
+        return Err(RunFault::Memory);
+    };
+    packets_are_safe();
+    match update_over(alloc, &mut world, wires, watch, output) {
+        Ok(()) => Ok(()),
+        Err(fault) => Err(fault),
+    }
+}

@@ -1,0 +1,9 @@
+//! Tests of the world over whole messages.
+
+mod endings;
+mod losses;
+mod packages;
+mod refusals;
+mod seeing;
+mod setup;
+mod steps;

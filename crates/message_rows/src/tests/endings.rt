@@ -1,0 +1,58 @@
+//! A cancel that meets a completion.
+
+use crate::tests::packages::{file, package};
+use crate::tests::seeing::{
+    applied, cell_of, happened, happened_last, records, runs_first, stands,
+};
+use crate::tests::setup::{KEY, Small};
+use crate::tests::steps::{
+    ASK_DOWN, CANCEL, COMPLETE_ASKED, DROP_UP, LEARN_DOWN, LEARN_UP, TAKE_BUSY, TAKE_UP, WHOLE,
+    led, takes, takes_worked,
+};
+use fd_core::State;
+use fw_message::{MessageStep, Way};
+use fw_package::Package;
+use fwup_wire::code::command::APPLY_COMPLETE;
+use fwup_wire::code::completion::COMMAND_NOT_EXPECTED;
+use std::alloc::Global;
+use std::test::Fail;
+use ua_core::SessionState;
+
+/// Whether the first image runs, nothing is applied and nothing recorded.
+fn is_as_before(world: &Small<'_>) -> bool {
+    runs_first(world) && applied(world, KEY).is_empty() && records(world).is_empty()
+}
+
+/// Whether a cancel at ApplyComplete has it refused, and these steps then end the update without a record.
+fn is_refused_late(
+    alloc: Global,
+    packages: &[Package<'_>],
+    then: &[MessageStep],
+) -> Result<bool, Fail> {
+    let mut world = led(alloc, packages, COMPLETE_ASKED, &[CANCEL, TAKE_UP])?;
+    let refused = Some((APPLY_COMPLETE, Some(COMMAND_NOT_EXPECTED), true));
+    let late = cell_of(&world, Way::Up) == refused
+        && stands(&world, State::Apply, SessionState::Cancelling)
+        && happened(&world, b"A");
+    let ended = takes(&mut world, then)
+        && stands(&world, State::Idle, SessionState::Idle)
+        && is_as_before(&world)
+        && happened(&world, b"A");
+    let anew = takes_worked(&mut world, WHOLE) && happened_last(&world, b"ARV");
+    Ok(late && ended && anew)
+}
+
+#[test]
+fn a_stale_completion_records_nothing(rt: HostRuntime) -> Result<(), Fail> {
+    let one = file(rt.alloc())?;
+    let packages = [package(&one)?];
+    // the device learns the refusal, or is cancelled before
+    let rows: [&[MessageStep]; 2] = [
+        &[LEARN_UP, ASK_DOWN, TAKE_BUSY, LEARN_DOWN],
+        &[ASK_DOWN, TAKE_BUSY, LEARN_DOWN, DROP_UP],
+    ];
+    for then in rows {
+        assert!(rt; is_refused_late(rt.alloc(), &packages, then)?);
+    }
+    Ok(())
+}

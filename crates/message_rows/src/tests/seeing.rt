@@ -1,0 +1,183 @@
+//! What is seen of a world, and what is to be seen of it.
+
+use crate::tests::setup::{KEY, SECOND, Small};
+use crate::tests::steps::DEVICE;
+use fd_core::{Bank, Key, MemBank, Progress, State};
+use fw_message::{Entry, Event, Held, Way};
+use fwup_wire::Answer;
+use ua_core::{Recorded, SessionState};
+
+/// Whether the worked device and its session stand there.
+pub fn stands(world: &Small<'_>, device: State, session: SessionState) -> bool {
+    state_of(world) == Some((device, session))
+}
+
+/// Where the worked device and its session stand.
+fn state_of(world: &Small<'_>) -> Option<(State, SessionState)> {
+    let device = world.device(DEVICE)?;
+    let session = world.session(DEVICE)?;
+    Some((device.state(), session.state()))
+}
+
+/// A cell: the code of its command, that of its answer, and whether its asker waits.
+pub type Cell = Option<(u8, Option<u8>, bool)>;
+
+/// What the cell of a way of the worked device holds.
+pub fn cell_of(world: &Small<'_>, way: Way) -> Cell {
+    let held = world.cell(DEVICE, way)?;
+    Some((held.command().code(), answer_code(held), held.is_live()))
+}
+
+fn answer_code(held: &Held<'_>) -> Option<u8> {
+    match held.answer() {
+        Some(Answer::Refused { code }) => Some(code),
+        Some(_) => Some(0),
+        None => None,
+    }
+}
+
+/// A component's image that runs and the one that is applied: their bytes counted, and summed up by place.
+type Images = [(usize, usize); 2];
+
+/// What is seen of the worked device and its session without memory: where they stand, what the device has transferred, both
+/// cells, the images of both components, how often the bank failed, and how much was recorded and happened.
+pub type Glance = (
+    Option<(State, SessionState)>,
+    Option<(Option<Progress>, Option<(Key, u32)>, u64)>,
+    [Cell; 2],
+    [Images; 2],
+    [usize; 2],
+);
+
+/// What is seen of the worked device now.
+pub fn look_at(world: &Small<'_>) -> Glance {
+    let transferred = match world.device(DEVICE) {
+        Some(device) => Some((device.progress(), device.staged(), device.bank().failures())),
+        None => None,
+    };
+    (
+        state_of(world),
+        transferred,
+        [cell_of(world, Way::Down), cell_of(world, Way::Up)],
+        [images_of(world, KEY), images_of(world, SECOND)],
+        [records(world).len(), world.history().len()],
+    )
+}
+
+fn images_of(world: &Small<'_>, key: Key) -> Images {
+    [
+        size_and_sum(active(world, key)),
+        size_and_sum(applied(world, key)),
+    ]
+}
+
+fn size_and_sum(bytes: &[u8]) -> (usize, usize) {
+    let mut sum: usize = 0;
+    for (place, byte) in bytes.iter().enumerate() {
+        sum = sum.wrapping_add(usize::from(*byte).wrapping_mul(place.wrapping_add(1)));
+    }
+    (bytes.len(), sum)
+}
+
+/// What happened with the worked device, a letter each: A image applied, R component 0 of package 1 recorded, V activated; a
+/// question mark where an image isn't the worked one of the worked component.
+pub fn happened(world: &Small<'_>, letters: &[u8]) -> bool {
+    world.history().len() == letters.len() && happened_last(world, letters)
+}
+
+/// Whether that is what happened last.
+pub fn happened_last(world: &Small<'_>, letters: &[u8]) -> bool {
+    let before = world.history().len().saturating_sub(letters.len());
+    let last = world.history().get(before..).unwrap_or(&[]);
+    for (entry, letter) in last.iter().zip(letters) {
+        if letter_of(entry) != *letter {
+            return false;
+        }
+    }
+    last.len() == letters.len()
+}
+
+fn letter_of(entry: &Entry) -> u8 {
+    match &entry.event {
+        Event::Applied(image) if is_worked(entry, image.key, image.bytes.as_slice()) => b'A',
+        Event::Activated(image) if is_worked(entry, image.key, image.bytes.as_slice()) => b'V',
+        Event::Recorded(recorded) if entry.device == DEVICE && *recorded == FIRST => b'R',
+        _ => b'?',
+    }
+}
+
+/// The record of the first component of the first package.
+const FIRST: Recorded = Recorded {
+    package: 1,
+    component: 0,
+};
+
+fn is_worked(entry: &Entry, key: Key, bytes: &[u8]) -> bool {
+    entry.device == DEVICE && key == KEY && is_worked_image(bytes)
+}
+
+/// Whether these are 241 bytes and byte i is i mod 256.
+pub fn is_worked_image(bytes: &[u8]) -> bool {
+    for (place, byte) in bytes.iter().enumerate() {
+        if usize::from(*byte) != place % 256 {
+            return false;
+        }
+    }
+    bytes.len() == 241
+}
+
+/// The worked device's bank.
+fn bank<'w>(world: &'w Small<'_>) -> Option<&'w MemBank> {
+    match world.device(DEVICE) {
+        Some(device) => Some(device.bank()),
+        None => None,
+    }
+}
+
+/// The image that runs for a component of the worked device; empty where there is none.
+pub fn active<'w>(world: &'w Small<'_>, key: Key) -> &'w [u8] {
+    let Some(bank) = bank(world) else {
+        return &[];
+    };
+    match bank.active(key) {
+        Some((_, image)) => image,
+        None => &[],
+    }
+}
+
+/// The image that is applied for a component of the worked device; empty where there is none.
+pub fn applied<'w>(world: &'w Small<'_>, key: Key) -> &'w [u8] {
+    let Some(bank) = bank(world) else {
+        return &[];
+    };
+    match bank.applied(key) {
+        Some((_, image)) => image,
+        None => &[],
+    }
+}
+
+/// Whether the image AA, with which it came, runs on the worked device.
+pub fn runs_first(world: &Small<'_>) -> bool {
+    active(world, KEY) == [0xAA].as_slice()
+}
+
+/// What the agent recorded of the worked device.
+pub fn records<'w>(world: &'w Small<'_>) -> &'w [Recorded] {
+    match world.session(DEVICE) {
+        Some(session) => session.records(),
+        None => &[],
+    }
+}
+
+/// Whether the agent has the one record of the worked device that the first component of the first package gives.
+pub fn has_first_record(world: &Small<'_>) -> bool {
+    records(world) == [FIRST].as_slice()
+}
+
+/// How often the worked device's bank failed.
+pub fn failures(world: &Small<'_>) -> u64 {
+    match bank(world) {
+        Some(bank) => bank.failures(),
+        None => 0,
+    }
+}

@@ -1,0 +1,96 @@
+//! The worked devices and packages, and worlds of them.
+
+ghost use Rattle.std.specs.Prelude.{◌≡◌, ◌∷◌, [], IfOk, map};
+ghost use Rattle.fd_core.specs.Components.{HasComponents};
+ghost use Rattle.fd_core.specs.Images.{key_of};
+
+use arrayvec::ArrayVec;
+use fd_core::{BankFault, Component, Device, Key, Label, MemBank};
+use fw_message::{MessageStepFault, MessageWorld};
+use fw_package::Package;
+use fwup_wire::{Descriptor, DescriptorList, Text, Version};
+use std::alloc::Global;
+
+/// The agent.
+pub const AGENT: u8 = 8;
+
+/// No node has this identifier.
+pub const NOBODY: u8 = 11;
+
+/// The worked device's component.
+pub const KEY: Key = Key {
+    classification: 10,
+    identifier: 1,
+};
+
+/// The second component of a device with two.
+pub const SECOND: Key = Key {
+    classification: 10,
+    identifier: 2,
+};
+
+/// A world of the tests.
+pub type Small<'a> = MessageWorld<'a, MemBank>;
+
+/// The worked device's descriptors: type 0, data 34 12.
+fn descriptors() -> DescriptorList {
+    let mut descriptors = DescriptorList::new();
+    descriptors.push(&Descriptor {
+        kind: 0,
+        bytes: &[0x34, 0x12],
+    });
+    descriptors
+}
+
+/// Stamp 1, `1.0`.
+fn label() -> Label {
+    Label::new(&Version {
+        stamp: 1,
+        text: Text {
+            text_type: 1,
+            bytes: b"1.0",
+        },
+    })
+}
+
+/// The worked device's bank: image AA.
+fn bank_of_one(alloc: Global) -> Result<MemBank, BankFault>
+    ensures { IfOk result (λ b. map key_of b.rows ≡ KEY ∷ []) }
+{
+    let mut bank = MemBank::new(alloc);
+    bank.add(KEY, &label(), &[0xAA])?;
+    Ok(bank)
+}
+
+/// The worked device.
+fn device_of_one(bank: MemBank) -> Device<MemBank>
+    requires { map key_of bank.rows ≡ KEY ∷ [] }
+    ensures { HasComponents result.device }
+{
+    let mut components = ArrayVec::new();
+    components.push(Component { key: KEY, index: 0 });
+    Device::new(descriptors(), components, bank)
+}
+
+/// A worked device of this identifier joins a world that has none.
+pub fn join(alloc: Global, world: &mut Small<'_>, eid: u8) -> Result<(), MessageStepFault> {
+    let Ok(bank) = bank_of_one(alloc) else {
+        return Err(MessageStepFault::Memory);
+    };
+    add(world, eid, device_of_one(bank))
+}
+
+/// A device joins a world that has no node of its identifier.
+fn add(world: &mut Small<'_>, eid: u8, device: Device<MemBank>) -> Result<(), MessageStepFault>
+    requires { HasComponents device.device }
+{
+    if eid == world.agent() || world.device(eid).is_some() {
+        return Err(MessageStepFault::NoSuchNode);
+    }
+    world.add(eid, device)
+}
+
+/// The agent without devices.
+pub fn opening<'a>(alloc: Global, packages: &'a [Package<'a>]) -> Small<'a> {
+    MessageWorld::new(alloc, AGENT, packages)
+}

@@ -1,0 +1,5 @@
+//! Tests of the nodes.
+#![tactic(auto)]
+
+#[cfg(test)]
+mod tests;

@@ -1,0 +1,143 @@
+//! The worked device and its agent, and how rows run on their nodes.
+
+use arrayvec::ArrayVec;
+use fd_core::{Component, Device, Key, Label, MemBank};
+use fw_node::{DeviceNode, Outbox};
+use fwup_wire::{Descriptor, DescriptorList, Text, Version};
+use mctp_ctl::Endpoint;
+use std::alloc::Global;
+use uuid::Uuid;
+
+/// The agent's endpoint identifier.
+pub const AGENT: u8 = 8;
+
+/// The device's endpoint identifier.
+pub const DEVICE: u8 = 9;
+
+/// The device's component.
+pub const KEY: Key = Key {
+    classification: 10,
+    identifier: 1,
+};
+
+/// GetStatus to the device.
+pub const GET_STATUS: &[u8] = &[0x01, 9, 8, 0xC8, 0x01, 0x80, 0x05, 0x1B];
+
+/// Its answer of an idle device that started anew.
+pub const IDLE: &[u8] = &[
+    0x01, 8, 9, 0xC0, 0x01, 0, 0x05, 0x1B, 0, 0, 0, 3, 0, 0x65, 0, 0, 0, 0, 0,
+];
+
+/// What happens to a node: a packet comes, or so many ticks pass in which it sends nothing, or it starts anew.
+#[derive(Clone, Copy)]
+pub enum Event<'a> {
+    /// This packet comes, and these bytes go back, or nothing.
+    Packet(&'a [u8], &'a [u8]),
+    /// So many ticks pass, and nothing is sent.
+    Quiet(usize),
+    /// The node starts anew.
+    Restart,
+}
+
+/// The worked device's descriptors: type 0, data 34 12.
+fn descriptors() -> DescriptorList {
+    let mut descriptors = DescriptorList::new();
+    descriptors.push(&Descriptor {
+        kind: 0,
+        bytes: &[0x34, 0x12],
+    });
+    descriptors
+}
+
+/// The node of the worked device: component (10, 1), stamp 1, `1.0`, image AA.
+pub fn device_node(alloc: Global) -> Option<DeviceNode<MemBank>> {
+    let label = Label::new(&Version {
+        stamp: 1,
+        text: Text {
+            text_type: 1,
+            bytes: b"1.0",
+        },
+    });
+    let mut bank = MemBank::new(alloc);
+    let Ok(()) = bank.add(KEY, &label, &[0xAA]) else {
+        return None;
+    };
+    let mut components = ArrayVec::new();
+    components.push(Component { key: KEY, index: 0 });
+    let device = Device::new(descriptors(), components, bank);
+    Some(DeviceNode::new(endpoint(DEVICE), AGENT, device))
+}
+
+/// An endpoint without a UUID.
+pub fn endpoint(eid: u8) -> Endpoint {
+    Endpoint {
+        eid,
+        uuid: Uuid::nil(),
+    }
+}
+
+/// Whether an outbox holds this one packet, or nothing where there are no bytes.
+fn holds(outbox: &mut Outbox, packet: &[u8]) -> bool {
+    match outbox.pop() {
+        Some(sent) => sent.as_slice() == packet && outbox.pop().is_none(),
+        None => packet.is_empty(),
+    }
+}
+
+/// A packet comes to a device's node. Whether it sends this.
+fn device_answers(
+    alloc: Global,
+    node: &mut DeviceNode<MemBank>,
+    bytes: &[u8],
+    answer: &[u8],
+) -> bool {
+    let Ok(mut outbox) = Outbox::new(alloc) else {
+        return false;
+    };
+    node.on_packet(bytes, &mut outbox);
+    holds(&mut outbox, answer)
+}
+
+/// A tick of a device's node. Whether it sends nothing.
+fn device_is_quiet(alloc: Global, node: &mut DeviceNode<MemBank>) -> bool {
+    let Ok(mut outbox) = Outbox::new(alloc) else {
+        return false;
+    };
+    node.on_tick(&mut outbox);
+    outbox.is_empty()
+}
+
+/// So many ticks of it. Whether it sends nothing.
+fn device_stays_quiet(alloc: Global, node: &mut DeviceNode<MemBank>, ticks: usize) -> bool {
+    for _ in 0..ticks {
+        if !device_is_quiet(alloc, node) {
+            return false;
+        }
+    }
+    true
+}
+
+/// What happens in one row. Whether the device's node does as it says.
+fn device_does(alloc: Global, node: &mut DeviceNode<MemBank>, event: &Event<'_>) -> bool {
+    match event {
+        Event::Packet(bytes, answer) => device_answers(alloc, node, bytes, answer),
+        Event::Quiet(ticks) => device_stays_quiet(alloc, node, *ticks),
+        Event::Restart => {
+            node.restart();
+            true
+        }
+    }
+}
+
+/// The number of the first row, from 1, that a device's node doesn't do; 0 where it does all.
+pub fn device_fails(alloc: Global, events: &[Event<'_>]) -> usize {
+    let Some(mut node) = device_node(alloc) else {
+        return 1;
+    };
+    for (number, event) in events.iter().enumerate() {
+        if !device_does(alloc, &mut node, event) {
+            return number + 1;
+        }
+    }
+    0
+}

@@ -1,0 +1,136 @@
+//! Packets put together.
+
+use mctp_reasm::{Assembly, DropCause, Fed};
+use mctp_wire::{RawPacket, decode};
+
+/// The fourth byte of a packet from 8 to 9 under tag 3, and the number of bytes of its body; or, with no body, so many
+/// ticks.
+type Step = (u8, usize);
+
+/// Feeds a packet with a body of so many times the same byte.
+fn fed(assembly: &mut Assembly, flags: u8, size: usize, byte: u8) -> Option<Fed> {
+    let mut bytes = RawPacket::new();
+    let _ = bytes.try_extend_from_slice(&[0x01, 9, 8, flags]);
+    for _ in 0..size {
+        let _ = bytes.try_push(byte);
+    }
+    let Ok(packet) = decode(bytes.as_slice()) else {
+        return None;
+    };
+    let is_packet = packet.head.tag <= 7 && !packet.body.is_empty() && packet.body.len() <= 64;
+    if is_packet && assembly.is_for(&packet) {
+        Some(assembly.feed(&packet))
+    } else {
+        None
+    }
+}
+
+/// What comes of a step, as a letter: O open, W whole, or that of the drop's cause; a point for ticks.
+fn letter(assembly: &mut Assembly, step: Step) -> u8 {
+    let (flags, size) = step;
+    if size == 0 {
+        for _ in 0..flags {
+            assembly.tick();
+        }
+        return b'.';
+    }
+    match fed(assembly, flags, size, 0x5A) {
+        None => b'?',
+        Some(Fed::Open) => b'O',
+        Some(Fed::Whole(_)) => b'W',
+        Some(Fed::Dropped(DropCause::NoStart)) => b'N',
+        Some(Fed::Dropped(DropCause::Sequence)) => b'Q',
+        Some(Fed::Dropped(DropCause::Unit)) => b'U',
+        Some(Fed::Dropped(DropCause::StartNumber)) => b'S',
+        Some(Fed::Dropped(DropCause::FifthPacket)) => b'F',
+    }
+}
+
+/// Whether these letters come of the steps, one after the other.
+fn come(steps: &[Step], letters: &[u8]) -> bool {
+    let mut assembly = Assembly::new();
+    for (step, wanted) in steps.iter().zip(letters) {
+        if letter(&mut assembly, *step) != *wanted {
+            return false;
+        }
+    }
+    steps.len() == letters.len()
+}
+
+/// A situation: its steps, and the letters that come of them. The packets of a message of 256 bytes are (0x8B, 64), (0x1B, 64),
+/// (0x2B, 64) and (0x7B, 64).
+type Row<'a> = (&'a str, &'a [Step], &'a [u8]);
+
+const ROWS: [Row<'static>; 16] = [
+    (
+        "in order",
+        &[(0x8B, 64), (0x1B, 64), (0x2B, 64), (0x7B, 64)],
+        b"OOOW",
+    ),
+    (
+        "one twice",
+        &[(0x8B, 64), (0x1B, 64), (0x1B, 64), (0x2B, 64)],
+        b"OOQN",
+    ),
+    ("one left out", &[(0x8B, 64), (0x2B, 64)], b"OQ"),
+    ("no first", &[(0x1B, 64)], b"N"),
+    (
+        "begun anew",
+        &[
+            (0x8B, 64),
+            (0x1B, 64),
+            (0x8B, 64),
+            (0x1B, 64),
+            (0x2B, 64),
+            (0x7B, 64),
+        ],
+        b"OOOOOW",
+    ),
+    ("no time", &[(0x8B, 64), (0, 0), (0x1B, 64)], b"O.O"),
+    ("eight ticks", &[(0x8B, 64), (8, 0), (0x1B, 64)], b"O.O"),
+    ("nine ticks", &[(0x8B, 64), (9, 0), (0x1B, 64)], b"O.N"),
+    ("twenty ticks", &[(0x8B, 64), (20, 0), (0x1B, 64)], b"O.N"),
+    ("a first packet numbered 1", &[(0x9B, 64)], b"S"),
+    ("the same, with EOM, of one byte", &[(0xDB, 1)], b"S"),
+    ("63 bytes without EOM", &[(0x8B, 63)], b"U"),
+    ("63 bytes with EOM", &[(0xCB, 63)], b"W"),
+    ("no start, and not a whole unit", &[(0x1B, 63)], b"N"),
+    ("a last packet without a start", &[(0x5B, 1)], b"N"),
+    (
+        "a fifth packet",
+        &[
+            (0x8B, 64),
+            (0x1B, 64),
+            (0x2B, 64),
+            (0x3B, 64),
+            (0x0B, 63),
+            (0x1B, 64),
+        ],
+        b"OOOOFN",
+    ),
+];
+
+#[test]
+fn pieces_come_in_their_order_or_not(rt: HostRuntime) {
+    for (situation, steps, letters) in &ROWS {
+        assert!(rt; come(steps, letters), "{situation}");
+    }
+}
+
+/// Whether a message of 65 bytes is put together that is begun inside another, and nothing is left once that is dropped.
+fn takes_its_place() -> bool {
+    let mut assembly = Assembly::new();
+    let _ = fed(&mut assembly, 0x8B, 64, 7);
+    let _ = fed(&mut assembly, 0x8B, 64, 1);
+    let Some(Fed::Whole(message)) = fed(&mut assembly, 0x5B, 1, 1) else {
+        return false;
+    };
+    let _ = fed(&mut assembly, 0x8B, 64, 7);
+    assembly.clear();
+    message.bytes() == [1; 65].as_slice() && letter(&mut assembly, (0x1B, 64)) == b'N'
+}
+
+#[test]
+fn a_message_begun_inside_another_takes_its_place(rt: HostRuntime) {
+    assert!(rt; takes_its_place());
+}

@@ -1,0 +1,72 @@
+//! PLDM headers, read and written.
+
+use pldm_base::{PldmFault, PldmHead, TYPE_BASE, decode, encode};
+
+/// GetTID.
+const GET_TID: PldmHead = PldmHead {
+    rq: true,
+    instance: 9,
+    pldm_type: TYPE_BASE,
+    command: 2,
+};
+
+/// Each field at its greatest.
+const LAST: PldmHead = PldmHead {
+    rq: false,
+    instance: 31,
+    pldm_type: 63,
+    command: 255,
+};
+
+/// Whether this head and the bytes behind it are read from a message, and written as it.
+fn reads_and_writes(head: &PldmHead, message: &[u8]) -> bool {
+    let Ok((read, body)) = decode(message) else {
+        return false;
+    };
+    if read != *head || body.len() > 252 || read.instance > 31 || read.pldm_type > 63 {
+        return false;
+    }
+    message.get(4..) == Some(body) && encode(&read, body).as_slice() == message
+}
+
+#[test]
+fn reads_what_it_writes(rt: HostRuntime) {
+    let mut longest = [0xA5; 256];
+    longest[..4].copy_from_slice(&[0x01, 0x1F, 0x3F, 0xFF]);
+    let table: [(&PldmHead, &[u8]); 3] = [
+        (&GET_TID, &[0x01, 0x89, 0x00, 0x02]),
+        (&LAST, &[0x01, 0x1F, 0x3F, 0xFF, 0x05]),
+        (&LAST, &longest),
+    ];
+    for (head, message) in table {
+        assert!(rt; reads_and_writes(head, message));
+    }
+}
+
+/// Messages with a fault: no bytes, and three that are all wrong; another message type, the integrity check bit, and all
+/// wrong but the length; a datagram, and one of version 1; version 1.
+const FAULTS: [(&[u8], PldmFault); 8] = [
+    (&[], PldmFault::Short),
+    (&[0x00, 0xC0, 0x40], PldmFault::Short),
+    (&[0x00, 0x80, 0x00, 0x02], PldmFault::NotPldm),
+    (&[0x81, 0x80, 0x00, 0x02], PldmFault::NotPldm),
+    (&[0x02, 0xC0, 0x40, 0x02], PldmFault::NotPldm),
+    (&[0x01, 0xC0, 0x00, 0x02], PldmFault::Datagram),
+    (&[0x01, 0x40, 0x40, 0x02], PldmFault::Datagram),
+    (&[0x01, 0x80, 0x45, 0x02], PldmFault::HeaderVersion),
+];
+
+/// Whether a message has this fault.
+fn has_fault(message: &[u8], fault: PldmFault) -> bool {
+    match decode(message) {
+        Ok(_) => false,
+        Err(found) => found == fault,
+    }
+}
+
+#[test]
+fn names_the_first_fault(rt: HostRuntime) {
+    for (message, fault) in &FAULTS {
+        assert!(rt; has_fault(message, *fault));
+    }
+}

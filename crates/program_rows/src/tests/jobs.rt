@@ -1,0 +1,227 @@
+//! Jobs over files in memory.
+
+ghost use Rattle.std.specs.Prelude.{◌≡◌, Err, IfErr, IfSome, None, OnOk, Some, true};
+ghost use Rattle.fwupd_jobs.specs.Setups.{any_file};
+
+use fd_core::MemBank;
+use fw_edge::{Link, MemLink, StreamLink};
+use fw_world::World;
+use fwupd_jobs::{FileFault, Files, Output, RunFault, Watch, WatchFault, Wires, update_files};
+use std::alloc::Global;
+use std::os::unix::net::UnixStream;
+use std::test::Fail;
+
+/// Files in memory: a path and the bytes of each.
+#[derive(Drop)]
+struct MemFiles<'a> {
+    files: &'a [(&'a str, &'a [u8])],
+}
+
+impl<'a> Files for MemFiles<'a> {
+    ghost holds = { λ f path. any_file };
+
+    fn contents(&self, alloc: Global, path: &str) -> Result<Vec<u8>, FileFault> {
+        for (name, bytes) in self.files {
+            if *name == path {
+                return match Vec::from_slice(alloc, bytes) {
+                    Ok(bytes) => Ok(bytes),
+                    Err(_) => Err(FileFault::Memory),
+                };
+            }
+        }
+        Err(FileFault::Unreadable)
+    }
+}
+
+/// An agent and a device.
+const CONFIG: &[u8] = b"agent 8 00000000-0000-0000-0000-000000000000\n\
+    device 9 00000000-0000-0000-0000-000000000000\n\
+    descriptor 0000 3412\n\
+    component 10 1 0 1 1.0 AA\n";
+
+/// What is written of a job that ends with this fault or without one, and the fault's text.
+fn outcome(rt: &HostRuntime, end: Result<(), RunFault>, written: Vec<u8>) -> Result<Vec<u8>, Fail> {
+    let mut text = written;
+    if let Err(fault) = end {
+        let told = format!(in rt.alloc(); "{fault}")?;
+        text.extend_from_slice(told.as_bytes())?;
+    }
+    Ok(text)
+}
+
+/// Links in memory, and how many are opened; that to this device isn't.
+#[derive(Drop)]
+struct MemWires {
+    alloc: Global,
+    opened: usize,
+    closed: u8,
+}
+
+impl Wires<MemLink> for MemWires {
+    ghost lacks = { λ w device. true };
+
+    fn open(&mut self, device: u8) -> Result<MemLink, RunFault> {
+        if device == self.closed {
+            return Err(RunFault::Socket(device));
+        }
+        self.opened = self.opened.saturating_add(1);
+        Ok(MemLink::new(self.alloc))
+    }
+}
+
+/// A link whose device's end is closed.
+#[derive(Drop)]
+struct CutWires {
+    /// Where what the agent's end takes comes out.
+    taken: UnixStream,
+    link: Option<StreamLink<UnixStream>>,
+}
+
+impl CutWires {
+    /// The link, to be opened once.
+    fn new(rt: &HostRuntime) -> Result<CutWires, Fail> {
+        let (agent, taken) = UnixStream::pair(rt)?;
+        let (device, _) = UnixStream::pair(rt)?;
+        Ok(CutWires {
+            taken,
+            link: Some(StreamLink::new(agent, device)),
+        })
+    }
+}
+
+impl Wires<StreamLink<UnixStream>> for CutWires {
+    ghost lacks = { λ w device. true };
+
+    fn open(&mut self, device: u8) -> Result<StreamLink<UnixStream>, RunFault> {
+        match self.link.take() {
+            Some(link) => Ok(link),
+            None => Err(RunFault::Socket(device)),
+        }
+    }
+}
+
+/// Counts the turns that it sees, and can't tell of the one of this number.
+#[derive(Drop)]
+struct Counter {
+    turns: usize,
+    broken: usize,
+    fault: Option<WatchFault>,
+    has_ended: bool,
+}
+
+impl Counter {
+    /// How a call ends.
+    fn outcome(&self) -> Result<(), WatchFault>
+        ensures ok { OnOk result (self.now.fault ≡ None) }
+        ensures err { IfErr result (λ e. self.now.fault ≡ Some e) }
+        ensures first { IfSome self.now.fault (λ f. result ≡ Err f) }
+    {
+        match self.fault {
+            Some(fault) => Err(fault),
+            None => Ok(()),
+        }
+    }
+}
+
+impl Watch for Counter {
+    ghost watched = { λ c. record { fault = c.fault; has_ended = c.has_ended } };
+
+    fn see(&mut self, _world: &World<'_, MemBank>) -> Result<(), WatchFault> {
+        self.turns = self.turns.saturating_add(1);
+        if self.turns == self.broken && self.fault.is_none() {
+            self.fault = Some(WatchFault::Unwritten);
+        }
+        self.outcome()
+    }
+
+    fn end(&mut self) -> Result<(), WatchFault> {
+        self.has_ended = true;
+        self.outcome()
+    }
+}
+
+/// The worked package: an image of 241 bytes, byte i being i, for class 10, identifier 1.
+fn package(rt: &HostRuntime) -> Result<Vec<u8>, Fail> {
+    let header =
+        b"F018878CCB7D49439800A02F059ACA0201560000000000000000000000000000080001000113000100000000\
+        01010000014100000200341201000A000100020000000200000056000000F100000001027632FE656275";
+    let mut bytes = hex::decode(rt.alloc(), header)?;
+    for byte in 0..241 {
+        bytes.push(byte)?;
+    }
+    Ok(bytes)
+}
+
+/// What an update over these links writes, its fault, and how many turns were seen.
+fn updated<'a, L: Link + Drop, S: Wires<L>>(
+    rt: &HostRuntime,
+    config: &'a [u8],
+    package: &'a [u8],
+    wires: &mut S,
+    broken: usize,
+) -> Result<(Vec<u8>, usize), Fail> {
+    let files: [(&'a str, &'a [u8]); 2] = [("c", config), ("p", package)];
+    let mut watch = Counter {
+        turns: 0,
+        broken,
+        fault: None,
+        has_ended: false,
+    };
+    let mut output = Output::new(Vec::new(rt.alloc()));
+    let end = update_files(
+        rt.alloc(),
+        &MemFiles { files: &files },
+        "c",
+        wires,
+        &mut watch,
+        &mut output,
+    );
+    Ok((outcome(rt, end, output.into_writer())?, watch.turns))
+}
+
+/// The configuration, with a package.
+const WHOLE: &[u8] = b"agent 8 00000000-0000-0000-0000-000000000000\n\
+    device 9 00000000-0000-0000-0000-000000000000\n\
+    descriptor 0000 3412\n\
+    component 10 1 0 1 1.0 AA\n\
+    package p\n";
+
+#[test]
+fn an_update_is_reported_turn_by_turn(rt: HostRuntime) -> Result<(), Fail> {
+    let report = b"now 12\nagent 8 up\ndevice 9 up ACTIVATE session Done sent 27\n\
+        active 9 10 1 241 000102030405060708090A0B0C0D0E0F..\nlog 3 last -\n\
+        applied 9 10 1 241\nrecorded 9 1 1\nactivated 9 10 1 241\n"
+        .as_slice();
+    let table: [(&[u8], u8, usize, &[u8], &[u8], usize); 4] = [
+        (WHOLE, 0, 0, report, b"", 12),
+        (WHOLE, 9, 0, b"", b"socket: 9", 0),
+        (CONFIG, 0, 0, b"", b"package: none", 0),
+        (WHOLE, 0, 2, b"now 2\n", b"\ntrace", 2),
+    ];
+    let package = package(&rt)?;
+    for (config, closed, broken, begins, ends, turns) in table {
+        let mut wires = MemWires {
+            alloc: rt.alloc(),
+            opened: 0,
+            closed,
+        };
+        let (text, seen) = updated(&rt, config, &package, &mut wires, broken)?;
+        assert!(rt; text.starts_with(begins), "{turns} {}", text.escape_ascii());
+        assert!(rt; text.ends_with(ends));
+        assert!(rt; seen == turns);
+    }
+    Ok(())
+}
+
+#[test]
+fn a_turn_in_which_a_link_fails_is_seen(rt: HostRuntime) -> Result<(), Fail> {
+    let mut wires = CutWires::new(&rt)?;
+    let package = package(&rt)?;
+    let (text, seen) = updated(&rt, WHOLE, &package, &mut wires, 0)?;
+    let report = b"now 1\nagent 8 up\ndevice 9 up IDLE session Query sent 1\n\
+        active 9 10 1 1 AA\nlog 1 last -\nedge: Frame"
+        .as_slice();
+    assert!(rt; text.as_slice() == report);
+    assert!(rt; seen == 1);
+    Ok(())
+}

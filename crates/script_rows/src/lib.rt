@@ -1,0 +1,5 @@
+//! Tests of configurations, schedules and reports.
+#![tactic(auto)]
+
+#[cfg(test)]
+mod tests;

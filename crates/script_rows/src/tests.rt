@@ -1,0 +1,6 @@
+//! Texts that are read, and texts that are none.
+
+mod configs;
+mod memory;
+mod noise;
+mod schedules;

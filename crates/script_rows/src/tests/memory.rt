@@ -1,0 +1,51 @@
+//! Texts that are read where memory is refused, and what their faults are called.
+
+use fw_script::{ScriptCause, ScriptFault, read_config, read_schedule};
+use std::test::Fail;
+
+/// Holds whichever single allocation is refused.
+#[test]
+fn refused_memory_is_told_of_configurations(rt: HostRuntime) {
+    let text = b"agent 8 00000000000000000000000000000000\n\
+        device 9 00000000000000000000000000000000\n\
+        component 10 1 0 1 1.0 AA\n\
+        descriptor 0000 3412\n\
+        device 10 00000000000000000000000000000000\n\
+        component 10 1 0 1 1.0 AABB\n\
+        package a\n";
+    match read_config(rt.alloc(), text) {
+        Ok(config) => assert!(rt; (config.devices.len(), config.packages.len()) == (2, 1)),
+        Err(fault) => assert!(rt; fault.cause == ScriptCause::Memory),
+    }
+}
+
+/// Holds whichever single allocation is refused.
+#[test]
+fn refused_memory_is_told_of_schedules(rt: HostRuntime) {
+    match read_schedule(rt.alloc(), b"tick 4\nsel 4000\nrestart 9\n") {
+        Ok(steps) => assert!(rt; steps.len() == 6),
+        Err(fault) => assert!(rt; fault.cause == ScriptCause::Memory),
+    }
+}
+
+#[test]
+fn faults_are_told_by_their_names(rt: HostRuntime) -> Result<(), Fail> {
+    let table: [(ScriptCause, &str); 10] = [
+        (ScriptCause::Directive, "line 3: Directive"),
+        (ScriptCause::Fields, "line 3: Fields"),
+        (ScriptCause::Order, "line 3: Order"),
+        (ScriptCause::Number, "line 3: Number"),
+        (ScriptCause::Hex, "line 3: Hex"),
+        (ScriptCause::Range, "line 3: Range"),
+        (ScriptCause::Duplicate, "line 3: Duplicate"),
+        (ScriptCause::Limit, "line 3: Limit"),
+        (ScriptCause::Missing, "line 3: Missing"),
+        (ScriptCause::Memory, "line 3: Memory"),
+    ];
+    for (cause, want) in table {
+        let fault = ScriptFault { line: 3, cause };
+        let told = format!(in rt.alloc(); "{fault}")?;
+        assert!(rt; told.as_str() == want && want.strip_prefix("line 3: ") == Some(cause.name()));
+    }
+    Ok(())
+}

@@ -1,0 +1,55 @@
+//! Schedules that are read.
+
+use fd_core::Verdict;
+use fw_script::read_schedule;
+use fw_world::{LogRequest, Step};
+use std::test::Fail;
+
+/// A request of the event log.
+fn request(bytes: &[u8]) -> Step {
+    let mut request = LogRequest::new();
+    let _ = request.try_extend_from_slice(bytes);
+    Step::Sel(request)
+}
+
+#[test]
+fn reads_each_step_and_skips_what_says_nothing(rt: HostRuntime) -> Result<(), Fail> {
+    let text = b"# every step\n\
+        tick\n\
+        \n\
+        deliver 9 0 8\n\
+        start 009 18446744073709551615\n\
+        cancel 254\n\
+        tick 003\n\
+        activate 8\n\
+        verdict 9 verify-ok\n\
+        verdict 9 verify-fail\n\
+        verdict 9 apply-ok\n\
+        verdict 9 apply-fail\n\
+        restart 10\n\
+        sel -\n\
+        sel 46fFc3\n\
+        #tick\n\
+        tick 1";
+    let steps = read_schedule(rt.alloc(), text)?;
+    let want = [
+        Step::Tick,
+        Step::Deliver(9, 0, 8),
+        Step::Start(9, 18_446_744_073_709_551_615),
+        Step::Cancel(254),
+        Step::Tick,
+        Step::Tick,
+        Step::Tick,
+        Step::Activate(8),
+        Step::Verdict(9, Verdict::VerifyOk),
+        Step::Verdict(9, Verdict::VerifyFail),
+        Step::Verdict(9, Verdict::ApplyOk),
+        Step::Verdict(9, Verdict::ApplyFail),
+        Step::Restart(10),
+        request(&[]),
+        request(&[0x46, 0xFF, 0xC3]),
+        Step::Tick,
+    ];
+    assert!(rt; steps.as_slice() == want.as_slice());
+    Ok(())
+}

@@ -1,0 +1,308 @@
+//! Answers, read and written: byte strings worked by hand from DSP0267's tables.
+
+use fwup_wire::code::{command, completion, response, text_type};
+use fwup_wire::{
+    Answer, ComponentParameters, Descriptor, DescriptorList, Key, OfferResponse, ParameterList,
+    TableResponse, Text, Version, read_answer, write_answer,
+};
+
+/// One descriptor: type 0, data 34 12.
+const ONE_DESCRIPTOR: [u8; 12] = [0, 6, 0, 0, 0, 1, 0, 0, 2, 0, 0x34, 0x12];
+
+/// And another: type 0201, data 78 56 34 12.
+const TWO_DESCRIPTORS: [u8; 20] = [
+    0, 14, 0, 0, 0, 2, 0, 0, 2, 0, 0x34, 0x12, 0x01, 0x02, 4, 0, 0x78, 0x56, 0x34, 0x12,
+];
+
+/// The two, read.
+const DESCRIPTORS_READ: [Descriptor<'static>; 2] = [
+    Descriptor {
+        kind: 0,
+        bytes: &[0x34, 0x12],
+    },
+    Descriptor {
+        kind: 0x0201,
+        bytes: &[0x78, 0x56, 0x34, 0x12],
+    },
+];
+
+/// Component (10, 1) with text `1.0` and nothing pending.
+const ONE_COMPONENT: [u8; 53] = [
+    0, 0, 0, 0, 0, 1, 0, 0, 0, 0, 0, 0x0A, 0, 1, 0, 0, 1, 0, 0, 0, 1, 3, 0, 0, 0, 0, 0, 0, 0, 0, 0,
+    0, 0, 0, 0, 0, 0, 0, 0, 0, 0, 0, 0, 0, 2, 0, 0, 0, 0, 0, 0x31, 0x2E, 0x30,
+];
+
+/// And (10, 2), index 1, with text `1.0`, and `v2` of stamp 2 pending.
+const TWO_COMPONENTS: [u8; 97] = [
+    0, 0, 0, 0, 0, 2, 0, 0, 0, 0, 0, 0x0A, 0, 1, 0, 0, 1, 0, 0, 0, 1, 3, 0, 0, 0, 0, 0, 0, 0, 0, 0,
+    0, 0, 0, 0, 0, 0, 0, 0, 0, 0, 0, 0, 0, 2, 0, 0, 0, 0, 0, 0x31, 0x2E, 0x30, 0x0A, 0, 2, 0, 1, 1,
+    0, 0, 0, 1, 3, 0, 0, 0, 0, 0, 0, 0, 0, 2, 0, 0, 0, 1, 2, 0, 0, 0, 0, 0, 0, 0, 0, 2, 0, 0, 0, 0,
+    0, 0x31, 0x2E, 0x30, 0x76, 0x32,
+];
+
+/// And (65535, 258), index 255, with the greatest stamp and no texts.
+const THREE_COMPONENTS: [u8; 136] = [
+    0, 0, 0, 0, 0, 3, 0, 0, 0, 0, 0, 0x0A, 0, 1, 0, 0, 1, 0, 0, 0, 1, 3, 0, 0, 0, 0, 0, 0, 0, 0, 0,
+    0, 0, 0, 0, 0, 0, 0, 0, 0, 0, 0, 0, 0, 2, 0, 0, 0, 0, 0, 0x31, 0x2E, 0x30, 0x0A, 0, 2, 0, 1, 1,
+    0, 0, 0, 1, 3, 0, 0, 0, 0, 0, 0, 0, 0, 2, 0, 0, 0, 1, 2, 0, 0, 0, 0, 0, 0, 0, 0, 2, 0, 0, 0, 0,
+    0, 0x31, 0x2E, 0x30, 0x76, 0x32, 0xFF, 0xFF, 2, 1, 0xFF, 0xFF, 0xFF, 0xFF, 0xFF, 0, 0, 0, 0, 0,
+    0, 0, 0, 0, 0, 0, 0, 0, 0, 0, 0, 0, 0, 0, 0, 0, 0, 0, 0, 2, 0, 0, 0, 0, 0,
+];
+
+/// No text.
+const NO_TEXT: Text<'static> = Text {
+    text_type: text_type::UNKNOWN,
+    bytes: &[],
+};
+
+/// The text `1.0` of stamp 1.
+const ONE: Version<'static> = Version {
+    stamp: 1,
+    text: Text {
+        text_type: text_type::ASCII,
+        bytes: b"1.0",
+    },
+};
+
+/// The components, read.
+const PARAMETERS_READ: [ComponentParameters<'static>; 3] = [
+    ComponentParameters {
+        key: Key {
+            classification: 10,
+            identifier: 1,
+        },
+        index: 0,
+        active: ONE,
+        pending: Version {
+            stamp: 0,
+            text: NO_TEXT,
+        },
+    },
+    ComponentParameters {
+        key: Key {
+            classification: 10,
+            identifier: 2,
+        },
+        index: 1,
+        active: ONE,
+        pending: Version {
+            stamp: 2,
+            text: Text {
+                text_type: text_type::ASCII,
+                bytes: b"v2",
+            },
+        },
+    },
+    ComponentParameters {
+        key: Key {
+            classification: 0xFFFF,
+            identifier: 258,
+        },
+        index: 255,
+        active: Version {
+            stamp: 0xFFFF_FFFF,
+            text: NO_TEXT,
+        },
+        pending: Version {
+            stamp: 0,
+            text: NO_TEXT,
+        },
+    },
+];
+
+/// Answers by their command: those without fields, or with those that say nothing; a table entry that isn't supported; an offer declined,
+/// as the stamp is the same, and 300 seconds; an activation that takes 258; and
+/// lists of descriptors and of components.
+const WHOLE: [(u8, &[u8]); 15] = [
+    (command::REQUEST_UPDATE, &[0; 4]),
+    (command::TRANSFER_COMPLETE, &[0]),
+    (command::VERIFY_COMPLETE, &[0]),
+    (command::APPLY_COMPLETE, &[0]),
+    (command::CANCEL_UPDATE_COMPONENT, &[0]),
+    (command::CANCEL_UPDATE, &[0; 10]),
+    (command::PASS_COMPONENT_TABLE, &[0, 1, 6]),
+    (
+        command::UPDATE_COMPONENT,
+        &[0, 1, 1, 0, 0, 0, 0, 0x2C, 0x01],
+    ),
+    (command::ACTIVATE_FIRMWARE, &[0, 0x02, 0x01]),
+    (command::QUERY_DEVICE_IDENTIFIERS, &[0; 6]),
+    (command::QUERY_DEVICE_IDENTIFIERS, &ONE_DESCRIPTOR),
+    (command::QUERY_DEVICE_IDENTIFIERS, &TWO_DESCRIPTORS),
+    (command::GET_FIRMWARE_PARAMETERS, &ONE_COMPONENT),
+    (command::GET_FIRMWARE_PARAMETERS, &TWO_COMPONENTS),
+    (command::GET_FIRMWARE_PARAMETERS, &THREE_COMPONENTS),
+];
+
+/// Whether an answer says what its row does, a list of this many entries the first of those above.
+fn is_told(answer: &Answer<'_>, count: usize) -> bool {
+    match answer {
+        Answer::PassComponentTable(told) => {
+            *told
+                == TableResponse {
+                    response: response::CANNOT_BE_UPDATED,
+                    code: response::NOT_SUPPORTED,
+                }
+        }
+        Answer::UpdateComponent(told) => {
+            *told
+                == OfferResponse {
+                    compatibility: response::CANNOT_BE_UPDATED,
+                    code: response::COMPARISON_STAMP_IDENTICAL,
+                    force: false,
+                    time: 300,
+                }
+        }
+        Answer::ActivateFirmware { time } => *time == 258,
+        Answer::QueryDeviceIdentifiers(told) => {
+            for (one, other) in told.iter().zip(&DESCRIPTORS_READ) {
+                if one != *other {
+                    return false;
+                }
+            }
+            told.len() == count && told.is_empty() == (count == 0)
+        }
+        Answer::GetFirmwareParameters(told) => {
+            for (one, other) in told.iter().zip(&PARAMETERS_READ) {
+                if one != *other {
+                    return false;
+                }
+            }
+            told.len() == count && !told.is_empty()
+        }
+        _ => true,
+    }
+}
+
+/// Whether these bytes are read as an answer, with what they say, and written back.
+fn reads_and_writes(byte: u8, bytes: &[u8]) -> bool {
+    match read_answer(byte, bytes) {
+        Ok(answer) => {
+            let count = bytes.get(5).copied().unwrap_or(0);
+            is_told(&answer, usize::from(count))
+                && bytes.first() == Some(&answer.code())
+                && answer.is_writable()
+                && write_answer(&answer).as_slice() == bytes
+        }
+        Err(_) => false,
+    }
+}
+
+#[test]
+fn reads_answers_and_writes_them_back(rt: HostRuntime) {
+    for (byte, bytes) in &WHOLE {
+        assert!(rt; reads_and_writes(*byte, bytes), "{byte}");
+    }
+}
+
+/// Whether the descriptors, put together one by one, are written as the bytes above.
+fn descriptors_are_put_together() -> bool {
+    let wanted: [&[u8]; 2] = [&ONE_DESCRIPTOR, &TWO_DESCRIPTORS];
+    let mut list = DescriptorList::new();
+    for (descriptor, bytes) in DESCRIPTORS_READ.iter().zip(&wanted) {
+        if descriptor.bytes.len() > 4 || list.room() < 8 {
+            return false;
+        }
+        list.push(descriptor);
+        let answer = Answer::QueryDeviceIdentifiers(list.lent());
+        if !answer.is_writable() || write_answer(&answer).as_slice() != *bytes {
+            return false;
+        }
+    }
+    true
+}
+
+/// Whether the components, put together one by one, are written as the bytes above.
+fn components_are_put_together() -> bool {
+    let wanted: [&[u8]; 3] = [&ONE_COMPONENT, &TWO_COMPONENTS, &THREE_COMPONENTS];
+    let mut list = ParameterList::new();
+    for (component, bytes) in PARAMETERS_READ.iter().zip(&wanted) {
+        let (active, pending) = (component.active.text.bytes, component.pending.text.bytes);
+        if active.len() > 3 || pending.len() > 2 || list.room() < 44 {
+            return false;
+        }
+        list.push(component);
+        let answer = Answer::GetFirmwareParameters(list.lent());
+        if !answer.is_writable() || write_answer(&answer).as_slice() != *bytes {
+            return false;
+        }
+    }
+    true
+}
+
+#[test]
+fn puts_lists_together(rt: HostRuntime) {
+    assert!(rt; descriptors_are_put_together());
+    assert!(rt; components_are_put_together());
+}
+
+/// The commands that have answers.
+const COMMANDS: [u8; 13] = [
+    0x01, 0x02, 0x10, 0x13, 0x14, 0x15, 0x16, 0x17, 0x18, 0x1A, 0x1B, 0x1C, 0x1D,
+];
+
+/// Codes of refusals.
+const CODES: [u8; 6] = [
+    0x01,
+    0x04,
+    completion::NOT_IN_UPDATE_MODE,
+    completion::ALREADY_IN_UPDATE_MODE,
+    completion::INCOMPLETE_UPDATE,
+    0xFF,
+];
+
+/// Whether this code alone is the refusal of a command, and bytes behind it are none.
+fn ends_at(byte: u8, code: u8) -> bool {
+    match read_answer(byte, &[code]) {
+        Ok(Answer::Refused { code: told }) => {
+            told == code && read_answer(byte, &[code, 0]).is_err()
+        }
+        _ => false,
+    }
+}
+
+#[test]
+fn ends_refusals_at_the_code(rt: HostRuntime) {
+    for byte in &COMMANDS {
+        for code in &CODES {
+            assert!(rt; ends_at(*byte, *code) && reads_and_writes(*byte, &[*code]));
+        }
+        assert!(rt; read_answer(*byte, &[]).is_err());
+    }
+}
+
+/// What is no answer: a descriptor missing, one too many, a longer list, a longer descriptor; metadata, package data wanted; a byte missing, a byte
+/// too many, a code alone, fields of a bare answer; a broken component, its bit; a status without flags; and answers to
+/// commands that aren't known, refusals too.
+const MALFORMED: [(u8, &[u8]); 23] = [
+    (0x01, &[0, 6, 0, 0, 0, 2, 0, 0, 2, 0, 0x34, 0x12]),
+    (0x01, &[0, 6, 0, 0, 0, 0, 0, 0, 2, 0, 0x34, 0x12]),
+    (0x01, &[0, 7, 0, 0, 0, 1, 0, 0, 2, 0, 0x34, 0x12]),
+    (0x01, &[0, 6, 0, 0, 0, 1, 0, 0, 3, 0, 0x34, 0x12]),
+    (0x10, &[0, 1, 0, 0]),
+    (0x10, &[0, 0, 0, 1]),
+    (0x13, &[0, 0]),
+    (0x14, &[0; 10]),
+    (0x1A, &[0]),
+    (0x16, &[0, 0]),
+    (0x1D, &[0, 1, 0, 0, 0, 0, 0, 0, 0, 0]),
+    (0x1D, &[0, 0, 0, 0, 0, 0, 0, 0, 0, 0x80]),
+    (0x1B, &[0, 3, 2, 0, 0, 0x65, 0]),
+    (0x00, &[0]),
+    (0x00, &[5]),
+    (0x03, &[0]),
+    (0x03, &[5]),
+    (0x19, &[0]),
+    (0x19, &[5]),
+    (0x1E, &[0]),
+    (0x1E, &[5]),
+    (0xFF, &[0]),
+    (0xFF, &[5]),
+];
+
+#[test]
+fn refuses_malformed_answers(rt: HostRuntime) {
+    for (byte, bytes) in &MALFORMED {
+        assert!(rt; read_answer(*byte, bytes).is_err(), "{byte}");
+    }
+}

@@ -1,0 +1,186 @@
+//! Commands, read and written: byte strings worked by hand from DSP0267's tables.
+
+use fwup_wire::code::text_type;
+use fwup_wire::{
+    Command, ComponentOffer, Key, TableEntry, Text, TransferFlag, UpdateRequest, Version, read,
+    write,
+};
+use pldm_base::Reply;
+use pldm_base::completion::ERROR_INVALID_LENGTH;
+
+const KEY: Key = Key {
+    classification: 10,
+    identifier: 1,
+};
+
+const TEXT: Text<'static> = Text {
+    text_type: text_type::ASCII,
+    bytes: b"v2",
+};
+
+const REQUEST: [u8; 12] = [0xF0, 0, 0, 0, 1, 0, 1, 0, 0, 1, 1, 0x41];
+
+const ENTRY: [u8; 14] = [0x05, 0x0A, 0, 1, 0, 0, 2, 0, 0, 0, 1, 2, 0x76, 0x32];
+
+const OFFER: [u8; 21] = [
+    0x0A, 0, 1, 0, 0, 1, 0, 0, 0, 0xF1, 0, 0, 0, 0, 0, 0, 0, 1, 2, 0x76, 0x32,
+];
+
+/// A command's code and its data, and what it is.
+type Row<'a> = (u8, &'a [u8], Command<'a>);
+
+const ROWS: [Row<'static>; 15] = [
+    (0x01, &[], Command::QueryDeviceIdentifiers),
+    (0x02, &[], Command::GetFirmwareParameters),
+    (
+        0x10,
+        &REQUEST,
+        Command::RequestUpdate(UpdateRequest {
+            transfer_size: 240,
+            components: 1,
+            outstanding: 1,
+            package_data_length: 0,
+            image_set: Text {
+                text_type: text_type::ASCII,
+                bytes: b"A",
+            },
+        }),
+    ),
+    (
+        0x13,
+        &ENTRY,
+        Command::PassComponentTable(TableEntry {
+            flag: TransferFlag::StartAndEnd,
+            key: KEY,
+            index: 0,
+            version: Version {
+                stamp: 2,
+                text: TEXT,
+            },
+        }),
+    ),
+    (
+        0x14,
+        &OFFER,
+        Command::UpdateComponent(ComponentOffer {
+            key: KEY,
+            index: 0,
+            version: Version {
+                stamp: 1,
+                text: TEXT,
+            },
+            size: 241,
+            force: false,
+        }),
+    ),
+    (
+        0x15,
+        &[0xF0, 0, 0, 0, 0x20, 0, 0, 0],
+        Command::RequestFirmwareData {
+            offset: 240,
+            length: 32,
+        },
+    ),
+    (0x16, &[0], Command::TransferComplete { result: 0 }),
+    (0x16, &[0x70], Command::TransferComplete { result: 0x70 }),
+    (0x17, &[0x90], Command::VerifyComplete { result: 0x90 }),
+    (
+        0x18,
+        &[0xB0, 0x02, 0x01],
+        Command::ApplyComplete {
+            result: 0xB0,
+            methods: 0x0102,
+        },
+    ),
+    (
+        0x1A,
+        &[1],
+        Command::ActivateFirmware {
+            self_contained: true,
+        },
+    ),
+    (
+        0x1A,
+        &[0],
+        Command::ActivateFirmware {
+            self_contained: false,
+        },
+    ),
+    (0x1B, &[], Command::GetStatus),
+    (0x1C, &[], Command::CancelUpdateComponent),
+    (0x1D, &[], Command::CancelUpdate),
+];
+
+/// Whether these data read as the command of this code, and are what it is written as.
+fn reads_and_writes(byte: u8, fields: &[u8], command: &Command<'_>) -> bool {
+    match read(byte, fields) {
+        Ok(found) => {
+            found == *command
+                && found.code() == byte
+                && found.is_writable()
+                && write(&found).as_slice() == fields
+        }
+        Err(_) => false,
+    }
+}
+
+#[test]
+fn reads_fields_and_writes_them_back(rt: HostRuntime) {
+    for (byte, fields, command) in &ROWS {
+        assert!(rt; reads_and_writes(*byte, fields, command), "{byte}");
+    }
+}
+
+/// The text of an update's request: it outlives what is read from the data.
+fn text_alone(fields: &[u8]) -> &[u8] {
+    match read(0x10, fields) {
+        Ok(Command::RequestUpdate(request)) => request.image_set.bytes,
+        _ => &[],
+    }
+}
+
+/// Whether the bytes of a command's data, with this one at this place, are refused for their length.
+fn is_refused(byte: u8, fields: &[u8], place: usize, other: u8) -> bool {
+    let mut changed = Reply::new();
+    let _ = changed.try_extend_from_slice(fields);
+    if let Some(slot) = changed.as_mut_slice().get_mut(place) {
+        *slot = other;
+    }
+    matches!(read(byte, &changed), Err(ERROR_INVALID_LENGTH))
+}
+
+/// Whether data are refused that end before their last byte, or have one more.
+fn has_one_length(byte: u8, fields: &[u8]) -> bool {
+    for size in 0..fields.len() {
+        if !is_refused(byte, fields.get(..size).unwrap_or(&[]), size, 0) {
+            return false;
+        }
+    }
+    let mut longer = Reply::new();
+    let _ = longer.try_extend_from_slice(fields);
+    let _ = longer.try_push(0);
+    is_refused(byte, &longer, fields.len(), 0)
+}
+
+/// Whether data are refused whose text has another length than this one, which stands at this place.
+fn fits_its_text(byte: u8, fields: &[u8], place: usize, length: u8) -> bool {
+    for other in 0..=255 {
+        if other != length && !is_refused(byte, fields, place, other) {
+            return false;
+        }
+    }
+    true
+}
+
+#[test]
+fn refuses_every_length_but_its_own(rt: HostRuntime) {
+    for (byte, fields, _) in &ROWS {
+        assert!(rt; has_one_length(*byte, fields), "{byte}");
+    }
+    assert!(rt;
+        fits_its_text(0x10, &REQUEST, 10, 1)
+            && fits_its_text(0x13, &ENTRY, 11, 2)
+            && fits_its_text(0x14, &OFFER, 18, 2)
+    );
+    assert!(rt; text_alone(&REQUEST) == b"A".as_slice());
+}

@@ -1,0 +1,9 @@
+//! Tests of commands, answers and packages. `tests/program` has the built program inspect what is no package.
+#![tactic(auto)]
+
+#[cfg(test)]
+mod answers;
+#[cfg(test)]
+mod commands;
+#[cfg(test)]
+mod packages;

@@ -1,0 +1,64 @@
+//! The worked package, read.
+
+use super::drafts::{sum_by_bits, worked, worked_rest};
+use fw_package::{Component, Package, Record};
+
+/// What the header says of a component, in the order of its fields, with its image's length.
+fn fields(component: &Component<'_>) -> [usize; 7] {
+    [
+        usize::from(component.classification),
+        usize::from(component.identifier),
+        component.stamp as usize,
+        usize::from(component.options),
+        component.offset,
+        usize::from(component.text.kind),
+        component.image.len(),
+    ]
+}
+
+/// The numbers of the components that a record uses, one digit each, counted from 0.
+fn uses(record: Record<'_>) -> usize {
+    let mut digits: usize = 9;
+    for component in record.uses {
+        digits = digits % 1000 * 10 + usize::from(component);
+    }
+    digits
+}
+
+/// Whether these are the records and components of the worked package.
+fn is_worked(file: &[u8]) -> bool {
+    let Ok(package) = Package::read(file) else {
+        return false;
+    };
+    if package.component_count() != 2 || package.record_count() != 2 {
+        return false;
+    }
+    uses(package.record_at(0)) == 901
+        && uses(package.record_at(1)) == 91
+        && fields(&package.component_at(0)) == [10, 1, 0xFFFF_FFFF, 0, 134, 1, 0]
+        && fields(&package.component_at(1)) == [10, 2, 7, 2, 134, 1, 300]
+}
+
+/// The image of the second component: it outlives the package that it is read from.
+fn image_alone(file: &[u8]) -> &[u8] {
+    let Ok(package) = Package::read(file) else {
+        return &[];
+    };
+    if package.component_count() < 2 {
+        return &[];
+    }
+    let image = package.image(1);
+    drop(package);
+    image
+}
+
+#[test]
+fn reads_the_worked_package(rt: HostRuntime) {
+    let file = worked();
+    let file = file.as_slice();
+    assert!(rt; file.len() == 439 && is_worked(file));
+    assert!(rt; Some(image_alone(file)) == worked_rest().get(..300));
+    // the checksum's known check value, and what other software writes into the worked header
+    assert!(rt; sum_by_bits(b"123456789") == 0xCBF4_3926);
+    assert!(rt; file.get(130..134) == Some([0xB4, 0xC2, 0xE1, 0x5F].as_slice()));
+}

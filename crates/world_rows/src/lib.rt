@@ -1,0 +1,5 @@
+//! Tests of the packet world.
+#![tactic(auto)]
+
+#[cfg(test)]
+mod tests;

@@ -1,0 +1,12 @@
+//! The worked update, worlds side by side, and random schedules.
+
+mod dice;
+mod headers;
+mod isolation;
+mod memory;
+mod packages;
+mod random;
+mod seeing;
+mod setup;
+mod steps;
+mod watch;

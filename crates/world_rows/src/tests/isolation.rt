@@ -1,0 +1,81 @@
+//! Two worlds side by side, in which the same is between the agent and one device.
+
+use crate::tests::packages::{file, package};
+use crate::tests::seeing::{is_updated, stands};
+use crate::tests::setup::{DEVICE, Small, world};
+use crate::tests::steps::perfect;
+use fd_core::State;
+use fw_package::Package;
+use fw_world::{Step, replay_two};
+use std::alloc::{AllocError, Global};
+use std::test::Fail;
+use ua_core::{Cause, SessionState};
+
+/// The device to which no packet comes.
+const SILENT: u8 = 10;
+
+/// Puts a step of device 9 behind these for the other devices too; device 10 is started alone.
+fn put_for_all(steps: &mut Vec<Step>, step: &Step) -> Result<(), AllocError> {
+    match step {
+        Step::Start(_, package) => {
+            steps.push(Step::Start(SILENT, *package))?;
+            steps.push(Step::Start(11, *package))?;
+        }
+        Step::Deliver(_, number, 9) => steps.push(Step::Deliver(11, *number, 11))?,
+        Step::Deliver(_, number, node) => steps.push(Step::Deliver(11, *number, *node))?,
+        Step::Verdict(_, verdict) => steps.push(Step::Verdict(11, *verdict))?,
+        Step::Activate(_) => steps.push(Step::Activate(11))?,
+        _ => {}
+    }
+    Ok(())
+}
+
+/// The schedule of 19 ticks in which device 9 is updated over links that lose nothing; in that for all devices, 11 is updated
+/// likewise, and 10 hears nothing.
+fn schedule(alloc: Global, all: bool) -> Result<Vec<Step>, AllocError> {
+    let mut steps = Vec::new(alloc);
+    for step in perfect() {
+        if all {
+            put_for_all(&mut steps, &step)?;
+        }
+        steps.push(step)?;
+    }
+    for _ in 0..7 {
+        steps.push(Step::Tick)?;
+    }
+    Ok(steps)
+}
+
+/// Whether device 9 is updated after 27 packets and 19 ticks.
+fn is_done(world: &Small<'_>) -> bool {
+    world.now() == 19
+        && is_updated(world, DEVICE)
+        && stands(world, DEVICE, SessionState::Done, State::Idle, 27)
+}
+
+/// Whether device 9 is updated in both worlds alike, and the agent gave up the silent device.
+fn is_as_alone(among: &Small<'_>, alone: &Small<'_>) -> bool {
+    let silent = SessionState::Failed(Cause::Silent);
+    is_done(among)
+        && is_done(alone)
+        && among.packets(DEVICE) == alone.packets(DEVICE)
+        && stands(among, SILENT, silent, State::Idle, 3)
+}
+
+/// Whether both schedules are taken, and device 9 is updated among three as alone.
+fn is_updated_as_alone<'a>(alloc: Global, packages: &'a [Package<'a>]) -> Result<bool, AllocError> {
+    let for_all = schedule(alloc, true)?;
+    let for_one = schedule(alloc, false)?;
+    let mut among = world(alloc, packages, 3, 1)?;
+    let mut alone = world(alloc, packages, 1, 1)?;
+    let (first, second) = replay_two(&mut among, &for_all, &mut alone, &for_one, DEVICE);
+    Ok(first.is_ok() && second.is_ok() && is_as_alone(&among, &alone))
+}
+
+#[test]
+fn beside_a_silent_device_another_is_updated_as_alone(rt: HostRuntime) -> Result<(), Fail> {
+    let bytes = file(rt.alloc())?;
+    let packages = [package(&bytes)?];
+    assert!(rt; is_updated_as_alone(rt.alloc(), &packages)?);
+    Ok(())
+}

@@ -1,0 +1,106 @@
+//! The worked update, where memory is refused to none of its steps or to any one.
+
+use crate::tests::packages::{file, is_image, package};
+use crate::tests::seeing::{is_updated, stands};
+use crate::tests::setup::{DEVICE, KEY, Small, step, world};
+use crate::tests::steps::perfect;
+use fd_core::{Bank, State};
+use fw_package::Package;
+use fw_world::{Event, Image, Step, StepFault};
+use std::alloc::{AllocError, Global};
+use std::test::Fail;
+use ua_core::{Cause, SessionState};
+
+/// The time, and how many packets and entries of the history there are.
+fn seen(world: &Small<'_>) -> (u32, usize, usize) {
+    let packets = match world.packets(DEVICE) {
+        Some(packets) => packets.len(),
+        None => 0,
+    };
+    (world.now(), packets, world.history().len())
+}
+
+/// Takes these steps, each again where memory is refused, up to the first that isn't allowed. Whether a refused step leaves the
+/// world as it was, and is taken when it is asked for again.
+fn takes(world: &mut Small<'_>, steps: &[Step]) -> bool {
+    for next in steps {
+        let before = seen(world);
+        match step(world, next) {
+            Ok(()) => {}
+            Err(StepFault::Memory) => {
+                if seen(world) != before || step(world, next).is_err() {
+                    return false;
+                }
+            }
+            Err(_) => return true,
+        }
+    }
+    true
+}
+
+/// Whether this is the worked image.
+fn is_worked(image: &Image) -> bool {
+    image.key == KEY && is_image(image.bytes.as_slice())
+}
+
+/// Whether the device applied the image, the agent recorded the first component of the first package, and the device activated
+/// the image.
+fn told(world: &Small<'_>) -> bool {
+    let [applied, recorded, activated] = world.history() else {
+        return false;
+    };
+    let (Event::Applied(a), Event::Recorded(r), Event::Activated(b)) = (
+        &applied.event,
+        &recorded.event,
+        &activated.event,
+    ) else {
+        return false;
+    };
+    let devices = [applied.device, recorded.device, activated.device];
+    devices == [DEVICE, DEVICE, DEVICE]
+        && is_worked(a)
+        && is_worked(b)
+        && (r.package, r.component) == (1, 0)
+}
+
+/// Whether the device runs the image after 12 ticks and 27 packets, of which those of the first 3 ticks are dead, and all is
+/// recorded.
+fn is_done(world: &Small<'_>) -> bool {
+    world.now() == 12
+        && stands(world, DEVICE, SessionState::Done, State::Activate, 27)
+        && is_updated(world, DEVICE)
+        && world.agent().log().len() == 3
+        && told(world)
+        && (world.dead_packets(DEVICE), world.dead_packets(10)) == (6, 0)
+}
+
+/// Whether the device's bank failed once, and the session for that.
+fn is_failed(world: &Small<'_>) -> bool {
+    let (Some(node), Some(session)) = (world.device(DEVICE), world.agent().session(DEVICE)) else {
+        return false;
+    };
+    node.device().bank().failures() == 1 && session.state() == SessionState::Failed(Cause::Answer)
+}
+
+/// The worked world, asked for once more where memory for it is refused.
+fn asked_twice<'a>(alloc: Global, packages: &'a [Package<'a>]) -> Result<Small<'a>, AllocError> {
+    match world(alloc, packages, 1, 1) {
+        Ok(made) => Ok(made),
+        Err(_) => world(alloc, packages, 1, 1),
+    }
+}
+
+/// Holds whichever single allocation is refused.
+#[test]
+fn refused_memory_takes_no_step(rt: HostRuntime) -> Result<(), Fail> {
+    let bytes = match file(rt.alloc()) {
+        Ok(bytes) => bytes,
+        Err(_) => file(rt.alloc())?,
+    };
+    let packages = [package(&bytes)?];
+    let mut made = asked_twice(rt.alloc(), &packages)?;
+    let began = made.dead_packets(DEVICE) == 0 && made.answer().is_none();
+    let taken = takes(&mut made, &perfect());
+    assert!(rt; began && taken && (is_done(&made) || is_failed(&made)));
+    Ok(())
+}

@@ -1,0 +1,160 @@
+//! The worked devices with their agent, as worlds.
+
+ghost use Rattle.std.specs.Prelude.{◌≡◌, IfOk};
+ghost use Rattle.std.specs.List.{AllByRecursion};
+ghost use Rattle.exch_lane.specs.Lanes.{IsEid};
+ghost use Rattle.fd_core.specs.Components.{HasComponents};
+ghost use Rattle.fd_core.specs.States.{Phase};
+ghost use Rattle.fw_message.specs.Laws.{IsUnapplied};
+ghost use Rattle.fw_world.specs.Replays.{AreNewNodes, IsNewNode};
+
+use arrayvec::ArrayVec;
+use fd_core::{Component, Device, Key, Label, MemBank};
+use fw_node::DeviceNode;
+use fw_package::Package;
+use fw_world::{Step, StepFault, World};
+use fwup_wire::{Descriptor, DescriptorList, Text, Version};
+use mctp_ctl::Endpoint;
+use std::alloc::{AllocError, Global};
+use uuid::Uuid;
+
+/// The worked device.
+pub const DEVICE: u8 = 9;
+
+/// The devices' first component: stamp 1, `1.0`, image AA.
+pub const KEY: Key = Key {
+    classification: 10,
+    identifier: 1,
+};
+
+/// The second and the third component of a device that has them.
+const SECOND: Key = Key {
+    classification: 10,
+    identifier: 2,
+};
+
+const THIRD: Key = Key {
+    classification: 10,
+    identifier: 3,
+};
+
+/// A world of the tests.
+pub type Small<'a> = World<'a, MemBank>;
+
+/// An endpoint without a UUID.
+fn endpoint(eid: u8) -> Endpoint
+    ensures { result.eid ≡ eid }
+{
+    Endpoint {
+        eid,
+        uuid: Uuid::nil(),
+    }
+}
+
+/// The worked device's descriptors: type 0, data 34 12.
+fn descriptors() -> DescriptorList {
+    let mut descriptors = DescriptorList::new();
+    descriptors.push(&Descriptor {
+        kind: 0,
+        bytes: &[0x34, 0x12],
+    });
+    descriptors
+}
+
+/// Stamp 1, `1.0`.
+fn label() -> Label {
+    Label::new(&Version {
+        stamp: 1,
+        text: Text {
+            text_type: 1,
+            bytes: b"1.0",
+        },
+    })
+}
+
+/// A device of so many components, 1 to 3: (10, 1) to (10, 3).
+fn device(alloc: Global, count: usize) -> Result<Device<MemBank>, AllocError>
+    ensures components { IfOk result (λ d. HasComponents d.device) }
+    ensures idle { IfOk result (λ d. d.device.phase ≡ Phase.Idle) }
+    ensures unapplied { IfOk result (λ d. AllByRecursion IsUnapplied d.device.rows) }
+{
+    let mut bank = MemBank::new(alloc);
+    let mut components = ArrayVec::new();
+    let Ok(()) = bank.add(KEY, &label(), &[0xAA]) else {
+        return Err(AllocError);
+    };
+    components.push(Component { key: KEY, index: 0 });
+    if count == 1 {
+        return Ok(Device::new(descriptors(), components, bank));
+    }
+    let Ok(()) = bank.add(SECOND, &label(), &[0xAA]) else {
+        return Err(AllocError);
+    };
+    components.push(Component {
+        key: SECOND,
+        index: 1,
+    });
+    if count == 2 {
+        return Ok(Device::new(descriptors(), components, bank));
+    }
+    let Ok(()) = bank.add(THIRD, &label(), &[0xAA]) else {
+        return Err(AllocError);
+    };
+    components.push(Component {
+        key: THIRD,
+        index: 2,
+    });
+    Ok(Device::new(descriptors(), components, bank))
+}
+
+/// The node of such a device.
+#[tactic(auto, using(crate::proofs::Opening::new_node))]
+fn node(alloc: Global, eid: u8, components: usize) -> Result<DeviceNode<MemBank>, AllocError>
+    requires { IsEid eid }
+    ensures new { IfOk result (IsNewNode 8) }
+    ensures eid { IfOk result (λ n. n.endpoint.eid ≡ eid) }
+{
+    let device = device(alloc, components)?;
+    Ok(DeviceNode::new(endpoint(eid), 8, device))
+}
+
+/// The nodes of so many such devices, 1 to 3: 9 to 11.
+fn nodes(
+    alloc: Global,
+    devices: usize,
+    components: usize,
+) -> Result<Vec<DeviceNode<MemBank>>, AllocError>
+    ensures { IfOk result (λ ns. AreNewNodes 8 ns.items) }
+{
+    let mut nodes = Vec::new(alloc);
+    nodes.push(node(alloc, DEVICE, components)?)?;
+    if devices == 1 {
+        return Ok(nodes);
+    }
+    nodes.push(node(alloc, 10, components)?)?;
+    if devices == 2 {
+        return Ok(nodes);
+    }
+    nodes.push(node(alloc, 11, components)?)?;
+    Ok(nodes)
+}
+
+/// The world of the agent 8 and so many devices alike, 1 to 3, of so many components, 1 to 3.
+pub fn world<'a>(
+    alloc: Global,
+    packages: &'a [Package<'a>],
+    devices: usize,
+    components: usize,
+) -> Result<Small<'a>, AllocError> {
+    World::new(
+        alloc,
+        endpoint(8),
+        nodes(alloc, devices, components)?,
+        packages,
+    )
+}
+
+/// `World::step`: the proofs of the tests need nothing of its contract.
+pub fn step(world: &mut Small<'_>, step: &Step) -> Result<(), StepFault> {
+    world.step(step)
+}

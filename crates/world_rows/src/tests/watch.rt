@@ -1,0 +1,182 @@
+//! Whether a history is safe, told from its entries alone.
+
+use fw_world::{Entry, Event, Image};
+
+/// How many packages, and how many components each.
+const PACKAGES: usize = 2;
+
+const COMPONENTS: usize = 3;
+
+/// A number for each component of each package.
+type Table = [[u32; COMPONENTS]; PACKAGES];
+
+/// Byte i of a package's image for a component, both counted from 0.
+pub fn byte_of(package: usize, component: usize, i: usize) -> u8 {
+    let [byte, ..] = (64 + 64 * (package % 2) + 16 * (component % 3) + i % 16).to_le_bytes();
+    byte
+}
+
+/// The size of that image.
+pub fn size_of(package: usize, component: usize) -> usize {
+    38 + 20 * (component % 3) + 5 * (package % 2)
+}
+
+/// Whether bytes are a package's image for a component.
+fn is_image(package: usize, component: usize, bytes: &[u8]) -> bool {
+    if bytes.len() != size_of(package, component) {
+        return false;
+    }
+    for (i, byte) in bytes.iter().enumerate() {
+        if *byte != byte_of(package, component, i) {
+            return false;
+        }
+    }
+    true
+}
+
+/// What was seen of a device: how often each component was applied and recorded, which were recorded since the last activation,
+/// which stood recorded before the one that goes on, and its package.
+#[derive(Clone, Copy)]
+struct Seen {
+    applied: Table,
+    recorded: Table,
+    since: Table,
+    before: Table,
+    package: Option<usize>,
+}
+
+/// What was seen of the devices 9 and 10, how many activations there were, and whether all was safe.
+#[derive(Drop)]
+pub struct Watch {
+    devices: [Seen; 2],
+    entries: usize,
+    pub activations: u32,
+    pub is_safe: bool,
+}
+
+impl Watch {
+    /// Nothing is seen yet.
+    pub fn new() -> Watch {
+        let nothing = Seen {
+            applied: [[0; COMPONENTS]; PACKAGES],
+            recorded: [[0; COMPONENTS]; PACKAGES],
+            since: [[0; COMPONENTS]; PACKAGES],
+            before: [[0; COMPONENTS]; PACKAGES],
+            package: None,
+        };
+        Watch {
+            devices: [nothing, nothing],
+            entries: 0,
+            activations: 0,
+            is_safe: true,
+        }
+    }
+
+    /// Looks at the entries that weren't there before.
+    pub fn look(&mut self, history: &[Entry]) {
+        let Some(new) = history.get(self.entries..) else {
+            self.is_safe = false;
+            return;
+        };
+        for entry in new {
+            self.see(entry);
+        }
+        self.entries = history.len();
+    }
+
+    /// Looks at an entry.
+    fn see(&mut self, entry: &Entry) {
+        let Some(seen) = self
+            .devices
+            .get_mut(usize::from(entry.device.wrapping_sub(9)))
+        else {
+            self.is_safe = false;
+            return;
+        };
+        let begins = seen.begins(&entry.event);
+        let safe = seen.takes(&entry.event);
+        self.is_safe = self.is_safe && safe;
+        if begins {
+            self.activations = self.activations.saturating_add(1);
+        }
+    }
+}
+
+/// The component of this number, from 0, of an image's key.
+fn component_of(image: &Image) -> usize {
+    usize::from(image.key.identifier).saturating_sub(1)
+}
+
+/// Counts one more.
+fn count(table: &mut Table, package: usize, component: usize) -> Option<u32> {
+    let place = table.get_mut(package)?.get_mut(component)?;
+    *place = place.saturating_add(1);
+    Some(*place)
+}
+
+/// How often that was.
+fn times(table: &Table, package: usize, component: usize) -> u32 {
+    match table.get(package) {
+        Some(row) => row.get(component).copied().unwrap_or(0),
+        None => 0,
+    }
+}
+
+impl Seen {
+    /// Whether an activation begins with this.
+    fn begins(&self, event: &Event) -> bool {
+        match event {
+            Event::Activated(_) => self.package.is_none(),
+            _ => false,
+        }
+    }
+
+    /// Takes note of what happened: whether it is safe.
+    fn takes(&mut self, event: &Event) -> bool {
+        match event {
+            Event::Applied(image) => self.applies(image),
+            Event::Recorded(recorded) => self.records(recorded.package, recorded.component),
+            Event::Activated(image) => self.activates(image),
+        }
+    }
+
+    /// An image is applied; an activation that went on has ended.
+    fn applies(&mut self, image: &Image) -> bool {
+        self.package = None;
+        let component = component_of(image);
+        for package in 0..PACKAGES {
+            if is_image(package, component, &image.bytes) {
+                return count(&mut self.applied, package, component).is_some();
+            }
+        }
+        false
+    }
+
+    /// A component of a package, counted from 1, is recorded: it was applied once more than it was recorded.
+    fn records(&mut self, package: usize, component: usize) -> bool {
+        let package = package.saturating_sub(1);
+        let Some(recorded) = count(&mut self.recorded, package, component) else {
+            return false;
+        };
+        let _ = count(&mut self.since, package, component);
+        recorded <= times(&self.applied, package, component)
+    }
+
+    /// An image is activated: it is a component's that was recorded, and all of one activation are of one package.
+    fn activates(&mut self, image: &Image) -> bool {
+        let component = component_of(image);
+        if self.package.is_none() {
+            self.before = self.since;
+            self.since = [[0; COMPONENTS]; PACKAGES];
+            for package in 0..PACKAGES {
+                if is_image(package, component, &image.bytes) {
+                    self.package = Some(package);
+                }
+            }
+        }
+        let Some(package) = self.package else {
+            return false;
+        };
+        times(&self.before, package, component) > 0 && is_image(package, component, &image.bytes)
+    }
+}
