@@ -1,0 +1,84 @@
+# What `fwupd run` prints, writes and shows. tests/program sources it.
+
+# Replays of small files: what is written, and the first fault, of the configuration, then of its packages, then of the schedule.
+files() {
+    local config="$work/c" schedule="$work/s" stood='agent 8 up\ndevice 9 up IDLE session Idle sent 0\nactive 9 10 1 1 AA\nlog 0 last -'
+    grep -v '^package' crates/fwupd/data/worlds/one.config > "$config"
+    echo 'tick 3' > "$schedule"; row '' "0|now 3\n$stood|" replay "$config" "$schedule"
+    printf 'tick\ncancel 10\ntick\n' > "$schedule"; row '' "1|now 1\n$stood|fwupd: step 2: NoSuchNode" replay "$config" "$schedule"
+    printf 'tick\ntock\n' > "$schedule"; row '' "1||fwupd: $schedule: line 2: Directive" replay "$config" "$schedule"
+    row '' "1||fwupd: $work/none: unreadable" replay "$config" "$work/none"
+    row '' "1||fwupd: $work/none: unreadable" replay "$work/none" "$schedule"
+    printf "package $work/p\npackage $work/q\n" >> "$config"
+    : > "$work/p"; row '' '1||fwupd: package: Short' replay "$config" "$schedule"
+    rm "$work/p"; : > "$work/q"; row '' "1||fwupd: $work/p: unreadable" replay "$config" "$schedule"
+    printf '\nagent 7\n' > "$config"; row '' "1||fwupd: $config: line 2: Fields" replay "$config" "$schedule"
+}
+
+# Runs over sockets: a second run in the same folder prints the same, a file of a socket's name is left, and faults are told.
+runs() {
+    local report
+    report=$(< crates/fwupd/data/worlds/update.report)
+    mkdir "$work/folder"
+    compare 'a run' "$report" "$(cd crates/fwupd && fwupd run data/worlds/one.config "$work/folder" 2>&1)"
+    compare 'the same run again' "$report" "$(cd crates/fwupd && fwupd run data/worlds/one.config "$work/folder" 2>&1)"
+    compare 'nothing is left' '' "$(ls "$work/folder")"
+    echo mine > "$work/folder/9.sock"
+    compare 'a name that is taken' 'fwupd: socket: 9' "$(cd crates/fwupd && fwupd run data/worlds/one.config "$work/folder" 2>&1)"
+    compare 'the file of that name' mine "$(< "$work/folder/9.sock")"
+    mv "$work/folder/9.sock" "$work/folder/11.sock"
+    compare 'the last name that is taken' 'fwupd: socket: 11' "$(cd crates/fwupd && fwupd run data/worlds/three.config "$work/folder" 2>&1)"
+    compare 'the sockets before it are removed' 11.sock "$(ls "$work/folder")"
+    compare 'a traced run' "$report" "$(cd crates/fwupd && fwupd run --trace "$work/trace" data/worlds/one.config "$work" 2>&1)"
+    compare 'its packets' '27 1 9 to-device 010908C801800501' "$(wc -l < "$work/trace") $(head -n 1 "$work/trace")"
+    compare 'the first answer' '1 9 to-agent 010809C001000501000600000001000002003412' "$(sed -n 2p "$work/trace")"
+    compare 'who sent them' '12 to-agent 15 to-device' "$(cut -d ' ' -f 3 "$work/trace" | sort | uniq -c | xargs)"
+    row '' '1||fwupd: trace' run --trace "$work/none/trace" crates/fwupd/data/worlds/one.config "$work"
+    holds "cd crates/fwupd && fwupd run --trace /dev/full data/worlds/one.config '$work' 2>&1" 1 "$report" 'fwupd: trace'
+    grep -v '^package' crates/fwupd/data/worlds/one.config > "$work/bare"
+    row '' '1||fwupd: package: none' run "$work/bare" "$work/folder"
+    row '' "1||fwupd: $work/none: unreadable" run "$work/none" "$work/folder"
+}
+
+# What a run shows on a terminal, and that it shows nothing there where it is to be quiet.
+on_a_terminal() {
+    compare 'progress' 'device 9 component 10 1: 0 of 241 bytes' "$(shown_by run data/worlds/one.config "$work" | grep -o 'device 9.*bytes' | head -n 1)"
+    compare 'progress is taken away' "$(printf '%72s' '')" "$(shown_by run data/worlds/one.config "$work" | tr '\r' '\n' | tail -n 1)"
+    compare 'no progress' '' "$(shown_by run --quiet data/worlds/one.config "$work")"
+}
+
+# What is shown of a longer run, in which four devices load three images of a MiB each: how far the first device is, again and
+# again, by the ends of its requests of 240 bytes.
+far_on_a_terminal() {
+    local shown device
+    (cd "$work" && PYTHONPATH=$top/crates/fwupd/data python3 -B -c '
+import packages
+open("large", "wb").write(packages.package([(10, ident, 2, 2, b"v2", packages.counted(1 << 20)) for ident in (1, 2, 3)]))')
+    echo 'agent 8 00000000-0000-0000-0000-000000000000' > "$work/large.config"
+    for device in 9 10 11 12; do
+        printf 'device %s 00000000-0000-0000-0000-000000000000\ndescriptor 0000 3412\n' "$device"
+        printf 'component 10 %s 0 1 1.0 AA\n' 1 2 3
+    done >> "$work/large.config"
+    echo "package $work/large" >> "$work/large.config"
+    shown=$(shown_by run "$work/large.config" "$work" | grep -o 'device 9 component 10 [123]: [0-9]* of 1048576 bytes' | cut -d ' ' -f 6)
+    compare 'progress is shown again' again "$([[ $(awk '$1 > 240' <<< "$shown" | uniq | wc -l) -ge 2 ]] && echo again)"
+    compare 'by the ends of requests' '' "$(awk '$1 % 240 != 0 && $1 != 1048576' <<< "$shown")"
+}
+
+# What a command line prints on a terminal that is its standard error.
+shown_by() {
+    (cd crates/fwupd && python3 -c '
+import os, pty, sys
+own, other = pty.openpty()
+if os.fork() == 0:
+    os.dup2(os.open("/dev/null", os.O_WRONLY), 1)
+    os.dup2(other, 2)
+    os.execvp("fwupd", ["fwupd"] + sys.argv[1:])
+os.close(other)
+try:
+    while piece := os.read(own, 65536):
+        sys.stdout.write(piece.decode())
+except OSError:
+    pass
+os.wait()' "$@")
+}
