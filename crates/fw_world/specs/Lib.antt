@@ -1,5 +1,6 @@
 pub mod Dead
 pub mod Deliveries
+pub mod Faults
 pub mod Isolation
 pub mod JoinLaws
 pub mod Joins

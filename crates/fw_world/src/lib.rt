@@ -3,6 +3,7 @@
 #![tactic(auto)]
 
 mod dead;
+mod fault;
 mod headline;
 mod isolation;
 mod joined;

@@ -2,7 +2,6 @@
 
 use arrayvec::ArrayVec;
 use fd_core::Verdict;
-use thiserror::Error;
 
 /// The bytes of a request of the event log (IPMI 2.0, section 31): its command, then its data.
 pub type LogRequest = ArrayVec<u8, 64>;
@@ -30,41 +29,31 @@ pub enum Step {
 }
 
 /// Why a step of the operator, of a device's surroundings or of the clock is refused.
-#[derive(Clone, Copy, Debug, PartialEq, Eq, Error)]
+#[derive(Clone, Copy, Debug, PartialEq, Eq)]
 pub enum Refusal {
     /// An update of the device is under way.
-    #[error("Busy")]
     Busy,
     /// Not all of the update is applied.
-    #[error("NotReady")]
     NotReady,
     /// The device waits for no such verdict.
-    #[error("NotNow")]
     NotNow,
     /// There is no package of this number.
-    #[error("NoSuchPackage")]
     NoSuchPackage,
     /// The clock stands at its last tick.
-    #[error("ClockEnd")]
     ClockEnd,
 }
 
 /// Why a step isn't taken. The world is then the one before it.
-#[derive(Clone, Copy, Debug, PartialEq, Eq, Error)]
+#[derive(Clone, Copy, Debug, PartialEq, Eq)]
 pub enum StepFault {
     /// No packet of this number was sent between the agent and the device.
-    #[error("NoSuchPacket")]
     NoSuchPacket,
     /// The packet was sent more than 8 ticks ago.
-    #[error("Dead")]
     Dead,
     /// No such node; where a device is asked for, the agent is none.
-    #[error("NoSuchNode")]
     NoSuchNode,
     /// The step is refused.
-    #[error("Refused:{0}")]
     Refused(Refusal),
     /// Memory was refused.
-    #[error("Memory")]
     Memory,
 }
