@@ -33,11 +33,30 @@ runs() {
     compare 'its packets' '27 1 9 to-device 010908C801800501' "$(wc -l < "$work/trace") $(head -n 1 "$work/trace")"
     compare 'the first answer' '1 9 to-agent 010809C001000501000600000001000002003412' "$(sed -n 2p "$work/trace")"
     compare 'who sent them' '12 to-agent 15 to-device' "$(cut -d ' ' -f 3 "$work/trace" | sort | uniq -c | xargs)"
-    row '' '1||fwupd: trace' run --trace "$work/none/trace" crates/fwupd/data/worlds/one.config "$work"
+    holds "cd crates/fwupd && fwupd run --trace '$work/none/trace' data/worlds/one.config '$work' 2>&1" 1 'fwupd: trace'
     holds "cd crates/fwupd && fwupd run --trace /dev/full data/worlds/one.config '$work' 2>&1" 1 "$report" 'fwupd: trace'
     grep -v '^package' crates/fwupd/data/worlds/one.config > "$work/bare"
     row '' '1||fwupd: package: none' run "$work/bare" "$work/folder"
     row '' "1||fwupd: $work/none: unreadable" run "$work/none" "$work/folder"
+}
+
+# Traces that would be written over a file which is read, by whatever name: each is refused, makes no socket and empties nothing. No
+# trace is made of a run whose files aren't there.
+traces() {
+    local name before folder=$work/traced
+    mkdir -p "$folder/data"
+    cp crates/fwupd/data/worlds/one.config "$folder"
+    cp crates/fwupd/data/one.fwpkg "$folder/data"
+    ln "$folder/one.config" "$folder/linked"
+    ln -s data/one.fwpkg "$folder/named"
+    before=$(cd "$folder" && cksum one.config data/one.fwpkg)
+    for name in one.config ./one.config "$folder/one.config" linked data/one.fwpkg data/../data/one.fwpkg named; do
+        compare "a trace into $name" 'fwupd: trace' "$(cd "$folder" && fwupd run --trace "$name" one.config . 2>&1)"
+        compare "the files beside a trace into $name" "$before" "$(cd "$folder" && cksum one.config data/one.fwpkg)"
+    done
+    row '' '1||fwupd: package: none' run --trace "$work/early" "$work/bare" "$work/folder"
+    row '' "1||fwupd: $work/none: unreadable" run --trace "$work/early" "$work/none" "$work/folder"
+    compare 'no trace is made' '' "$(ls "$work/early" 2> "$work/err")"
 }
 
 # What a run shows on a terminal, and that it shows nothing there where it is to be quiet.

@@ -16,7 +16,7 @@ use Rattle.fw_script.specs.declared.faults.ScriptFault.{ScriptFault}
 use Rattle.fw_world.specs.Replays.{new_world}
 use Rattle.fw_world.specs.Worlds.{WorldOf}
 use Rattle.fwupd_jobs.specs.Nodes.{nodes_made}
-use Rattle.fwupd_jobs.specs.Running.{IsNamed}
+use Rattle.fwupd_jobs.specs.Running.{IsApart, IsNamed, IsWatched, ShowOf}
 use Rattle.fwupd_jobs.specs.Setups.{ArePackages, ArePacked, FileOf, IsPacked, IsSetup, IsUnreadable, IsUnsaid, MayHold, NamesNone, PackageFails, PackagesFail, Says, TextFails, TextFault}
 use Rattle.fwupd_jobs.specs.declared.faults.RunFault.{RunFault}
 use Rattle.fwupd_jobs.specs.declared.faults.RunFault.TheVariants as faults
@@ -201,3 +201,15 @@ pub set_up_named : (files : List ℕ → FileOf) (path : List ℕ) (config : Con
 unfolding set_up
 set_up_named files path config names contents slice ps packs nodes w says named packed same read made lent is some =
     named_up files path config w (set_up files path config names contents slice ps packs nodes w says named packed same read made lent is) refl some
+
+-- where the packets are written over none of them
+pub watched_up : (files : List ℕ → FileOf) (path : List ℕ) (config : Config) (show : ShowOf) (names : List (String Global)) (contents slice : List (Vec ℕ Global)) (ps packs : List PackageText)
+    (nodes : List DeviceNodeOf) (w : WorldOf) → Says config_of (files path) (config_seen config) → names ≡ config.packages.items
+    → ArePacked files (map (λ p. string_bytes p) names) (map (λ f. f.items) contents) → slice ≡ contents → map (λ p. Ok p) ps ≡ map (λ f. package_of f.items) slice
+    → nodes ≡ nodes_made config.agent.eid (map device_of config.devices.items) → packs ≡ ps → w ≡ new_world config.agent nodes packs → (config.packages.len ≡ 0 → ⊥)
+    → (others : List (String Global)) → others ≡ config.packages.items → IsApart show (path ∷ map (λ p. string_bytes p) others) → IsWatched files path show w
+unfolding set_up_named set_up named_up
+watched_up files path config show names contents slice ps packs nodes w says named packed same read made lent is some others are apart = record {
+  named = set_up_named files path config names contents slice ps packs nodes w says named packed same read made lent is some;
+  apart = subst (λ qs. IsApart show (path ∷ map (λ p. string_bytes p) qs)) are apart;
+}

@@ -1,5 +1,6 @@
 -- What a run over links makes of a world, and what is written of it.
-use Rattle.std.specs.Prelude.{ℕ, ◌≡◌, ◌≢◌, ◌≤◌, ◌-◌, ◌^◌, ◌++◌, ◌⊎◌, Bool, true, List, [], Option, None, Some, length, map, slice_get, take}
+use Rattle.std.specs.Prelude.{ℕ, ◌≡◌, ◌≢◌, ◌≤◌, ◌-◌, ◌^◌, ◌++◌, ◌⊎◌, Bool, true, List, [], ◌∷◌, Option, None, Some, IfSome, is_some, length, map, option_map, slice_get, take}
+use Rattle.std.specs.List.{AllByRecursion}
 use Rattle.fw_edge.specs.Drives.{AreDriven, all_over, ticks_in}
 use Rattle.fw_edge.specs.declared.driving.EdgeFault.{EdgeFault}
 use Rattle.fw_edge.specs.declared.driving.EdgeFault.TheVariants as edges
@@ -12,6 +13,7 @@ use Rattle.fw_world.specs.declared.step.Step.TheVariants as steps
 use Rattle.fwupd_jobs.specs.Outputs.{FailsToPrint, OutputOf, Prints}
 use Rattle.fwupd_jobs.specs.Promises.{IsSafeSince}
 use Rattle.fwupd_jobs.specs.Setups.{FileOf, IsSetup, NamesNone, SetupFails}
+use Rattle.fwupd_jobs.specs.declared.command_line.Show.{Show}
 use Rattle.fwupd_jobs.specs.declared.faults.RunFault.{RunFault}
 use Rattle.fwupd_jobs.specs.declared.faults.RunFault.TheVariants as faults
 use Rattle.fwupd_jobs.specs.declared.running.WatchFault.{WatchFault}
@@ -77,10 +79,33 @@ pub record IsRefusedStart (w v : WorldOf) : Type 0 where
 abbrev pub MayEnd : RunFault → Type 0
 MayEnd fault = (fault ≡ faults.Memory) ⊎ IsBroken fault
 
--- What looks on: its first fault, if it had one, and whether it was let end.
+-- What is shown of a run: whether it is to be without progress, and the path of the file that its packets are written to, if any.
+pub record ShowOf : Type 0 where
+  pub is_quiet : Bool
+  pub trace : Option (List ℕ)
+
+-- what the words of a command line ask to be shown
+abbrev pub show_of : Show → ShowOf
+show_of s = record { is_quiet = s.is_quiet; trace = option_map (λ path. path.now) s.trace }
+
+-- What looks on shows so much: no progress where it is to be quiet, and the packets where they are written to a file.
+pub record ShownOf : Type 0 where
+  pub is_quiet : Bool
+  pub is_traced : Bool
+
+-- what is shown where this is asked for
+abbrev pub shown_of : ShowOf → ShownOf
+shown_of show = record { is_quiet = show.is_quiet; is_traced = is_some show.trace }
+
+-- What looks on: its first fault, if it had one, what it shows, and whether it was let end.
 pub record WatchOf : Type 0 where
   pub fault : Option WatchFault
+  pub shows : ShownOf
   pub has_ended : Bool
+
+-- The packets are written to none of the files of these paths.
+abbrev pub IsApart : ShowOf → List (List ℕ) → Type 0
+IsApart show paths = IfSome show.trace (λ trace. AllByRecursion (λ path. path ≢ trace) paths)
 
 -- Why a run doesn't go on is so: a start is refused or the clock stands at its end, and what looks on can't be written. It was let end.
 pub record IsCaused (w v : WorldOf) (told : RunFault) (watched : WatchOf) : Type 0 where
@@ -109,11 +134,17 @@ pub record IsNamed (files : List ℕ → FileOf) (config : List ℕ) (w : WorldO
   pub setup : IsSetup files config w
   pub some : w.packages ≢ []
 
--- The report is written of what an update leaves of the world that a configuration's file is of, and what looks on had no fault,
--- and was let end.
-pub record ReportsUpdate (files : List ℕ → FileOf) (config : List ℕ) (watched : WatchOf) (before now : OutputOf) : Type 0 where
+-- The world of a configuration over none of whose files the packets are written.
+pub record IsWatched (files : List ℕ → FileOf) (config : List ℕ) (show : ShowOf) (w : WorldOf) : Type 0 where
+  pub named : IsNamed files config w
+  pub apart : IsApart show (config ∷ named.setup.config.packages)
+
+-- The report is written of what an update leaves of the world that a configuration's file is of, and what looks on showed what it
+-- is to show, had no fault, and was let end.
+pub record ReportsUpdate (files : List ℕ → FileOf) (config : List ℕ) (show : ShowOf) (watched : WatchOf) (before now : OutputOf) : Type 0 where
   pub world : WorldOf
-  pub named : IsNamed files config world
+  pub begins : IsWatched files config show world
+  pub shown : watched.shows ≡ shown_of show
   pub left : WorldOf
   pub updated : IsUpdated world left
   pub promised : IsSafeSince world left
@@ -122,9 +153,10 @@ pub record ReportsUpdate (files : List ℕ → FileOf) (config : List ℕ) (watc
   pub written : Prints before now (report_of left)
 
 -- It is written of what was reached.
-pub record ReportsReached (files : List ℕ → FileOf) (config : List ℕ) (told : RunFault) (watched : WatchOf) (before now : OutputOf) : Type 0 where
+pub record ReportsReached (files : List ℕ → FileOf) (config : List ℕ) (show : ShowOf) (told : RunFault) (watched : WatchOf) (before now : OutputOf) : Type 0 where
   pub world : WorldOf
-  pub named : IsNamed files config world
+  pub begins : IsWatched files config show world
+  pub shown : watched.shows ≡ shown_of show
   pub left : WorldOf
   pub reached : StepsLead world left
   pub promised : IsSafeSince world left
@@ -132,27 +164,39 @@ pub record ReportsReached (files : List ℕ → FileOf) (config : List ℕ) (tol
   pub written : Prints before now (report_of left)
 
 -- A beginning of it is.
-pub record BreaksReport (files : List ℕ → FileOf) (config : List ℕ) (told : RunFault) (before now : OutputOf) : Type 0 where
+pub record BreaksReport (files : List ℕ → FileOf) (config : List ℕ) (show : ShowOf) (told : RunFault) (before now : OutputOf) : Type 0 where
   pub is : told ≡ faults.Output
   pub world : WorldOf
-  pub named : IsNamed files config world
+  pub begins : IsWatched files config show world
   pub left : WorldOf
   pub reached : StepsLead world left
   pub promised : IsSafeSince world left
   pub begun : FailsToPrint before now (report_of left)
 
--- No link to a device of the configuration is opened.
-pub record LacksLink (files : List ℕ → FileOf) (config : List ℕ) (lacks : ℕ → Bool) (told : RunFault) : Type 0 where
+-- Before a link is opened, what looks on doesn't begin: the packets can't be written, or only over a file that was read.
+pub record LacksTrace (files : List ℕ → FileOf) (config : List ℕ) (show : ShowOf) (told : RunFault) (watched : WatchOf) : Type 0 where
+  pub is : told ≡ faults.Trace
   pub world : WorldOf
   pub named : IsNamed files config world
+  pub asked : show.trace ≢ None
+  pub unwritten : watched.fault ≡ Some watches.Unwritten
+
+-- No link to a device of the configuration is opened.
+pub record LacksLink (files : List ℕ → FileOf) (config : List ℕ) (show : ShowOf) (lacks : ℕ → Bool) (told : RunFault) : Type 0 where
+  pub world : WorldOf
+  pub begins : IsWatched files config show world
   pub unlinked : IsUnlinked world lacks told
 
--- Nothing is written: memory was refused, or there is no world, no package or no link.
-pub record ReportsNothing (files : List ℕ → FileOf) (config : List ℕ) (lacks : ℕ → Bool) (told : RunFault) (before now : OutputOf) : Type 0 where
+-- Nothing is written: memory was refused, or there is no world, no package, no trace or no link.
+pub record ReportsNothing (files : List ℕ → FileOf) (config : List ℕ) (show : ShowOf) (lacks : ℕ → Bool) (told : RunFault) (watched : WatchOf) (before now : OutputOf) : Type 0 where
   pub kept : now ≡ before
-  pub cause : (told ≡ faults.Memory) ⊎ (SetupFails files config told ⊎ (((told ≡ faults.NoPackage) × NamesNone files config) ⊎ LacksLink files config lacks told))
+  pub cause :
+      (told ≡ faults.Memory)
+      ⊎ (SetupFails files config told
+      ⊎ (((told ≡ faults.NoPackage) × NamesNone files config) ⊎ (LacksTrace files config show told watched ⊎ LacksLink files config show lacks told)))
 
 -- How an update ends that doesn't end well.
-abbrev pub UpdateEnds : (files : List ℕ → FileOf) (config : List ℕ) (lacks : ℕ → Bool) (told : RunFault) (watched : WatchOf) (before now : OutputOf) → Type 0
-UpdateEnds files config lacks told watched before now =
-    ReportsReached files config told watched before now ⊎ (BreaksReport files config told before now ⊎ ReportsNothing files config lacks told before now)
+abbrev pub UpdateEnds : (files : List ℕ → FileOf) (config : List ℕ) (show : ShowOf) (lacks : ℕ → Bool) (told : RunFault) (watched : WatchOf) (before now : OutputOf) → Type 0
+UpdateEnds files config show lacks told watched before now =
+    ReportsReached files config show told watched before now
+    ⊎ (BreaksReport files config show told before now ⊎ ReportsNothing files config show lacks told watched before now)

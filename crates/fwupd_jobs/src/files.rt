@@ -1,11 +1,13 @@
 //! The files that a job reads.
 
-ghost use Rattle.std.specs.Prelude.{◌≡◌, IfErr, IfOk, List, true, ℕ};
+ghost use Rattle.std.specs.Prelude.{◌≡◌, ◌≢◌, IfErr, IfOk, List, false, map, string_bytes, true, ℕ};
+ghost use Rattle.std.specs.List.{AllByRecursion};
 ghost use Rattle.fwupd_jobs.specs.Setups.{FileOf, MayHold, any_file};
 
 use std::alloc::Global;
-use std::fs::File;
+use std::fs::{self, File};
 use std::io::{self, Read};
+use std::os::unix::fs::MetadataExt;
 
 /// Why the bytes of a file aren't there.
 #[derive(Clone, Copy, PartialEq, Eq)]
@@ -67,4 +69,29 @@ impl<'a> Files for SystemFiles<'a> {
             },
         }
     }
+}
+
+/// Whether two paths are of one file: they are spelled alike, or the system says so.
+pub fn is_same_file(rt: &HostRuntime, one: &str, other: &str) -> bool
+    ensures { one.now ≡ other.now → result ≡ true }
+{
+    if one == other {
+        return true;
+    }
+    match (fs::metadata(rt, one), fs::metadata(rt, other)) {
+        (Ok(one), Ok(other)) => one.dev() == other.dev() && one.ino() == other.ino(),
+        _ => false,
+    }
+}
+
+/// Whether the file of a path is one of these.
+pub fn is_one_of(rt: &HostRuntime, path: &str, others: &[String]) -> bool
+    ensures { result ≡ false → AllByRecursion (λ p. p ≢ path.now) (map (λ p. string_bytes p) others.now) }
+{
+    for other in others {
+        if is_same_file(rt, other, path) {
+            return true;
+        }
+    }
+    false
 }

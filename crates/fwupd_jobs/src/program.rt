@@ -56,13 +56,13 @@ fn replay(rt: &HostRuntime, config: &str, schedule: &str) -> Result<(), RunFault
 
 /// Updates the devices of a configuration with its first package, over Unix sockets in a folder.
 fn update(rt: &HostRuntime, config: &str, folder: &str, show: Show<'_>) -> Result<(), RunFault> {
-    let mut onlookers = Onlookers::new(rt, show.is_quiet, show.trace)?;
     update_files(
         rt.alloc(),
         &SystemFiles::new(rt),
         config,
+        show,
         &mut Sockets::new(rt, folder),
-        &mut onlookers,
+        &mut Onlookers::new(rt),
         &mut Output::new(io::writer(rt)),
     )
 }

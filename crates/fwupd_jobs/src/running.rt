@@ -1,9 +1,10 @@
 //! Updating devices over links.
 
-ghost use Rattle.std.specs.Prelude.{◌≡◌, ◌-◌, ◌^◌, ◌⊎◌, Err, IfErr, IfSome, None, OnOk, Some, length, map, true};
+ghost use Rattle.std.specs.Prelude.{◌≡◌, ◌≢◌, ◌∷◌, ◌-◌, ◌^◌, ◌⊎◌, Err, IfErr, IfSome, None, OnOk, Some, length, map, string_bytes, true};
 ghost use Rattle.fw_edge.specs.Ledgers.{AllSent, OneFailed, packet_counts};
-ghost use Rattle.fwupd_jobs.specs.Running.{IsCaused, IsRefusedStart, IsUpdated, MayEnd, Starts, StepsLead, told_by, told_of};
+ghost use Rattle.fwupd_jobs.specs.Running.{IsApart, IsCaused, IsRefusedStart, IsUpdated, MayEnd, Starts, StepsLead, show_of, shown_of, told_by, told_of};
 
+use crate::command_line::Show;
 use crate::faults::{RunFault, edge_fault};
 use fd_core::MemBank;
 use fw_edge::{EdgeFault, Link, drive};
@@ -22,11 +23,21 @@ pub enum WatchFault {
     Memory,
 }
 
-/// What looks on while devices are updated, until it has a fault, which is what each later call ends with.
+/// What looks on while devices are updated, from its beginning until it has a fault, which is what each later call ends with.
 pub trait Watch {
     ghost use Rattle.fwupd_jobs.specs.Running.{WatchOf};
 
     ghost watched: { Self → WatchOf };
+
+    /// Begins to show what is asked for. The files of these paths, a configuration and its packages, were read for the run.
+    ///
+    /// # Errors
+    /// What is told is to be written over one of these files, or it can't be written: then they are as they were. `Memory`.
+    fn begin(&mut self, show: Show<'_>, config: &str, packages: &[String]) -> Result<(), WatchFault>
+        ensures shows { OnOk result ((watched self.new).shows ≡ shown_of (show_of show.entry)) }
+        ensures apart { OnOk result (IsApart (show_of show.entry) (config.now ∷ map (λ p. string_bytes p) packages.now)) }
+        ensures err { IfErr result (λ e. (watched self.new).fault ≡ Some e) }
+        ensures asked { IfErr result (λ e. e ≡ WatchFault.Unwritten → (show_of show.entry).trace ≢ None) };
 
     /// Sees what a turn left.
     ///
@@ -35,7 +46,8 @@ pub trait Watch {
     fn see(&mut self, world: &World<'_, MemBank>) -> Result<(), WatchFault>
         ensures ok { OnOk result ((watched self.new).fault ≡ None) }
         ensures err { IfErr result (λ e. (watched self.new).fault ≡ Some e) }
-        ensures first { IfSome (watched self.old).fault (λ f. result ≡ Err f) };
+        ensures first { IfSome (watched self.old).fault (λ f. result ≡ Err f) }
+        ensures same { (watched self.new).shows ≡ (watched self.old).shows };
 
     /// The run has ended.
     ///
@@ -45,6 +57,7 @@ pub trait Watch {
         ensures ok { OnOk result ((watched self.new).fault ≡ None) }
         ensures err { IfErr result (λ e. (watched self.new).fault ≡ Some e) }
         ensures first { IfSome (watched self.old).fault (λ f. result ≡ Err f) }
+        ensures same { (watched self.new).shows ≡ (watched self.old).shows }
         ensures ended { (watched self.new).has_ended ≡ true };
 }
 
@@ -85,7 +98,8 @@ fn start_all(world: &mut World<'_, MemBank>) -> Result<(), RunFault>
 
 /// The run's fault when a turn fails. The onlooker still sees that turn; a fault of its own isn't told then.
 fn broken_off<V: Watch>(world: &World<'_, MemBank>, watch: &mut V, fault: EdgeFault) -> RunFault
-    ensures { result ≡ told_of fault }
+    ensures told { result ≡ told_of fault }
+    ensures same { (V.watched watch.new).shows ≡ (V.watched watch.old).shows }
 {
     let _ = watch.see(world);
     edge_fault(fault)
@@ -112,6 +126,7 @@ pub fn update_all<L: Link, V: Watch>(
     ensures step { IfErr result (λ e. e ≡ RunFault.Edge EdgeFault.Step → IsRefusedStart world.old world.new ⊎ (world.new.now ≡ 2 ^ 32 - 1)) }
     ensures sent { OnOk result (AllSent (packet_counts world.old.sites) (packet_counts world.new.sites) (map (λ l. (L.tally l).sent) links.old) (map (λ l. (L.tally l).sent) links.new)) }
     ensures unwritten { IfErr result (λ e. e ≡ RunFault.Trace → (V.watched watch.new).fault ≡ Some WatchFault.Unwritten) }
+    ensures same { (V.watched watch.new).shows ≡ (V.watched watch.old).shows }
 {
     match start_all(world) {
         Ok(()) => {}
@@ -150,6 +165,7 @@ pub fn update_watched<L: Link, V: Watch>(
     ensures reached { StepsLead world.old world.new }
     ensures seen { OnOk result ((V.watched watch.new).fault ≡ None) }
     ensures ended { (V.watched watch.new).has_ended ≡ true }
+    ensures same { (V.watched watch.new).shows ≡ (V.watched watch.old).shows }
     ensures fault { IfErr result (λ e. (e ≡ RunFault.Memory) ⊎ IsCaused world.old world.new e (V.watched watch.new)) }
     ensures kept { OnOk result (map (λ l. (L.tally l).failures) links.new ≡ map (λ l. (L.tally l).failures) links.old) }
     ensures frame { IfErr result (λ e. e ≡ RunFault.Edge EdgeFault.Frame → OneFailed (map (λ l. (L.tally l).failures) links.old) (map (λ l. (L.tally l).failures) links.new)) }

@@ -3,13 +3,14 @@
 ghost use Rattle.std.specs.Prelude.{◌≡◌, ◌⊎◌, Bool, IfErr, IfOk, None, OnOk, length, true, ℕ};
 ghost use Rattle.fw_script.specs.Reports.{report_of};
 ghost use Rattle.fwupd_jobs.specs.Outputs.{FailsToPrint, Prints};
-ghost use Rattle.fwupd_jobs.specs.Running.{DrivingEnds, IsUnlinked, IsUpdated, ReportsUpdate, StepsLead, UpdateEnds};
+ghost use Rattle.fwupd_jobs.specs.Running.{DrivingEnds, IsUnlinked, IsUpdated, ReportsUpdate, StepsLead, UpdateEnds, show_of};
 
+use crate::command_line::Show;
 use crate::faults::RunFault;
 use crate::files::Files;
 use crate::nodes::nodes;
 use crate::output::Output;
-use crate::running::{Watch, update_watched};
+use crate::running::{Watch, update_watched, watch_fault};
 use crate::setups::{configuration, package_files, packages_in};
 use fd_core::MemBank;
 use fw_edge::Link;
@@ -85,6 +86,7 @@ fn update_over<L: Link + Drop, S: Wires<L>, V: Watch, W: Write>(
     ensures updated { OnOk result (IsUpdated world.old world.new) }
     ensures seen { OnOk result ((V.watched watch.new).fault ≡ None) }
     ensures let_end { OnOk result ((V.watched watch.new).has_ended ≡ true) }
+    ensures same { (V.watched watch.new).shows ≡ (V.watched watch.old).shows }
     ensures written { OnOk result (Prints output.old output.new (report_of world.new)) }
     ensures reached { StepsLead world.old world.new }
     ensures fault { IfErr result (λ e. DrivingEnds (S.lacks wires.old) world.old world.new e (V.watched watch.new) output.old output.new) }
@@ -115,19 +117,21 @@ fn update_over<L: Link + Drop, S: Wires<L>, V: Watch, W: Write>(
 ///
 /// # Errors
 /// The first fault, in this order: of the configuration's file; `NoPackage` where it names no package; of the packages that it
-/// names, one after the other; `Socket` where a link isn't opened. `Edge` where a link failed or the clock stands at its end, and `Trace`
-/// where what looks on can't write: the report is then of the world that was reached. `Output` where the report isn't written
-/// whole: a beginning of it may be. `Memory` where memory is refused: nothing is written then.
+/// names, one after the other; `Trace` where what looks on can't begin; `Socket` where a link isn't opened. `Edge` where a link
+/// failed or the clock stands at its end, and `Trace` where what looks on can't write: the report is then of the world that was
+/// reached. `Output` where the report isn't written whole: a beginning of it may be. `Memory` where memory is refused: nothing is
+/// written then.
 pub fn update_files<F: Files, L: Link + Drop, S: Wires<L>, V: Watch, W: Write>(
     alloc: Global,
     files: &F,
     config: &str,
+    show: Show<'_>,
     wires: &mut S,
     watch: &mut V,
     output: &mut Output<W>,
 ) -> Result<(), RunFault>
-    ensures ok { OnOk result (ReportsUpdate (F.holds files.now) config.now (V.watched watch.new) output.old output.new) }
-    ensures fault { IfErr result (λ e. UpdateEnds (F.holds files.now) config.now (S.lacks wires.old) e (V.watched watch.new) output.old output.new) }
+    ensures ok { OnOk result (ReportsUpdate (F.holds files.now) config.now (show_of show.entry) (V.watched watch.new) output.old output.new) }
+    ensures fault { IfErr result (λ e. UpdateEnds (F.holds files.now) config.now (show_of show.entry) (S.lacks wires.old) e (V.watched watch.new) output.old output.new) }
 {
     let Config {
         agent,
@@ -155,6 +159,10 @@ pub fn update_files<F: Files, L: Link + Drop, S: Wires<L>, V: Watch, W: Write>(
         return Err(RunFault::Memory);
     };
     packets_are_safe();
+    match watch.begin(show, config, paths.as_slice()) {
+        Ok(()) => {}
+        Err(fault) => return Err(watch_fault(fault)),
+    }
     match update_over(alloc, &mut world, wires, watch, output) {
         Ok(()) => Ok(()),
         Err(fault) => Err(fault),

@@ -1,12 +1,14 @@
 //! Jobs over files in memory.
 
-ghost use Rattle.std.specs.Prelude.{◌≡◌, Err, IfErr, IfSome, None, OnOk, Some, true};
+ghost use Rattle.std.specs.Prelude.{◌≡◌, Err, IfErr, IfSome, None, OnOk, Some, false, is_some, true};
 ghost use Rattle.fwupd_jobs.specs.Setups.{any_file};
 
 use fd_core::MemBank;
 use fw_edge::{Link, MemLink, StreamLink};
 use fw_world::World;
-use fwupd_jobs::{FileFault, Files, Output, RunFault, Watch, WatchFault, Wires, update_files};
+use fwupd_jobs::{
+    FileFault, Files, Output, RunFault, Show, Watch, WatchFault, Wires, update_files,
+};
 use std::alloc::Global;
 use std::os::unix::net::UnixStream;
 use std::test::Fail;
@@ -100,9 +102,10 @@ impl Wires<StreamLink<UnixStream>> for CutWires {
     }
 }
 
-/// Counts the turns that it sees, and can't tell of the one of this number.
+/// Counts the turns that it sees, and can't tell of the one of this number. It writes to no file.
 #[derive(Drop)]
 struct Counter {
+    is_quiet: bool,
     turns: usize,
     broken: usize,
     fault: Option<WatchFault>,
@@ -124,7 +127,21 @@ impl Counter {
 }
 
 impl Watch for Counter {
-    ghost watched = { λ c. record { fault = c.fault; has_ended = c.has_ended } };
+    ghost watched = { λ c. record { fault = c.fault; shows = record { is_quiet = c.is_quiet; is_traced = false }; has_ended = c.has_ended } };
+
+    fn begin(
+        &mut self,
+        show: Show<'_>,
+        _config: &str,
+        _packages: &[String],
+    ) -> Result<(), WatchFault> {
+        if show.trace.is_some() {
+            self.fault = Some(WatchFault::Unwritten);
+            return Err(WatchFault::Unwritten);
+        }
+        self.is_quiet = show.is_quiet;
+        Ok(())
+    }
 
     fn see(&mut self, _world: &World<'_, MemBank>) -> Result<(), WatchFault> {
         self.turns = self.turns.saturating_add(1);
@@ -157,11 +174,13 @@ fn updated<'a, L: Link + Drop, S: Wires<L>>(
     rt: &HostRuntime,
     config: &'a [u8],
     package: &'a [u8],
+    trace: Option<&str>,
     wires: &mut S,
     broken: usize,
 ) -> Result<(Vec<u8>, usize), Fail> {
     let files: [(&'a str, &'a [u8]); 2] = [("c", config), ("p", package)];
     let mut watch = Counter {
+        is_quiet: false,
         turns: 0,
         broken,
         fault: None,
@@ -172,6 +191,10 @@ fn updated<'a, L: Link + Drop, S: Wires<L>>(
         rt.alloc(),
         &MemFiles { files: &files },
         "c",
+        Show {
+            is_quiet: true,
+            trace,
+        },
         wires,
         &mut watch,
         &mut output,
@@ -205,7 +228,7 @@ fn an_update_is_reported_turn_by_turn(rt: HostRuntime) -> Result<(), Fail> {
             opened: 0,
             closed,
         };
-        let (text, seen) = updated(&rt, config, &package, &mut wires, broken)?;
+        let (text, seen) = updated(&rt, config, &package, None, &mut wires, broken)?;
         assert!(rt; text.starts_with(begins), "{turns} {}", text.escape_ascii());
         assert!(rt; text.ends_with(ends));
         assert!(rt; seen == turns);
@@ -214,10 +237,24 @@ fn an_update_is_reported_turn_by_turn(rt: HostRuntime) -> Result<(), Fail> {
 }
 
 #[test]
+fn no_link_is_opened_where_the_trace_is_refused(rt: HostRuntime) -> Result<(), Fail> {
+    let mut wires = MemWires {
+        alloc: rt.alloc(),
+        opened: 0,
+        closed: 0,
+    };
+    let package = package(&rt)?;
+    let (text, seen) = updated(&rt, WHOLE, &package, Some("t"), &mut wires, 0)?;
+    assert!(rt; text.as_slice() == b"trace".as_slice());
+    assert!(rt; seen == 0 && wires.opened == 0);
+    Ok(())
+}
+
+#[test]
 fn a_turn_in_which_a_link_fails_is_seen(rt: HostRuntime) -> Result<(), Fail> {
     let mut wires = CutWires::new(&rt)?;
     let package = package(&rt)?;
-    let (text, seen) = updated(&rt, WHOLE, &package, &mut wires, 0)?;
+    let (text, seen) = updated(&rt, WHOLE, &package, None, &mut wires, 0)?;
     let report = b"now 1\nagent 8 up\ndevice 9 up IDLE session Query sent 1\n\
         active 9 10 1 1 AA\nlog 1 last -\nedge: Frame"
         .as_slice();

@@ -15,6 +15,7 @@ loop-init g c = record {
       subst (λ xs. AllSent (packet_counts c.args.world.now.sites) (packet_counts xs) (map (λ k. (g.L.Link.tally k).sent) c.args.links.now) (map (λ k. (g.L.Link.tally k).sent) c.args.links.now)) (sym c.in-Ok.ensures.same)
       (sent_none (packet_counts c.args.world.now.sites) (map (λ k. (g.L.Link.tally k).sent) c.args.links.now) (counted_alike c.args.world.now.sites (λ k. (g.L.Link.tally k).sent) c.args.links.now c.requires));
   kept = refl;
+  shows = refl;
 }
 
 pub returns-in-Err-drive-clause-reached : goal.returns-in-Err-drive-clause-reached
@@ -46,7 +47,7 @@ pub returns-in-Err-see-clause-step : goal.returns-in-Err-see-clause-step
 returns-in-Err-see-clause-step g c e = absurd (watched_apart c.in-Err-see.fault edges.Step (sym c.watch_fault.ensures.told ∙ e))
 
 pub returns-in-Err-drive-clause-unwritten : goal.returns-in-Err-drive-clause-unwritten
-returns-in-Err-drive-clause-unwritten g c e = absurd (turned_apart c.in-Err-drive.fault (sym c.broken_off.ensures ∙ e))
+returns-in-Err-drive-clause-unwritten g c e = absurd (turned_apart c.in-Err-drive.fault (sym c.broken_off.ensures.told ∙ e))
 
 pub returns-in-Err-see-clause-unwritten : goal.returns-in-Err-see-clause-unwritten
 returns-in-Err-see-clause-unwritten g c e =
@@ -69,6 +70,7 @@ loop-preserved g c = record {
       sent_on (packet_counts c.args.world.now.sites) (packet_counts c.loop.world.sites) (packet_counts c.drive.new.world.sites)
       (map (λ k. (g.L.Link.tally k).sent) c.args.links.now) (map (λ k. (g.L.Link.tally k).sent) c.loop.links) (map (λ k. (g.L.Link.tally k).sent) c.drive.new.links) c.loop.invariant.sent c.in-Ok-drive.ensures.sent;
   kept = c.in-Ok-drive.ensures.kept ∙ c.loop.invariant.kept;
+  shows = c.see.ensures.same ∙ c.loop.invariant.shows;
 }
 
 pub returns-clause-reached : goal.returns-clause-reached
