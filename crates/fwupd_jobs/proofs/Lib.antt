@@ -1,3 +1,4 @@
+mod Answering
 mod Examined
 mod Making
 mod Packed

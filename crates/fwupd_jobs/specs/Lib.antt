@@ -1,4 +1,6 @@
+pub mod Answering
 pub mod Inspected
+pub mod Jobs
 pub mod Nodes
 pub mod Outputs
 pub mod Promises

@@ -16,7 +16,7 @@ use std::io::Write;
 /// # Errors
 /// `Unreadable` where the file can't be read, `Package` where it holds none, and `Memory` where memory is refused: nothing is written
 /// then. `Output` where the text isn't written whole: a beginning of it may be.
-pub fn inspect_file<F: Files, W: Write>(
+pub fn inspect_file<F: Files, W: Write + Drop>(
     alloc: Global,
     files: &F,
     path: &str,

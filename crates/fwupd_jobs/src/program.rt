@@ -1,80 +1,38 @@
 //! The program: it reads its words, does what they ask for, and says how that ended.
 
-ghost use Rattle.std.specs.Prelude.{◌≡◌, OnErr, OnOk};
+ghost use Rattle.std.specs.Prelude.{◌≡◌, ◌≢◌, ◌⊎◌, ◌≤◌, IfErr, OnErr, OnOk};
 ghost use Rattle.std.specs.Process.{exit_status};
+ghost use Rattle.clap.specs.Values.{kind_of};
 
-use crate::command_line::{self, Job, Show};
+use crate::command_line::{self, Job};
 use crate::faults::RunFault;
 use crate::files::SystemFiles;
-use crate::inspecting::inspect_file;
+use crate::jobs::perform_job;
 use crate::output::Output;
-use crate::replaying::replay_files;
 use crate::sockets::Sockets;
-use crate::updating::update_files;
 use crate::watching::Onlookers;
 use clap::error::ErrorKind;
-use mctp_ctl::Endpoint;
-use std::io::{self, BufWriter};
+use std::io;
 use std::process::ExitCode;
 
 /// Wrong usage.
 const USAGE: u8 = 2;
 
-/// Answers the packets of standard input on standard output.
-fn answer(rt: &HostRuntime, endpoint: Endpoint) -> Result<(), RunFault> {
-    let alloc = rt.alloc();
-    let Ok(mut writer) = BufWriter::new(alloc, io::writer(rt)) else {
-        return Err(RunFault::Memory);
-    };
-    let mut reader = rt.reader();
-    match fwupd_base::answer_stream(alloc, &mut reader, &mut writer, endpoint.eid, endpoint.uuid) {
-        Ok(()) => Ok(()),
-        Err(fault) => Err(RunFault::Answer(fault)),
-    }
-}
-
-/// Prints what the package in a file holds.
-fn inspect(rt: &HostRuntime, path: &str) -> Result<(), RunFault> {
-    inspect_file(
-        rt.alloc(),
-        &SystemFiles::new(rt),
-        path,
-        &mut Output::new(io::writer(rt)),
-    )
-}
-
-/// Replays a schedule on the nodes of a configuration, and prints what it leaves.
-fn replay(rt: &HostRuntime, config: &str, schedule: &str) -> Result<(), RunFault> {
-    replay_files(
-        rt.alloc(),
-        &SystemFiles::new(rt),
-        config,
-        schedule,
-        &mut Output::new(io::writer(rt)),
-    )
-}
-
-/// Updates the devices of a configuration with its first package, over Unix sockets in a folder.
-fn update(rt: &HostRuntime, config: &str, folder: &str, show: Show<'_>) -> Result<(), RunFault> {
-    update_files(
-        rt.alloc(),
-        &SystemFiles::new(rt),
-        config,
-        show,
-        &mut Sockets::new(rt, folder),
-        &mut Onlookers::new(rt),
-        &mut Output::new(io::writer(rt)),
-    )
-}
-
-/// Does what the words ask for.
+/// Does what the words ask for, with the system's files, standard input and output, sockets, and what looks on.
 fn run(rt: &HostRuntime, job: &Job<'_>) -> Result<(), RunFault> {
-    match job {
-        Job::Answer(endpoint) => answer(rt, *endpoint),
-        Job::Inspect(path) => inspect(rt, path),
-        Job::Replay(config, schedule) => replay(rt, config, schedule),
-        Job::Run(config, folder, show) => update(rt, config, folder, *show),
-    }
+    let mut output = match Output::new(rt.alloc(), io::writer(rt)) {
+        Ok(output) => output,
+        Err(fault) => return Err(fault),
+    };
+    perform_job(
+        rt.alloc(),
+        job,
+        &SystemFiles::new(rt),
+        &mut rt.reader(),
+        &mut Sockets::new(rt),
+        &mut Onlookers::new(rt),
+        &mut output,
+    )
 }
 
 /// Prints a fault, where standard error takes it, and gives the status that says so.
@@ -96,8 +54,16 @@ fn status(rt: &HostRuntime, end: Result<(), RunFault>) -> ExitCode
     }
 }
 
-/// Prints what stands in place of a job, the text of help or of wrong usage, and gives its status.
-fn no_job(rt: &HostRuntime, error: &clap::Error) -> ExitCode {
+/// Prints what stands in place of a job, the text of help or of wrong usage, and gives its status: 0 for help, or 1 where standard
+/// output takes it not, and 2 for wrong usage. No contract says which words are which, or that what was printed arrived.
+fn no_job(rt: &HostRuntime, error: &clap::Error) -> ExitCode
+    ensures memory { kind_of error.now ≡ ErrorKind.OutOfMemory → exit_status result ≡ 1 }
+    ensures shown { (kind_of error.now ≡ ErrorKind.DisplayHelp) ⊎ (kind_of error.now ≡ ErrorKind.DisplayVersion)
+        → (exit_status result ≡ 0) ⊎ (exit_status result ≡ 1) }
+    ensures mistake { kind_of error.now ≢ ErrorKind.OutOfMemory → kind_of error.now ≢ ErrorKind.DisplayHelp → kind_of error.now ≢ ErrorKind.DisplayVersion
+        → exit_status result ≡ 2 }
+    ensures known { exit_status result ≤ 2 }
+{
     if error.kind() == ErrorKind::OutOfMemory {
         return failed(rt, RunFault::Memory);
     }
@@ -109,7 +75,9 @@ fn no_job(rt: &HostRuntime, error: &clap::Error) -> ExitCode {
 }
 
 /// The words of the command line, or the status where there are none to read.
-fn words(rt: &HostRuntime) -> Result<Vec<String>, ExitCode> {
+fn words(rt: &HostRuntime) -> Result<Vec<String>, ExitCode>
+    ensures { IfErr result (λ status. (exit_status status ≡ 1) ⊎ (exit_status status ≡ 2)) }
+{
     let args = match std::env::args(rt) {
         Ok(args) => args,
         Err(error) if error.kind() == io::ErrorKind::OutOfMemory => {
@@ -128,7 +96,9 @@ fn words(rt: &HostRuntime) -> Result<Vec<String>, ExitCode> {
 
 /// Does what the words of the command line ask for, and gives the status: 0; 1 where a fault is printed on standard error; 2 for
 /// wrong usage.
-pub fn perform(rt: &HostRuntime) -> ExitCode {
+pub fn perform(rt: &HostRuntime) -> ExitCode
+    ensures { exit_status result ≤ 2 }
+{
     let words = match words(rt) {
         Ok(words) => words,
         Err(status) => return status,

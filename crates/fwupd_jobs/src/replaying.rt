@@ -60,7 +60,7 @@ pub fn replayed<'a>(
 /// schedule's file. `Step` where a step isn't taken, whose number counts from 1: the report is then of the world before it.
 /// `Output` where the report isn't written whole: a beginning of it may be. `Memory` where memory is refused: nothing is written
 /// then.
-pub fn replay_files<F: Files, W: Write>(
+pub fn replay_files<F: Files, W: Write + Drop>(
     alloc: Global,
     files: &F,
     config: &str,

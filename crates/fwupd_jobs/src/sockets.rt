@@ -8,11 +8,10 @@ use fw_edge::StreamLink;
 use std::os::unix::net::{UnixListener, UnixStream};
 use std::{fs, io};
 
-/// Unix sockets in a folder: that of a device is `EID.sock`, and its name is gone as soon as both of its ends are there.
+/// Unix sockets in folders: that of a device is `EID.sock`, and its name is gone as soon as both of its ends are there.
 #[derive(Drop)]
 pub struct Sockets<'a> {
     rt: &'a HostRuntime,
-    folder: &'a str,
 }
 
 /// Both ends of a connection of a socket to itself, as a link.
@@ -38,17 +37,16 @@ fn socket_link(rt: &HostRuntime, path: &str) -> io::Result<StreamLink<UnixStream
 }
 
 impl<'a> Sockets<'a> {
-    /// The sockets of this folder.
-    pub fn new(rt: &'a HostRuntime, folder: &'a str) -> Sockets<'a> {
-        Sockets { rt, folder }
+    /// The sockets that a runtime reaches.
+    pub fn new(rt: &'a HostRuntime) -> Sockets<'a> {
+        Sockets { rt }
     }
 }
 
 impl<'a> Wires<StreamLink<UnixStream>> for Sockets<'a> {
-    ghost lacks = { λ s device. true };
+    ghost lacks = { λ s folder device. true };
 
-    fn open(&mut self, device: u8) -> Result<StreamLink<UnixStream>, RunFault> {
-        let folder = self.folder;
+    fn open(&mut self, folder: &str, device: u8) -> Result<StreamLink<UnixStream>, RunFault> {
         let Ok(path) = format!(in self.rt.alloc(); "{folder}/{device}.sock") else {
             return Err(RunFault::Memory);
         };

@@ -1,6 +1,6 @@
 //! Updating the devices of a configuration.
 
-ghost use Rattle.std.specs.Prelude.{◌≡◌, ◌⊎◌, Bool, IfErr, IfOk, None, OnOk, length, true, ℕ};
+ghost use Rattle.std.specs.Prelude.{◌≡◌, ◌⊎◌, Bool, IfErr, IfOk, List, None, OnOk, length, true, ℕ};
 ghost use Rattle.fw_script.specs.Reports.{report_of};
 ghost use Rattle.fwupd_jobs.specs.Outputs.{FailsToPrint, Prints};
 ghost use Rattle.fwupd_jobs.specs.Running.{DrivingEnds, IsUnlinked, IsUpdated, ReportsUpdate, StepsLead, UpdateEnds, show_of};
@@ -19,34 +19,35 @@ use fw_world::{World, packets_are_safe};
 use std::alloc::Global;
 use std::io::Write;
 
-/// Where links to devices are opened. It is known before to which devices they may be lacking.
+/// Where links to devices are opened, in a folder. It is known before to which devices they may be lacking.
 pub trait Wires<L> {
-    ghost lacks: { Self → ℕ → Bool };
+    ghost lacks: { Self → List ℕ → ℕ → Bool };
 
-    /// Opens a link to a device.
+    /// Opens a link to a device in a folder.
     ///
     /// # Errors
     /// `Socket` where it can't be made, and `Memory`.
-    fn open(&mut self, device: u8) -> Result<L, RunFault>
+    fn open(&mut self, folder: &str, device: u8) -> Result<L, RunFault>
         ensures same { lacks self.new ≡ lacks self.old }
-        ensures fault { IfErr result (λ e. (e ≡ RunFault.Memory) ⊎ ((e ≡ RunFault.Socket device) × (lacks self.old device ≡ true))) };
+        ensures fault { IfErr result (λ e. (e ≡ RunFault.Memory) ⊎ ((e ≡ RunFault.Socket device) × (lacks self.old folder.now device ≡ true))) };
 }
 
 /// Opens a link to each device of a world, in configured order.
 fn open_all<L: Link + Drop, S: Wires<L>>(
     alloc: Global,
     world: &World<'_, MemBank>,
+    folder: &str,
     wires: &mut S,
 ) -> Result<Vec<L>, RunFault>
     ensures links { IfOk result (λ links. length links.items ≡ length world.now.sites) }
-    ensures fault { IfErr result (λ e. (e ≡ RunFault.Memory) ⊎ IsUnlinked world.now (S.lacks wires.old) e) }
+    ensures fault { IfErr result (λ e. (e ≡ RunFault.Memory) ⊎ IsUnlinked world.now (S.lacks wires.old folder.now) e) }
 {
     let mut links = Vec::new(alloc);
     for place in 0..world.device_count() {
         let Some(node) = world.device_at(place) else {
             return Err(RunFault::Memory);
         };
-        let link = match wires.open(node.eid()) {
+        let link = match wires.open(folder, node.eid()) {
             Ok(link) => link,
             Err(fault) => return Err(fault),
         };
@@ -58,7 +59,7 @@ fn open_all<L: Link + Drop, S: Wires<L>>(
 }
 
 /// Writes the report of a world.
-fn write_report<W: Write>(
+fn write_report<W: Write + Drop>(
     alloc: Global,
     world: &World<'_, MemBank>,
     output: &mut Output<W>,
@@ -76,9 +77,10 @@ fn write_report<W: Write>(
 }
 
 /// Updates each device of a new world with package 1 over a link of its own, and writes the report of what that leaves.
-fn update_over<L: Link + Drop, S: Wires<L>, V: Watch, W: Write>(
+fn update_over<L: Link + Drop, S: Wires<L>, V: Watch, W: Write + Drop>(
     alloc: Global,
     world: &mut World<'_, MemBank>,
+    folder: &str,
     wires: &mut S,
     watch: &mut V,
     output: &mut Output<W>,
@@ -89,9 +91,9 @@ fn update_over<L: Link + Drop, S: Wires<L>, V: Watch, W: Write>(
     ensures same { (V.watched watch.new).shows ≡ (V.watched watch.old).shows }
     ensures written { OnOk result (Prints output.old output.new (report_of world.new)) }
     ensures reached { StepsLead world.old world.new }
-    ensures fault { IfErr result (λ e. DrivingEnds (S.lacks wires.old) world.old world.new e (V.watched watch.new) output.old output.new) }
+    ensures fault { IfErr result (λ e. DrivingEnds (S.lacks wires.old folder.now) world.old world.new e (V.watched watch.new) output.old output.new) }
 {
-    let mut links = match open_all(alloc, world, wires) {
+    let mut links = match open_all(alloc, world, folder, wires) {
         Ok(links) => links,
         Err(fault) => return Err(fault),
     };
@@ -121,17 +123,18 @@ fn update_over<L: Link + Drop, S: Wires<L>, V: Watch, W: Write>(
 /// failed or the clock stands at its end, and `Trace` where what looks on can't write: the report is then of the world that was
 /// reached. `Output` where the report isn't written whole: a beginning of it may be. `Memory` where memory is refused: nothing is
 /// written then.
-pub fn update_files<F: Files, L: Link + Drop, S: Wires<L>, V: Watch, W: Write>(
+pub fn update_files<F: Files, L: Link + Drop, S: Wires<L>, V: Watch, W: Write + Drop>(
     alloc: Global,
     files: &F,
     config: &str,
+    folder: &str,
     show: Show<'_>,
     wires: &mut S,
     watch: &mut V,
     output: &mut Output<W>,
 ) -> Result<(), RunFault>
     ensures ok { OnOk result (ReportsUpdate (F.holds files.now) config.now (show_of show.entry) (V.watched watch.new) output.old output.new) }
-    ensures fault { IfErr result (λ e. UpdateEnds (F.holds files.now) config.now (show_of show.entry) (S.lacks wires.old) e (V.watched watch.new) output.old output.new) }
+    ensures fault { IfErr result (λ e. UpdateEnds (F.holds files.now) config.now (show_of show.entry) (S.lacks wires.old folder.now) e (V.watched watch.new) output.old output.new) }
 {
     let Config {
         agent,
@@ -163,7 +166,7 @@ pub fn update_files<F: Files, L: Link + Drop, S: Wires<L>, V: Watch, W: Write>(
         Ok(()) => {}
         Err(fault) => return Err(watch_fault(fault)),
     }
-    match update_over(alloc, &mut world, wires, watch, output) {
+    match update_over(alloc, &mut world, folder, wires, watch, output) {
         Ok(()) => Ok(()),
         Err(fault) => Err(fault),
     }

@@ -60,9 +60,9 @@ struct MemWires {
 }
 
 impl Wires<MemLink> for MemWires {
-    ghost lacks = { λ w device. true };
+    ghost lacks = { λ w folder device. true };
 
-    fn open(&mut self, device: u8) -> Result<MemLink, RunFault> {
+    fn open(&mut self, _folder: &str, device: u8) -> Result<MemLink, RunFault> {
         if device == self.closed {
             return Err(RunFault::Socket(device));
         }
@@ -92,9 +92,9 @@ impl CutWires {
 }
 
 impl Wires<StreamLink<UnixStream>> for CutWires {
-    ghost lacks = { λ w device. true };
+    ghost lacks = { λ w folder device. true };
 
-    fn open(&mut self, device: u8) -> Result<StreamLink<UnixStream>, RunFault> {
+    fn open(&mut self, _folder: &str, device: u8) -> Result<StreamLink<UnixStream>, RunFault> {
         match self.link.take() {
             Some(link) => Ok(link),
             None => Err(RunFault::Socket(device)),
@@ -186,11 +186,15 @@ fn updated<'a, L: Link + Drop, S: Wires<L>>(
         fault: None,
         has_ended: false,
     };
-    let mut output = Output::new(Vec::new(rt.alloc()));
+    let mut output = match Output::new(rt.alloc(), Vec::new(rt.alloc())) {
+        Ok(output) => output,
+        Err(fault) => return Ok((outcome(rt, Err(fault), Vec::new(rt.alloc()))?, 0)),
+    };
     let end = update_files(
         rt.alloc(),
         &MemFiles { files: &files },
         "c",
+        "f",
         Show {
             is_quiet: true,
             trace,

@@ -18,7 +18,7 @@ packages_in-requires g c =
 
 pub returns-in-Err-begin-clause-fault : goal.returns-in-Err-begin-clause-fault
 returns-in-Err-begin-clause-fault g c =
-    unbegun (g.F.Files.holds c.args.files.now) c.args.config.now (show_of c.args.show) (g.S.Wires.lacks c.args.wires.now) c.in-Ok-new.world c.in-Err-begin.fault _
+    unbegun (g.F.Files.holds c.args.files.now) c.args.config.now (show_of c.args.show) (g.S.Wires.lacks c.args.wires.now c.args.folder.now) c.in-Ok-new.world c.in-Err-begin.fault _
     (g.V.Watch.watched c.begin.new.self) c.args.output.now
     (set_up_named (g.F.Files.holds c.args.files.now) c.args.config.now c.in-Ok.config c.as_slice.result.now c.in-Ok-package_files.contents.items c.as_slice-2.result.now c.in-Ok-packages_in.packages.items
     c.as_slice-3.result.now c.in-Ok-nodes.nodes.items c.in-Ok-new.world c.in-Ok.ensures.says c.as_slice.ensures.value c.in-Ok-package_files.ensures.packed c.as_slice-2.ensures.value
@@ -45,7 +45,7 @@ returns-in-Ok-update_over-clause-ok g c = record {
 
 pub returns-clause-fault : goal.returns-clause-fault
 returns-clause-fault g c =
-    update_ends (g.F.Files.holds c.args.files.now) c.args.config.now (show_of c.args.show) (g.S.Wires.lacks c.args.wires.now) c.in-Ok-new.world c.update_over.new.world c.in-Err-update_over.fault
+    update_ends (g.F.Files.holds c.args.files.now) c.args.config.now (show_of c.args.show) (g.S.Wires.lacks c.args.wires.now c.args.folder.now) c.in-Ok-new.world c.update_over.new.world c.in-Err-update_over.fault
     (g.V.Watch.watched c.update_over.new.watch) c.args.output.now c.update_over.new.output
     (watched_up (g.F.Files.holds c.args.files.now) c.args.config.now c.in-Ok.config (show_of c.args.show) c.as_slice.result.now c.in-Ok-package_files.contents.items c.as_slice-2.result.now c.in-Ok-packages_in.packages.items
     c.as_slice-3.result.now c.in-Ok-nodes.nodes.items c.in-Ok-new.world c.in-Ok.ensures.says c.as_slice.ensures.value c.in-Ok-package_files.ensures.packed c.as_slice-2.ensures.value

@@ -1,0 +1,26 @@
+-- What each job does of those that the words of a command line ask for.
+use Rattle.std.specs.Prelude.{ℕ, Bool, List, None, Option}
+use Rattle.fwupd_jobs.specs.Answering.{AnswerEnds, Answers}
+use Rattle.fwupd_jobs.specs.Inspected.{InspectEnds, Inspects}
+use Rattle.fwupd_jobs.specs.Outputs.{OutputOf}
+use Rattle.fwupd_jobs.specs.Replayed.{ReplayEnds, Reports}
+use Rattle.fwupd_jobs.specs.Running.{ReportsUpdate, UpdateEnds, WatchOf, show_of}
+use Rattle.fwupd_jobs.specs.Setups.{FileOf}
+use Rattle.fwupd_jobs.specs.declared.command_line.Job.{Job}
+use Rattle.fwupd_jobs.specs.declared.command_line.Job.TheVariants as jobs
+use Rattle.fwupd_jobs.specs.declared.faults.RunFault.{RunFault}
+
+-- A job is done: what it was asked for is written.
+abbrev pub IsDone : Job → (files : List ℕ → FileOf) → (read : Option (List ℕ)) → WatchOf → (before now : OutputOf) → Type 0
+IsDone (jobs.Answer endpoint) files read watched before now = Answers endpoint read before now
+IsDone (jobs.Inspect path) files read watched before now = Inspects (files path.now) before now
+IsDone (jobs.Replay config schedule) files read watched before now = Reports files config.now schedule.now None before now
+IsDone (jobs.Run config folder show) files read watched before now = ReportsUpdate files config.now (show_of show) watched before now
+
+-- How a job ends that isn't done.
+abbrev pub JobEnds : Job → (files : List ℕ → FileOf) → (lacks : (folder : List ℕ) → (device : ℕ) → Bool) → (read_before read_now : Option (List ℕ)) → RunFault → WatchOf → (before now : OutputOf) → Type 0
+JobEnds (jobs.Answer endpoint) files lacks read_before read_now told watched before now = AnswerEnds endpoint read_before read_now told before now
+JobEnds (jobs.Inspect path) files lacks read_before read_now told watched before now = InspectEnds files path.now told before now
+JobEnds (jobs.Replay config schedule) files lacks read_before read_now told watched before now = ReplayEnds files config.now schedule.now told before now
+JobEnds (jobs.Run config folder show) files lacks read_before read_now told watched before now =
+    UpdateEnds files config.now (show_of show) (lacks folder.now) told watched before now

@@ -1,0 +1,42 @@
+//! A job: what the words of a command line ask for, over any files, reader, links, onlooker and output.
+
+ghost use Rattle.std.specs.Prelude.{IfErr, OnOk};
+ghost use Rattle.fwupd_jobs.specs.Jobs.{IsDone, JobEnds};
+
+use crate::command_line::Job;
+use crate::faults::RunFault;
+use crate::files::Files;
+use crate::inspecting::inspect_file;
+use crate::output::Output;
+use crate::replaying::replay_files;
+use crate::running::Watch;
+use crate::updating::{Wires, update_files};
+use fw_edge::Link;
+use std::alloc::Global;
+use std::io::{Read, Write};
+
+/// Does a job. What it reads, it reads of the files; what it answers, of the reader.
+///
+/// # Errors
+/// Those of the job: of `Output::answer`, `inspect_file`, `replay_files` or `update_files`.
+pub fn perform_job<F: Files, R: Read, L: Link + Drop, S: Wires<L>, V: Watch, W: Write + Drop>(
+    alloc: Global,
+    job: &Job<'_>,
+    files: &F,
+    reader: &mut R,
+    wires: &mut S,
+    watch: &mut V,
+    output: &mut Output<W>,
+) -> Result<(), RunFault>
+    ensures ok { OnOk result (IsDone job.now (F.holds files.now) (R.remaining reader.old) (V.watched watch.new) output.old output.new) }
+    ensures fault { IfErr result (λ e. JobEnds job.now (F.holds files.now) (S.lacks wires.old) (R.remaining reader.old) (R.remaining reader.new) e (V.watched watch.new) output.old output.new) }
+{
+    match job {
+        Job::Answer(endpoint) => output.answer(alloc, reader, endpoint),
+        Job::Inspect(path) => inspect_file(alloc, files, path, output),
+        Job::Replay(config, schedule) => replay_files(alloc, files, config, schedule, output),
+        Job::Run(config, folder, show) => {
+            update_files(alloc, files, config, folder, *show, wires, watch, output)
+        }
+    }
+}
