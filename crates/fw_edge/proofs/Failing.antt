@@ -14,5 +14,5 @@ pub failed_from : {A : Type 0} (f : A → ℕ) (os : List ℕ) (xs : List A) (i 
 failed_from f os xs i d y e lt h = subst (λ o. OneFailed o (map f (slice_set xs i y))) e (failed_put f xs i d y lt h)
 
 -- by another that counts the same
-pub same_from : {A : Type 0} (f : A → ℕ) (os : List ℕ) (xs : List A) (i : ℕ) (d y : A) → map f xs ≡ os → f y ≡ f (get_or xs i d) → map f (slice_set xs i y) ≡ os
+pub same_from : {A B : Type 0} (f : A → B) (os : List B) (xs : List A) (i : ℕ) (d y : A) → map f xs ≡ os → f y ≡ f (get_or xs i d) → map f (slice_set xs i y) ≡ os
 same_from f os xs i d y e same = map-set_same f xs i y d same ∙ e

@@ -1,11 +1,15 @@
 mod Alive
 mod Arriving
+mod Dues
 mod Failing
 mod Frames
 mod Gaining
 pub mod Going
 mod Latest
+mod Naming
 mod Overs
 mod Pieces
 pub mod Rising
 pub mod Sending
+pub mod Taking
+pub mod Turning

@@ -79,7 +79,12 @@ map_get f [] i d lt = absurd (omega arith)
 map_get f (x ∷ xs) zero d lt = refl
 map_get f (x ∷ xs) (suc i) d lt = map_get f xs i d (omega arith)
 
-pub map_length : {A : Type 0} (f : A → ℕ) (xs : List A) → length (map f xs) ≡ length xs
+pub maps_get : {A B : Type 0} (f : A → B) (xs : List A) (i : ℕ) (d : A) → i < length xs → get_or (map f xs) i (f d) ≡ f (get_or xs i d)
+maps_get f [] i d lt = absurd (omega arith)
+maps_get f (x ∷ xs) zero d lt = refl
+maps_get f (x ∷ xs) (suc i) d lt = maps_get f xs i d (omega arith)
+
+pub map_length : {A B : Type 0} (f : A → B) (xs : List A) → length (map f xs) ≡ length xs
 map_length f [] = refl
 map_length f (x ∷ xs) = let more = map_length f xs in omega arith
 

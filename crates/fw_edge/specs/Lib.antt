@@ -3,3 +3,5 @@ pub mod Frames
 pub mod Hearing
 pub mod Ledgers
 pub mod Links
+pub mod Outgoing
+pub mod Turns

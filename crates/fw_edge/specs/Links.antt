@@ -1,5 +1,6 @@
--- What a link counts.
-use Rattle.std.specs.Prelude.{ℕ, ◌≡◌, ◌==◌, ◌+◌, ◌-◌, ◌^◌, ◌⊎◌, ◌∷◌, Bool, true, false, if◌then◌else◌, List}
+-- What a link counts, takes and gives.
+use Rattle.std.specs.Prelude.{ℕ, ◌≡◌, ◌≢◌, ◌==◌, ◌+◌, ◌-◌, ◌^◌, ◌⊎◌, ◌∷◌, Bool, true, false, if◌then◌else◌, List, Option, None}
+use Rattle.std.specs.Io.KnownBytes.{Appends}
 use Rattle.fw_message.specs.declared.side.Side.{Side}
 use Rattle.fw_message.specs.declared.side.Side.TheVariants as sides
 use Rattle.fw_edge.specs.declared.tally.Tally.{Tally}
@@ -37,3 +38,23 @@ pub record Fails (old new : Tally) : Type 0 where
 abbrev pub end_of : List ℕ → (device : ℕ) → Side
 end_of (version ∷ dest ∷ source ∷ rest) device = if source == device then sides.Device else sides.Agent
 end_of bytes device = sides.Agent
+
+-- the bytes at each end of a link, where they are known
+abbrev pub EndsOf : Type 0
+EndsOf = Side → Option (List ℕ)
+
+abbrev pub none_known : EndsOf
+none_known side = None
+
+-- at one end bytes are put behind the others, and the other end stays
+abbrev pub GrowsAt : Side → List ℕ → EndsOf → EndsOf → Type 0
+GrowsAt side bytes old new = Appends (old side) (new side) bytes × ((other : Side) → other ≢ side → new other ≡ old other)
+
+-- what the links of a run took and gave, and how many packets of each pair are written to them
+pub record LinksOf : Type 0 where
+  pub written : List ℕ
+  pub took : List EndsOf
+  pub gave : List EndsOf
+
+abbrev pub links_at : List ℕ → List EndsOf → List EndsOf → LinksOf
+links_at written took gave = record { written = written; took = took; gave = gave }

@@ -2,6 +2,8 @@
 
 ghost use Rattle.std.specs.Prelude.{◌≡◌, ◌≤◌, ◌<◌, ◌+◌, ◌-◌, ◌*◌, ◌^◌, IfErr, IfOk, OnErr, OnOk, length, map, true};
 ghost use Rattle.fw_edge.specs.Drives.{Drives, DrivesLiving, Goes, all_over, delivers_in, ticks_in};
+ghost use Rattle.fw_edge.specs.Links.{links_at};
+ghost use Rattle.fw_edge.specs.Turns.{Drove, Turned};
 ghost use Rattle.fw_edge.specs.Ledgers.{AllRose, AllSent, AreGiven, OneFailed, RoseTogether, packet_counts};
 
 use crate::link::Link;
@@ -59,6 +61,7 @@ fn turn<B: Bank + Drop, L: Link>(
     requires few { length links.old ≤ 16 }
     requires written { length written.old ≡ length links.old }
     requires all { written.old ≡ packet_counts world.old.sites }
+    ensures turned { IfOk result (λ f. Turned world.old steps.old.items (links_at written.old (map L.taken links.old) (map L.gave links.old)) world.new steps.new.items (links_at written.new (map L.taken links.new) (map L.gave links.new)) (f.known + f.foreign)) }
     ensures goes { IfOk result (λ f. Goes world.old steps.old.items world.new steps.new.items 1 f.known) }
     ensures few { IfOk result (λ f. f.known + f.foreign ≤ 1055) }
     ensures kept { IfOk result (λ f. map (λ l. (L.tally l).failures) links.new ≡ map (λ l. (L.tally l).failures) links.old) }
@@ -103,6 +106,7 @@ fn take_turns<B: Bank + Drop, L: Link>(
     requires written { length written.old ≡ length links.old }
     requires all { written.old ≡ packet_counts world.old.sites }
     ensures drives { Drives world.old steps.old.items world.new steps.new.items }
+    ensures drove { IfOk result (λ d. Drove d.turns world.old steps.old.items (links_at written.old (map L.taken links.old) (map L.gave links.old)) world.new steps.new.items (links_at written.new (map L.taken links.new) (map L.gave links.new)) d.foreign) }
     ensures ticks { IfOk result (λ d. ticks_in steps.new.items ≡ ticks_in steps.old.items + d.turns) }
     ensures within { IfOk result (λ d. d.turns ≤ turns) }
     ensures ended { IfOk result (λ d. d.turns < turns → all_over world.new ≡ true) }
@@ -112,6 +116,7 @@ fn take_turns<B: Bank + Drop, L: Link>(
     ensures given { IfOk result (λ d. AreGiven (delivers_in steps.old.items) (delivers_in steps.new.items) d.foreign (map (λ l. (L.tally l).given) links.old) (map (λ l. (L.tally l).given) links.new)) }
     ensures sent { OnOk result (AllSent (packet_counts world.old.sites) (packet_counts world.new.sites) (map (λ l. (L.tally l).sent) links.old) (map (λ l. (L.tally l).sent) links.new)) }
     ensures links { length links.new ≡ length links.old }
+    ensures all { OnOk result (written.new ≡ packet_counts world.new.sites) }
     ensures frame { IfErr result (λ e. e ≡ EdgeFault.Frame → OneFailed (map (λ l. (L.tally l).failures) links.old) (map (λ l. (L.tally l).failures) links.new)) }
     ensures step { IfErr result (λ e. e ≡ EdgeFault.Step → world.new.now ≡ 2 ^ 32 - 1) }
 {
@@ -151,6 +156,7 @@ pub fn drive<B: Bank + Drop, L: Link>(
 ) -> Result<Driven, EdgeFault>
     requires { length links.old ≡ length world.old.sites }
     ensures drives { DrivesLiving world.old steps.old.items world.new steps.new.items }
+    ensures drove { IfOk result (λ d. Drove d.turns world.old steps.old.items (links_at (packet_counts world.old.sites) (map L.taken links.old) (map L.gave links.old)) world.new steps.new.items (links_at (packet_counts world.new.sites) (map L.taken links.new) (map L.gave links.new)) d.foreign) }
     ensures ticks { IfOk result (λ d. ticks_in steps.new.items ≡ ticks_in steps.old.items + d.turns) }
     ensures within { IfOk result (λ d. d.turns ≤ turns) }
     ensures ended { IfOk result (λ d. d.turns < turns → all_over world.new ≡ true) }

@@ -1,7 +1,8 @@
 //! Links between an update agent and a device.
 
-ghost use Rattle.std.specs.Prelude.{◌≡◌, IfOk, OnErr, OnOk, is_some};
-ghost use Rattle.fw_edge.specs.Links.{Asks, Fails, Sends};
+ghost use Rattle.std.specs.Prelude.{[], ◌≡◌, ◌∷◌, IfOk, OnErr, OnOk, is_some, option_map, option_to_list};
+ghost use Rattle.fw_edge.specs.Frames.{frames_of};
+ghost use Rattle.fw_edge.specs.Links.{Asks, EndsOf, Fails, GrowsAt, Sends, none_known};
 ghost use Rattle.fw_edge.specs.declared.tally.Tally.{Tally};
 
 use crate::frame::FrameFault;
@@ -12,9 +13,14 @@ use mctp_wire::RawPacket;
 /// A link between the agent and a device, as both of its ends see it: what is sent at one end may come at the other, late,
 /// more than once, or never, and anything else may come too. `Side::Agent` names the agent's end, `Side::Device` the device's.
 ///
-/// It counts what it does. Each count stops at its last value, 2^64 - 1, and only the one that a call says changes in it.
+/// It counts what it does. Each count stops at its last value, 2^64 - 1, and only the one that a call says changes in it. A link
+/// may also tell contracts which bytes it took and gave at each end, as frames; one that doesn't leaves them unknown.
 pub trait Link {
     ghost tally: { Self → Tally };
+
+    ghost taken: { Self → EndsOf } = { λ _. none_known };
+
+    ghost gave: { Self → EndsOf } = { λ _. none_known };
 
     /// Takes a packet that was sent at an end.
     ///
@@ -22,6 +28,8 @@ pub trait Link {
     /// Any fault, which is counted as a failure.
     fn send(&mut self, side: Side, packet: &RawPacket) -> Result<(), FrameFault>
         ensures ok { OnOk result (Sends (tally self.old) (tally self.new)) }
+        ensures taken { OnOk result (GrowsAt side (frames_of (packet.now.items ∷ [])) (taken self.old) (taken self.new)) }
+        ensures gave { OnOk result (gave self.new ≡ gave self.old) }
         ensures err { OnErr result (Fails (tally self.old) (tally self.new)) };
 
     /// The next packet that came at an end, if there is one.
@@ -30,6 +38,8 @@ pub trait Link {
     /// Any fault, also of bytes that are no frame, which is counted as a failure.
     fn receive(&mut self, side: Side) -> Result<Option<RawPacket>, FrameFault>
         ensures ok { IfOk result (λ p. Asks (is_some p) (tally self.old) (tally self.new)) }
+        ensures gave { IfOk result (λ p. GrowsAt side (frames_of (option_to_list (option_map (λ q. q.items) p))) (gave self.old) (gave self.new)) }
+        ensures taken { OnOk result (taken self.new ≡ taken self.old) }
         ensures err { OnErr result (Fails (tally self.old) (tally self.new)) };
 
     /// How many calls failed, bytes that are no frame among them.

@@ -2,7 +2,8 @@
 
 ghost use Rattle.std.specs.Prelude.{◌≡◌, ◌≤◌, ◌<◌, ◌+◌, ◌-◌, ◌^◌, IfErr, OnErr, OnOk, length, map, slice_get};
 ghost use Rattle.fw_edge.specs.Ledgers.{AllSent, HasFailed, NoneFell, OneFailed, Writes, packet_counts};
-ghost use Rattle.fw_edge.specs.Links.{end_of};
+ghost use Rattle.fw_edge.specs.Links.{end_of, links_at};
+ghost use Rattle.fw_edge.specs.Outgoing.{TookAll, TookAt, WritesOut};
 ghost use Rattle.fw_world.specs.Worlds.{packets_at};
 
 use crate::driving::EdgeFault;
@@ -27,6 +28,8 @@ fn end_of(packet: &SentPacket, device: u8) -> Side
 /// Writes these packets of a pair to its link, each at its sender's end.
 fn write_each<L: Link>(link: &mut L, packets: &[SentPacket], device: u8) -> Result<(), EdgeFault>
     ensures ok { OnOk result (Writes (length packets.now) (L.tally link.old) (L.tally link.new)) }
+    ensures took { OnOk result (TookAll device (L.taken link.old) (map (λ p. p.bytes.items) packets.now) (L.taken link.new)) }
+    ensures gave { OnOk result (L.gave link.new ≡ L.gave link.old) }
     ensures fault { IfErr result (λ e. e ≡ EdgeFault.Frame) }
     ensures failed { OnErr result (HasFailed (L.tally link.old).failures (L.tally link.new).failures) }
 {
@@ -56,6 +59,8 @@ fn write_at<B: Bank + Drop, L: Link>(
     link: &mut L,
     written: usize,
 ) -> Result<(), EdgeFault>
+    ensures took { OnOk result (TookAt (slice_get world.now.sites place) written (L.taken link.old) (L.taken link.new)) }
+    ensures gave { OnOk result (L.gave link.new ≡ L.gave link.old) }
     ensures kept { OnOk result ((L.tally link.new).failures ≡ (L.tally link.old).failures) }
     ensures asked { OnOk result ((L.tally link.new).asked ≡ (L.tally link.old).asked) }
     ensures given { OnOk result ((L.tally link.new).given ≡ (L.tally link.old).given) }
@@ -69,7 +74,10 @@ fn write_at<B: Bank + Drop, L: Link>(
     let Some(unwritten) = packets.get(written..) else {
         return Ok(());
     };
-    write_each(link, unwritten, node.eid())
+    match write_each(link, unwritten, node.eid()) {
+        Ok(()) => Ok(()),
+        Err(fault) => Err(fault),
+    }
 }
 
 /// Writes each packet that isn't written yet to the link of its pair, in configured order, by rising number. `written[i]` counts
@@ -81,6 +89,7 @@ pub(crate) fn write_out<B: Bank + Drop, L: Link>(
 ) -> Result<(), EdgeFault>
     requires each { length written.old ≡ length links.old }
     requires within { NoneFell written.old (packet_counts world.now.sites) }
+    ensures out { OnOk result (WritesOut world.now (links_at written.old (map L.taken links.old) (map L.gave links.old)) (links_at written.new (map L.taken links.new) (map L.gave links.new))) }
     ensures sent { OnOk result (AllSent written.old written.new (map (λ l. (L.tally l).sent) links.old) (map (λ l. (L.tally l).sent) links.new)) }
     ensures all { OnOk result (written.new ≡ packet_counts world.now.sites) }
     ensures kept { OnOk result (map (λ l. (L.tally l).failures) links.new ≡ map (λ l. (L.tally l).failures) links.old) }

@@ -1,9 +1,12 @@
 //! Rounds of a turn: what was sent goes out, and a frame is read at each end.
 
-ghost use Rattle.std.specs.Prelude.{◌≡◌, ◌≢◌, ◌≤◌, ◌<◌, ◌+◌, ◌⊎◌, IfErr, IfOk, IfSome, None, OnErr, OnOk, length, map};
+ghost use Rattle.std.specs.Prelude.{[], ◌∷◌, ◌≡◌, ◌≢◌, ◌≤◌, ◌<◌, ◌+◌, ◌⊎◌, IfErr, IfOk, IfSome, None, OnErr, OnOk, length, map, slice_get};
+ghost use Rattle.fw_edge.specs.Links.{links_at};
+ghost use Rattle.fw_edge.specs.Turns.{Came, CameAt, Exchanged, HandsOver, RoundOf, Rounds, both_ends, eid_in, node_at};
 ghost use Rattle.fw_edge.specs.Drives.{Drives, Goes};
 ghost use Rattle.fw_edge.specs.Hearing.{IsHeard};
 ghost use Rattle.fw_edge.specs.Ledgers.{AllRose, AllSent, HasFailed, NoneFell, OneFailed, Reads, RoseTogether, packet_counts};
+ghost use Rattle.fw_world.specs.Promises.{eids_of};
 ghost use Rattle.fw_world.specs.Replays.{may_step};
 ghost use Rattle.fw_world.specs.declared.step.Step.{Step};
 
@@ -66,6 +69,7 @@ fn node_at<B: Bank + Drop>(world: &World<'_, B>, device: u8, end: Side) -> u8
     ensures node { (result ≡ world.now.agent.endpoint.eid) ⊎ (result ≡ device) }
     ensures agent { end ≡ Side.Agent → result ≡ world.now.agent.endpoint.eid }
     ensures device { end ≡ Side.Device → result ≡ device }
+    ensures at { result ≡ node_at world.now device end }
 {
     match end {
         Side::Agent => world.agent().eid(),
@@ -85,6 +89,7 @@ fn hand_over<B: Bank + Drop>(
 ) -> Result<Frames, EdgeFault>
     ensures goes { IfOk result (λ f. Goes world.old steps.old.items world.new steps.new.items 0 f.known) }
     ensures one { IfOk result (λ f. f.known + f.foreign ≡ 1) }
+    ensures over { OnOk result (HandsOver world.old steps.old.items device end packet.now.items world.new steps.new.items) }
     ensures drives { OnErr result (Drives world.old steps.old.items world.new steps.new.items) }
     ensures fault { IfErr result (λ e. e ≡ EdgeFault.Memory) }
 {
@@ -115,6 +120,8 @@ fn read_end<B: Bank + Drop, L: Link>(
 ) -> Result<Frames, EdgeFault>
     ensures goes { IfOk result (λ f. Goes world.old steps.old.items world.new steps.new.items 0 f.known) }
     ensures few { IfOk result (λ f. f.known + f.foreign ≤ 1) }
+    ensures came { IfOk result (λ f. CameAt world.old steps.old.items (L.gave link.old) ((device, end) ∷ []) world.new steps.new.items (L.gave link.new) (f.known + f.foreign)) }
+    ensures took_none { OnOk result (L.taken link.new ≡ L.taken link.old) }
     ensures reads { IfOk result (λ f. Reads 1 (f.known + f.foreign) (L.tally link.old) (L.tally link.new)) }
     ensures drives { OnErr result (Drives world.old steps.old.items world.new steps.new.items) }
     ensures fault { IfErr result (λ e. e ≢ EdgeFault.Step) }
@@ -142,6 +149,8 @@ fn read_both<B: Bank + Drop, L: Link>(
 ) -> Result<Frames, EdgeFault>
     ensures goes { IfOk result (λ f. Goes world.old steps.old.items world.new steps.new.items 0 f.known) }
     ensures few { IfOk result (λ f. f.known + f.foreign ≤ 2) }
+    ensures came { IfOk result (λ f. CameAt world.old steps.old.items (L.gave link.old) (both_ends device) world.new steps.new.items (L.gave link.new) (f.known + f.foreign)) }
+    ensures took_none { OnOk result (L.taken link.new ≡ L.taken link.old) }
     ensures reads { IfOk result (λ f. Reads 2 (f.known + f.foreign) (L.tally link.old) (L.tally link.new)) }
     ensures drives { OnErr result (Drives world.old steps.old.items world.new steps.new.items) }
     ensures fault { IfErr result (λ e. e ≢ EdgeFault.Step) }
@@ -159,7 +168,9 @@ fn read_both<B: Bank + Drop, L: Link>(
 }
 
 /// The device at a place.
-fn eid_at<B: Bank + Drop>(world: &World<'_, B>, place: usize) -> u8 {
+fn eid_at<B: Bank + Drop>(world: &World<'_, B>, place: usize) -> u8
+    ensures { result ≡ eid_in (slice_get world.now.sites place) }
+{
     match world.device_at(place) {
         Some(node) => node.eid(),
         None => 0,
@@ -172,7 +183,9 @@ fn read_round<B: Bank + Drop, L: Link>(
     links: &mut [L],
     steps: &mut Vec<Step>,
 ) -> Result<Frames, EdgeFault>
-    requires { length links.old ≤ 16 }
+    requires few { length links.old ≤ 16 }
+    requires devices { length links.old ≡ length world.old.sites }
+    ensures came { IfOk result (λ f. Came (length (eids_of world.old.sites)) (eids_of world.old.sites) world.old steps.old.items (links_at [] (map L.taken links.old) (map L.gave links.old)) world.new steps.new.items (links_at [] (map L.taken links.new) (map L.gave links.new)) (f.known + f.foreign)) }
     ensures goes { IfOk result (λ f. Goes world.old steps.old.items world.new steps.new.items 0 f.known) }
     ensures few { IfOk result (λ f. f.known + f.foreign ≤ 32) }
     ensures kept { IfOk result (λ f. map (λ l. (L.tally l).failures) links.new ≡ map (λ l. (L.tally l).failures) links.old) }
@@ -206,6 +219,7 @@ fn round<B: Bank + Drop, L: Link>(
     requires few { length links.old ≤ 16 }
     requires written { length written.old ≡ length links.old }
     requires within { NoneFell written.old (packet_counts world.old.sites) }
+    ensures round { IfOk result (λ f. RoundOf (eids_of world.old.sites) world.old steps.old.items (links_at written.old (map L.taken links.old) (map L.gave links.old)) world.new steps.new.items (links_at written.new (map L.taken links.new) (map L.gave links.new)) (f.known + f.foreign)) }
     ensures goes { IfOk result (λ f. Goes world.old steps.old.items world.new steps.new.items 0 f.known) }
     ensures few { IfOk result (λ f. f.known + f.foreign ≤ 32) }
     ensures kept { IfOk result (λ f. map (λ l. (L.tally l).failures) links.new ≡ map (λ l. (L.tally l).failures) links.old) }
@@ -240,6 +254,7 @@ fn rounds<B: Bank + Drop, L: Link>(
     requires few { length links.old ≤ 16 }
     requires written { length written.old ≡ length links.old }
     requires within { NoneFell written.old (packet_counts world.old.sites) }
+    ensures rounds { IfOk result (λ f. Rounds (eids_of world.old.sites) world.old steps.old.items (links_at written.old (map L.taken links.old) (map L.gave links.old)) world.new steps.new.items (links_at written.new (map L.taken links.new) (map L.gave links.new)) (f.known + f.foreign)) }
     ensures goes { IfOk result (λ f. Goes world.old steps.old.items world.new steps.new.items 0 f.known) }
     ensures few { IfOk result (λ f. f.known + f.foreign ≤ 1055) }
     ensures kept { IfOk result (λ f. map (λ l. (L.tally l).failures) links.new ≡ map (λ l. (L.tally l).failures) links.old) }
@@ -277,6 +292,7 @@ pub(crate) fn exchange<B: Bank + Drop, L: Link>(
     requires few { length links.old ≤ 16 }
     requires written { length written.old ≡ length links.old }
     requires within { NoneFell written.old (packet_counts world.old.sites) }
+    ensures exchanged { IfOk result (λ f. Exchanged (eids_of world.old.sites) world.old steps.old.items (links_at written.old (map L.taken links.old) (map L.gave links.old)) world.new steps.new.items (links_at written.new (map L.taken links.new) (map L.gave links.new)) (f.known + f.foreign)) }
     ensures goes { IfOk result (λ f. Goes world.old steps.old.items world.new steps.new.items 0 f.known) }
     ensures few { IfOk result (λ f. f.known + f.foreign ≤ 1055) }
     ensures kept { IfOk result (λ f. map (λ l. (L.tally l).failures) links.new ≡ map (λ l. (L.tally l).failures) links.old) }

@@ -1,10 +1,13 @@
 //! Steps of a run, each taken and listed.
 
-ghost use Rattle.std.specs.Prelude.{[], ◌≡◌, ◌≢◌, ◌-◌, ◌^◌, ◌++◌, ◌∷◌, IfErr, IfSome, None, OnErr, OnOk, true};
+ghost use Rattle.std.specs.Prelude.{[], ◌≡◌, ◌≢◌, ◌-◌, ◌^◌, ◌++◌, ◌∷◌, IfErr, IfSome, None, OnErr, OnOk, Some, is_some, length, slice_get, true};
 ghost use Rattle.fw_edge.specs.Drives.{Drives, Goes, all_over, deliver_in, is_driven, is_good, is_over, tick_in};
 ghost use Rattle.fw_edge.specs.Ledgers.{packet_counts};
-ghost use Rattle.fw_node.specs.Agents.{half_for};
+ghost use Rattle.fw_edge.specs.Turns.{TakesAll, TakesIf, activation_for, all_due, awaited_in, due_at, verdict_for};
+ghost use Rattle.fw_node.specs.Agents.{half_for, ready_for};
+ghost use Rattle.fw_world.specs.Promises.{eids_of};
 ghost use Rattle.fw_world.specs.Replays.{Leads, may_step};
+ghost use Rattle.fw_world.specs.Worlds.{site_for};
 ghost use Rattle.fw_world.specs.declared.step.Step.{Step};
 
 use crate::driving::EdgeFault;
@@ -50,6 +53,7 @@ pub(crate) fn tick<B: Bank + Drop>(
     world: &mut World<'_, B>,
     steps: &mut Vec<Step>,
 ) -> Result<(), EdgeFault>
+    ensures tick { OnOk result (TakesIf world.old steps.old.items (Some Step.Tick) world.new steps.new.items) }
     ensures goes { OnOk result (Goes world.old steps.old.items world.new steps.new.items 1 0) }
     ensures same { OnErr result (world.new ≡ world.old) }
     ensures unlisted { OnErr result (steps.new.items ≡ steps.old.items) }
@@ -66,6 +70,7 @@ pub(crate) fn tick<B: Bank + Drop>(
 fn awaited<B: Bank + Drop>(world: &World<'_, B>, device: u8) -> Option<Verdict>
     ensures may { IfSome result (λ v. may_step world.now (Step.Verdict device v) ≡ None) }
     ensures good { IfSome result (λ v. is_good v ≡ true) }
+    ensures awaited { result ≡ awaited_in (site_for world.now.sites device) }
 {
     let Some(node) = world.device(device) else {
         return None;
@@ -81,7 +86,8 @@ fn awaited<B: Bank + Drop>(world: &World<'_, B>, device: u8) -> Option<Verdict>
 
 /// Whether the session with a device waits for the operator to activate what was applied.
 fn is_ready<B: Bank + Drop>(world: &World<'_, B>, device: u8) -> bool
-    ensures { result ≡ true → may_step world.now (Step.Activate device) ≡ None }
+    ensures may { result ≡ true → may_step world.now (Step.Activate device) ≡ None }
+    ensures ready { result ≡ is_some (ready_for world.now.agent device) }
 {
     match world.agent().session(device) {
         Some(session) => session.state() == SessionState::AllApplied,
@@ -96,6 +102,7 @@ fn judge<B: Bank + Drop>(
     place: usize,
     steps: &mut Vec<Step>,
 ) -> Result<(), EdgeFault>
+    ensures due { OnOk result (TakesIf world.old steps.old.items (due_at verdict_for world.old (slice_get world.old.sites place)) world.new steps.new.items) }
     ensures goes { OnOk result (Goes world.old steps.old.items world.new steps.new.items 0 0) }
     ensures sent { OnOk result (packet_counts world.new.sites ≡ packet_counts world.old.sites) }
     ensures drives { OnErr result (Drives world.old steps.old.items world.new steps.new.items) }
@@ -118,6 +125,7 @@ fn activate<B: Bank + Drop>(
     place: usize,
     steps: &mut Vec<Step>,
 ) -> Result<(), EdgeFault>
+    ensures due { OnOk result (TakesIf world.old steps.old.items (due_at activation_for world.old (slice_get world.old.sites place)) world.new steps.new.items) }
     ensures goes { OnOk result (Goes world.old steps.old.items world.new steps.new.items 0 0) }
     ensures sent { OnOk result (packet_counts world.new.sites ≡ packet_counts world.old.sites) }
     ensures drives { OnErr result (Drives world.old steps.old.items world.new steps.new.items) }
@@ -138,11 +146,13 @@ pub(crate) fn judge_all<B: Bank + Drop>(
     world: &mut World<'_, B>,
     steps: &mut Vec<Step>,
 ) -> Result<(), EdgeFault>
+    ensures due { OnOk result (TakesAll world.old steps.old.items (all_due verdict_for world.old (eids_of world.old.sites)) world.new steps.new.items) }
     ensures goes { OnOk result (Goes world.old steps.old.items world.new steps.new.items 0 0) }
     ensures sent { OnOk result (packet_counts world.new.sites ≡ packet_counts world.old.sites) }
     ensures drives { OnErr result (Drives world.old steps.old.items world.new steps.new.items) }
     ensures fault { IfErr result (λ e. e ≡ EdgeFault.Memory) }
 {
+    world.is_promised();
     for place in 0..world.device_count() {
         match judge(world, place, steps) {
             Ok(()) => {}
@@ -157,11 +167,13 @@ pub(crate) fn activate_all<B: Bank + Drop>(
     world: &mut World<'_, B>,
     steps: &mut Vec<Step>,
 ) -> Result<(), EdgeFault>
+    ensures due { OnOk result (TakesAll world.old steps.old.items (all_due activation_for world.old (eids_of world.old.sites)) world.new steps.new.items) }
     ensures goes { OnOk result (Goes world.old steps.old.items world.new steps.new.items 0 0) }
     ensures sent { OnOk result (packet_counts world.new.sites ≡ packet_counts world.old.sites) }
     ensures drives { OnErr result (Drives world.old steps.old.items world.new steps.new.items) }
     ensures fault { IfErr result (λ e. e ≡ EdgeFault.Memory) }
 {
+    world.is_promised();
     for place in 0..world.device_count() {
         match activate(world, place, steps) {
             Ok(()) => {}

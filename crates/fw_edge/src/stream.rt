@@ -25,7 +25,16 @@ pub struct StreamLink<S: Read + Write + Drop> {
 
 impl<S: Read + Write + Drop> StreamLink<S> {
     /// The link between these two ends, on which nothing was sent.
-    pub fn new(agent: S, device: S) -> StreamLink<S> {
+    pub fn new(agent: S, device: S) -> StreamLink<S>
+        ensures agent { result.agent ≡ agent }
+        ensures device { result.device ≡ device }
+        ensures up { result.up ≡ 0 }
+        ensures down { result.down ≡ 0 }
+        ensures failures { result.tally.failures ≡ 0 }
+        ensures sent { result.tally.sent ≡ 0 }
+        ensures asked { result.tally.asked ≡ 0 }
+        ensures given { result.tally.given ≡ 0 }
+    {
         StreamLink {
             agent,
             device,

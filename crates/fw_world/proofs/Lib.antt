@@ -5,11 +5,11 @@ mod Isolated
 mod Joins
 mod Judging
 mod Leading
-mod Links
+pub mod Links
 mod Noting
 mod Opening
 mod Places
-mod Reaching
+pub mod Reaching
 mod Recording
 mod Rooms
 mod Running

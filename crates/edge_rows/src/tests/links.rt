@@ -16,6 +16,8 @@ pub enum Trouble {
     Delays(u64, u64),
     /// Loses every packet.
     LosesAll,
+    /// Gives each packet back at the end at which it was sent.
+    Echoes,
     /// Puts a forged packet before its first.
     ForgesFirst,
     /// Gives a forged packet whenever it is asked, and passes nothing on.
@@ -51,6 +53,14 @@ fn copy_of(packet: &RawPacket) -> RawPacket {
     copy
 }
 
+/// The other end of a link.
+fn other_end(side: Side) -> Side {
+    match side {
+        Side::Agent => Side::Device,
+        Side::Device => Side::Agent,
+    }
+}
+
 impl BadLink {
     /// A link on which nothing was sent.
     pub fn new(alloc: Global, trouble: Trouble) -> BadLink {
@@ -80,6 +90,10 @@ impl BadLink {
         match self.trouble {
             Trouble::LosesAll | Trouble::ForgesAlways => return,
             Trouble::Loses(number) if number == self.packets => return,
+            Trouble::Echoes => {
+                let _ = self.link.send(other_end(side), packet);
+                return;
+            }
             Trouble::ForgesFirst if self.packets == 1 => {
                 let _ = self.link.send(side, &forged());
             }

@@ -186,31 +186,88 @@ fn refused_memory_hands_back_the_steps_taken(rt: HostRuntime) -> Result<(), Fail
     Ok(())
 }
 
-/// Whether a device runs the image, after an update over perfect links.
-fn is_done(world: &Small<'_>, device: u8) -> bool {
-    stands(world, device, SessionState::Done, State::Idle, 27) && is_updated(world, device)
-}
-
-/// Whether devices 9 and 11 are driven to their update in 19 turns, and 10, whose link loses every packet, is given up as it was.
-fn one_fails_alone(alloc: Global) -> Result<bool, Fail> {
+/// Whether the worked world, driven over a link that gives each packet back at its sender's end, fails as over one that loses all:
+/// what comes back is a packet of the pair, and its sender isn't whom it is for.
+fn hears_itself(alloc: Global) -> Result<bool, Fail> {
     let bytes = file(alloc)?;
     let packages = [package(&bytes)?];
-    let mut world = world(alloc, &packages, 3, 0)?;
-    let started = start(&mut world, 9) && start(&mut world, 10) && start(&mut world, 11);
+    let mut world = started(alloc, &packages)?;
+    let mut links = [BadLink::new(alloc, Trouble::Echoes)];
     let mut steps = Vec::new(alloc);
-    let mut links = [
-        BadLink::new(alloc, Trouble::Loses(0)),
-        BadLink::new(alloc, Trouble::LosesAll),
-        BadLink::new(alloc, Trouble::Loses(0)),
-    ];
     let driven = driven(&mut world, &mut links, 100, &mut steps);
     let (turns, foreign) = (19, 0);
     let silent = SessionState::Failed(Cause::Silent);
     Ok(
-        started
-            && driven == Ok(Driven { turns, foreign })
-            && is_done(&world, 9)
-            && is_done(&world, 11)
+        driven == Ok(Driven { turns, foreign })
+            && stands(&world, DEVICE, silent, State::Idle, 3)
+            && runs_first(&world, DEVICE),
+    )
+}
+
+#[test]
+fn a_packet_at_its_senders_end_is_for_nobody(rt: HostRuntime) -> Result<(), Fail> {
+    assert!(rt; hears_itself(rt.alloc())?);
+    Ok(())
+}
+
+/// The world of devices 9 to 11 with their updates started, driven over links of which the second has this trouble, and the turns
+/// that it took.
+fn three<'a>(
+    alloc: Global,
+    packages: &'a [Package<'a>],
+    trouble: Trouble,
+) -> Result<(Small<'a>, Option<u32>), Fail> {
+    let mut world = world(alloc, packages, 3, 0)?;
+    let started = start(&mut world, 9) && start(&mut world, 10) && start(&mut world, 11);
+    let mut steps = Vec::new(alloc);
+    let mut links = [
+        BadLink::new(alloc, Trouble::Loses(0)),
+        BadLink::new(alloc, trouble),
+        BadLink::new(alloc, Trouble::Loses(0)),
+    ];
+    let turns = match driven(&mut world, &mut links, 100, &mut steps) {
+        Ok(Driven { turns, foreign: 0 }) if started => Some(turns),
+        _ => None,
+    };
+    Ok((world, turns))
+}
+
+/// Whether a device runs the image, after an update over perfect links that left it in this state.
+fn is_done(world: &Small<'_>, device: u8, state: State) -> bool {
+    stands(world, device, SessionState::Done, state, 27) && is_updated(world, device)
+}
+
+/// Whether the same packets were sent between the agent and a device in two worlds, each at the same tick.
+fn sent_alike(one: &Small<'_>, other: &Small<'_>, device: u8) -> bool {
+    let (Some(packets), Some(others)) = (one.packets(device), other.packets(device)) else {
+        return false;
+    };
+    for (packet, other) in packets.iter().zip(others) {
+        if packet.date != other.date || packet.bytes.as_slice() != other.bytes.as_slice() {
+            return false;
+        }
+    }
+    packets.len() == others.len()
+}
+
+/// Whether devices 9 to 11 are all done in turn 12 over perfect links; and where the link of 10 loses every packet, 9 and 11 are done
+/// by the same packets, and 10 is given up as it was, in turn 19.
+fn one_fails_alone(alloc: Global) -> Result<bool, Fail> {
+    let bytes = file(alloc)?;
+    let packages = [package(&bytes)?];
+    let (well, turns) = three(alloc, &packages, Trouble::Loses(0))?;
+    let done = turns == Some(12)
+        && is_done(&well, 9, State::Activate)
+        && is_done(&well, 10, State::Activate)
+        && is_done(&well, 11, State::Activate);
+    let (world, turns) = three(alloc, &packages, Trouble::LosesAll)?;
+    let silent = SessionState::Failed(Cause::Silent);
+    Ok(
+        done && turns == Some(19)
+            && is_done(&world, 9, State::Idle)
+            && is_done(&world, 11, State::Idle)
+            && sent_alike(&well, &world, 9)
+            && sent_alike(&well, &world, 11)
             && stands(&world, 10, silent, State::Idle, 3)
             && runs_first(&world, 10),
     )

@@ -26,7 +26,7 @@ set_elsewhere (z ∷ zs) (suc i) zero y differ = refl
 set_elsewhere (z ∷ zs) (suc i) (suc j) y differ = set_elsewhere zs i j y (λ e. differ (ap suc e))
 
 -- a key stands in one place
-one_key : (ks : List ℕ) (i j k : ℕ) → AreDifferent ks → slice_get ks i ≡ Some k → slice_get ks j ≡ Some k → i ≡ j
+pub one_key : (ks : List ℕ) (i j k : ℕ) → AreDifferent ks → slice_get ks i ≡ Some k → slice_get ks j ≡ Some k → i ≡ j
 one_key [] i j k apart e f = absurd (cc)
 one_key (x ∷ xs) zero zero k apart e f = refl
 one_key (x ∷ xs) zero (suc j) k apart e f =

@@ -160,6 +160,31 @@ impl<'p> Bench<'p> {
         device_hears(self.alloc, &mut self.device, bytes, &mut self.packets)
     }
 
+    /// Hands a packet over. Whether these bytes go back, or nothing where there are none.
+    pub fn answers(&mut self, bytes: &[u8], answer: &[u8]) -> Result<bool, AllocError> {
+        let before = self.packets.len();
+        self.hand_over(bytes)?;
+        match self.packets.get(before) {
+            Some(packet) => {
+                Ok(packet.as_slice() == answer && self.packets.len() == before.saturating_add(1))
+            }
+            None => Ok(answer.is_empty()),
+        }
+    }
+
+    /// Where the device stands.
+    pub fn state(&self) -> State {
+        self.device.device().state()
+    }
+
+    /// Whether the device runs the image that it had, AA.
+    pub fn runs_first(&self) -> bool {
+        match self.device.device().bank().active(KEY) {
+            Some((_, image)) => image == [0xAA].as_slice(),
+            None => false,
+        }
+    }
+
     /// The next packet that wasn't handed over, with the fault of the links in it.
     fn next(&mut self) -> Option<RawPacket> {
         let packet = self.packets.get(self.delivered)?;

@@ -1,6 +1,6 @@
 //! Rows of packets and ticks.
 
-use crate::tests::setup::{Event, GET_STATUS, IDLE, device_fails};
+use crate::tests::setup::{Event, device_fails};
 
 /// RequestUpdate: transfer size 240, one component, set text `A`; tag 0, identifier 0.
 const REQUEST_UPDATE: &[u8] = &[
@@ -37,15 +37,6 @@ const OTHER: [Event<'static>; 2] = [
     Event::Packet(REQUEST_OTHER, ALREADY_OTHER),
 ];
 
-/// A restarted device is deaf for 40 ticks.
-const DEAF: [Event<'static>; 5] = [
-    Event::Restart,
-    Event::Quiet(39),
-    Event::Packet(GET_STATUS, &[]),
-    Event::Quiet(1),
-    Event::Packet(GET_STATUS, IDLE),
-];
-
 /// Get Endpoint ID; SetTID 5, then GetTID; another PLDM type; an agent's command without its data.
 const BASE: [Event<'static>; 5] = [
     Event::Packet(
@@ -72,10 +63,9 @@ const BASE: [Event<'static>; 5] = [
 
 #[test]
 fn a_device_does_as_each_row_says(rt: HostRuntime) {
-    let table: [(&str, &[Event<'_>]); 4] = [
+    let table: [(&str, &[Event<'_>]); 3] = [
         ("a repeated request meets its kept answer", &REPEATED),
         ("another identifier is another request", &OTHER),
-        ("a restarted device is deaf for 40 ticks", &DEAF),
         ("control and base requests are answered", &BASE),
     ];
     for (situation, rows) in table {

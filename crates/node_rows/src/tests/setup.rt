@@ -20,23 +20,13 @@ pub const KEY: Key = Key {
     identifier: 1,
 };
 
-/// GetStatus to the device.
-pub const GET_STATUS: &[u8] = &[0x01, 9, 8, 0xC8, 0x01, 0x80, 0x05, 0x1B];
-
-/// Its answer of an idle device that started anew.
-pub const IDLE: &[u8] = &[
-    0x01, 8, 9, 0xC0, 0x01, 0, 0x05, 0x1B, 0, 0, 0, 3, 0, 0x65, 0, 0, 0, 0, 0,
-];
-
-/// What happens to a node: a packet comes, or so many ticks pass in which it sends nothing, or it starts anew.
+/// What happens to a node: a packet comes, or so many ticks pass in which it sends nothing.
 #[derive(Clone, Copy)]
 pub enum Event<'a> {
     /// This packet comes, and these bytes go back, or nothing.
     Packet(&'a [u8], &'a [u8]),
     /// So many ticks pass, and nothing is sent.
     Quiet(usize),
-    /// The node starts anew.
-    Restart,
 }
 
 /// The worked device's descriptors: type 0, data 34 12.
@@ -122,10 +112,6 @@ fn device_does(alloc: Global, node: &mut DeviceNode<MemBank>, event: &Event<'_>)
     match event {
         Event::Packet(bytes, answer) => device_answers(alloc, node, bytes, answer),
         Event::Quiet(ticks) => device_stays_quiet(alloc, node, *ticks),
-        Event::Restart => {
-            node.restart();
-            true
-        }
     }
 }
 

@@ -1,8 +1,9 @@
-//! Updates by an agent and a device, whose packets are handed over with a fault in one of them.
+//! Updates by an agent and a device, with a fault in one of their packets, or a restart between them.
 
 use crate::tests::bench::{Bench, Fault};
 use crate::tests::packages::{ONE, TWICE, file, package};
-use std::alloc::Global;
+use fd_core::State;
+use std::alloc::{AllocError, Global};
 use std::test::Fail;
 use ua_core::{Cause, SessionState};
 
@@ -43,5 +44,42 @@ fn each_failure_is_noted_with_its_cause(rt: HostRuntime) -> Result<(), Fail> {
     for row in FAILURES {
         assert!(rt; fails(rt.alloc(), row)?, "turn {}", row.3);
     }
+    Ok(())
+}
+
+/// GetStatus to the device.
+const GET_STATUS: &[u8] = &[0x01, 9, 8, 0xC8, 0x01, 0x80, 0x05, 0x1B];
+
+/// Its answer of an idle device that started anew.
+const IDLE: &[u8] = &[
+    0x01, 8, 9, 0xC0, 0x01, 0, 0x05, 0x1B, 0, 0, 0, 3, 0, 0x65, 0, 0, 0, 0, 0,
+];
+
+/// Whether the device, which starts anew now, doesn't answer GetStatus 39 ticks later, and answers it one tick after that as an idle
+/// device.
+fn is_deaf(bench: &mut Bench<'_>) -> Result<bool, AllocError> {
+    bench.device.restart();
+    bench.ticks(39)?;
+    let unheard = bench.answers(GET_STATUS, &[])?;
+    bench.ticks(1)?;
+    let heard = bench.answers(GET_STATUS, IDLE)?;
+    Ok(unheard && heard)
+}
+
+/// Whether that is so of a device that loads an image, after 7 turns, and then runs its first one.
+fn restarts(bench: &mut Bench<'_>) -> Result<bool, AllocError> {
+    let started = bench.start();
+    bench.turns(7)?;
+    let loads = bench.state() == State::Download;
+    let deaf = is_deaf(bench)?;
+    Ok(started && loads && deaf && bench.runs_first())
+}
+
+#[test]
+fn a_restarted_device_is_deaf_for_40_ticks(rt: HostRuntime) -> Result<(), Fail> {
+    let bytes = file(rt.alloc(), ONE)?;
+    let packages = [package(&bytes)?];
+    let mut bench = Bench::new(rt.alloc(), &packages)?;
+    assert!(rt; restarts(&mut bench)?);
     Ok(())
 }

@@ -1,10 +1,12 @@
 use Rattle.std.proofs.Common.{◌∙◌, ◌+◌, ◌*◌, arith, map, refl, sym}
 use Rattle.fw_edge.specs.Drives.{delivers_in}
 use Rattle.fw_edge.specs.Ledgers.{packet_counts}
+use Rattle.fw_edge.specs.Links.{links_at}
 use Rattle.fw_edge.proofs.Going.{drives_none, drives_on}
 use Rattle.fw_edge.proofs.Overs.{still_on}
 use Rattle.fw_edge.proofs.Rising.{given_none, given_on, map_length, rose_less, rose_none, rose_on}
 use Rattle.fw_edge.proofs.Sending.{sent_none, sent_turn}
+use Rattle.fw_edge.proofs.Turning.{drove_next, drove_none}
 use Rattle.fw_edge.proofs.driving.take_turns.Goals as goal
 
 pub returns-in-Err-clause-drives : goal.returns-in-Err-clause-drives
@@ -22,6 +24,13 @@ loop-count-preserved g c = record {
   drives =
       drives_on c.args.world.now c.loop-count.world c.turn.new.world c.args.steps.now.items c.loop-count.steps.items c.turn.new.steps.items
       c.loop-count.invariant.drives c.in-Ok.ensures.goes.drives;
+  drove =
+      drove_next c.loop-count.count c.args.world.now c.loop-count.world c.turn.new.world c.args.steps.now.items c.loop-count.steps.items c.turn.new.steps.items
+      (links_at c.args.written.now (map g.L.Link.taken c.args.links.now) (map g.L.Link.gave c.args.links.now))
+      (links_at c.loop-count.written (map g.L.Link.taken c.loop-count.links) (map g.L.Link.gave c.loop-count.links))
+      (links_at c.turn.new.written (map g.L.Link.taken c.turn.new.links) (map g.L.Link.gave c.turn.new.links))
+      c.loop-count.foreign c.in-Ok.frames.known c.in-Ok.frames.foreign (c.loop-count.foreign + c.in-Ok.frames.foreign) c.all_over.result c.loop-count.invariant.drove c.all_over.ensures c.if-all_over.false
+      c.in-Ok.ensures.turned c.in-Ok.ensures.goes.delivers_rise refl;
   over =
       still_on c.args.world.now c.loop-count.world c.turn.new.world c.args.steps.now.items c.loop-count.steps.items c.turn.new.steps.items c.all_over.result
       c.loop-count.invariant.over c.all_over.ensures c.if-all_over.false;
@@ -47,6 +56,7 @@ loop-count-preserved g c = record {
 pub loop-count-init : goal.loop-count-init
 loop-count-init g c = record {
   drives = drives_none c.args.world.now c.args.steps.now.items;
+  drove = drove_none c.args.world.now c.args.steps.now.items (links_at c.args.written.now (map g.L.Link.taken c.args.links.now) (map g.L.Link.gave c.args.links.now));
   over = λ h. (refl, refl);
   ticks = omega arith;
   kept = refl;

@@ -1,4 +1,5 @@
 use Rattle.std.proofs.Common.{◌+◌, map}
+use Rattle.fw_edge.specs.Links.{links_at}
 use Rattle.fw_edge.proofs.Rising.{rose_to, together_to}
 use Rattle.fw_edge.proofs.Sending.{sent_on}
 use Rattle.fw_edge.proofs.rounds.exchange.Goals as goal
@@ -16,3 +17,10 @@ pub returns-clause-sent : goal.returns-clause-sent
 returns-clause-sent g c =
     sent_on c.args.written.now c.rounds.new.written c.write_out.new.written (map (λ k. (g.L.Link.tally k).sent) c.args.links.now) (map (λ k. (g.L.Link.tally k).sent) c.rounds.new.links) (map (λ k. (g.L.Link.tally k).sent) c.write_out.new.links)
     c.in-Ok.ensures.sent c.in-Ok-write_out.ensures.sent
+
+pub returns-clause-exchanged : goal.returns-clause-exchanged
+returns-clause-exchanged g c = record {
+  links = links_at c.rounds.new.written (map g.L.Link.taken c.rounds.new.links) (map g.L.Link.gave c.rounds.new.links);
+  rounds = c.in-Ok.ensures.rounds;
+  out = c.in-Ok-write_out.ensures.out;
+}

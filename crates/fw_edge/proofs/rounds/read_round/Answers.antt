@@ -1,7 +1,10 @@
-use Rattle.std.proofs.Common.{◌+◌, arith, map, refl}
+use Rattle.std.proofs.Common.{◌+◌, [], arith, map, refl}
+use Rattle.fw_world.specs.Promises.{eids_of}
+use Rattle.fw_edge.specs.Links.{links_at}
 use Rattle.fw_edge.proofs.Failing.{failed_from, same_from}
 use Rattle.fw_edge.proofs.Going.{goes_none, goes_off, goes_sum}
 use Rattle.fw_edge.proofs.Rising.{map_length, rose_all, rose_next, together_next, together_none}
+use Rattle.fw_edge.proofs.Turning.{came_all, came_next, came_none}
 use Rattle.fw_edge.proofs.rounds.read_round.Goals as goal
 
 pub returns-in-Err-clause-drives : goal.returns-in-Err-clause-drives
@@ -19,6 +22,12 @@ loop-place-preserved g c = record {
   goes =
       goes_sum c.args.world.now c.loop-place.world c.read_both.new.world c.args.steps.now.items c.loop-place.steps.items c.read_both.new.steps.items
       0 c.loop-place.frames.known 0 c.in-Ok.more.known 0 c.and-frames.result.known c.loop-place.invariant.goes c.in-Ok.ensures.goes refl c.and-frames.ensures.known;
+  came =
+      came_next g.L.Link.taken g.L.Link.gave [] c.loop-place.links c.index-links-place.result c.read_both.new.link (links_at [] (map g.L.Link.taken c.args.links.now) (map g.L.Link.gave c.args.links.now))
+      c.args.world.now c.loop-place.world c.read_both.new.world c.args.steps.now.items c.loop-place.steps.items c.read_both.new.steps.items
+      c.loop-place.place (c.loop-place.frames.known + c.loop-place.frames.foreign) (c.in-Ok.more.known + c.in-Ok.more.foreign) (c.and-frames.result.known + c.and-frames.result.foreign) c.eid_at-device.result
+      c.loop-place.invariant.goes.drives (omega (arith, c.requires.devices)) (omega arith) c.eid_at-device.ensures c.loop-place.invariant.came c.in-Ok.ensures.came c.in-Ok.ensures.took_none
+      (omega (arith, c.and-frames.ensures.known, c.and-frames.ensures.foreign));
   few = omega (arith, c.in-Ok.ensures.few, c.and-frames.ensures.known, c.and-frames.ensures.foreign);
   kept =
       same_from (λ k. (g.L.Link.tally k).failures) (map (λ k. (g.L.Link.tally k).failures) c.args.links.now) c.loop-place.links c.loop-place.place c.index-links-place.result c.read_both.new.link
@@ -39,6 +48,7 @@ loop-place-preserved g c = record {
 pub loop-place-init : goal.loop-place-init
 loop-place-init g c = record {
   goes = rw c.none-frames.ensures.known (goes_none c.args.world.now c.args.steps.now.items);
+  came = came_none (eids_of c.args.world.now.sites) c.args.world.now c.args.steps.now.items (links_at [] (map g.L.Link.taken c.args.links.now) (map g.L.Link.gave c.args.links.now)) (c.none-frames.result.known + c.none-frames.result.foreign) (omega (arith, c.none-frames.ensures.known, c.none-frames.ensures.foreign));
   few = omega (arith, c.none-frames.ensures.known, c.none-frames.ensures.foreign);
   kept = refl;
   asked = refl;
@@ -50,3 +60,9 @@ pub returns-clause-asked : goal.returns-clause-asked
 returns-clause-asked g c =
     rose_all 2 c.loop-place.place (map (λ k. (g.L.Link.tally k).asked) c.args.links.now) (map (λ k. (g.L.Link.tally k).asked) c.loop-place.links)
     (rw (map_length (λ k. (g.L.Link.tally k).asked) c.args.links.now) (omega arith)) c.loop-place.invariant.asked
+
+pub returns-clause-came : goal.returns-clause-came
+returns-clause-came g c =
+    came_all c.args.world.now c.loop-place.world c.args.steps.now.items c.loop-place.steps.items (links_at [] (map g.L.Link.taken c.args.links.now) (map g.L.Link.gave c.args.links.now))
+    (links_at [] (map g.L.Link.taken c.loop-place.links) (map g.L.Link.gave c.loop-place.links)) c.loop-place.place (c.loop-place.frames.known + c.loop-place.frames.foreign)
+    (omega (arith, c.requires.devices)) c.loop-place.invariant.came

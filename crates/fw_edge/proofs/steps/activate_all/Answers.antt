@@ -1,5 +1,7 @@
-use Rattle.std.proofs.Common.{◌∙◌}
-use Rattle.fw_edge.proofs.Going.{goes_off, goes_on}
+use Rattle.std.proofs.Common.{◌∙◌, arith, refl}
+use Rattle.fw_edge.proofs.Dues.{due_all, due_next, due_none, activations_for_one}
+use Rattle.fw_edge.proofs.Going.{goes_none, goes_off, goes_on}
+use Rattle.fw_edge.specs.Turns.{activation_for}
 use Rattle.fw_edge.proofs.steps.activate_all.Goals as goal
 
 pub returns-in-Err-clause-drives : goal.returns-in-Err-clause-drives
@@ -7,10 +9,25 @@ returns-in-Err-clause-drives g c =
     goes_off c.args.world.now c.loop-place.world c.activate.new.world c.args.steps.now.items c.loop-place.steps.items c.activate.new.steps.items 0 0
     c.loop-place.invariant.goes c.in-Err.ensures.drives
 
+pub loop-place-init : goal.loop-place-init
+loop-place-init g c = record {
+  due = due_none activation_for c.args.world.now c.args.steps.now.items;
+  goes = goes_none c.args.world.now c.args.steps.now.items;
+  sent = refl;
+}
+
 pub loop-place-preserved : goal.loop-place-preserved
 loop-place-preserved g c = record {
+  due =
+      due_next activation_for c.loop-place.place c.args.world.now c.loop-place.world c.activate.new.world c.args.steps.now.items c.loop-place.steps.items c.activate.new.steps.items
+      activations_for_one c.is_promised.ensures.apart c.loop-place.invariant.due c.in-Ok.ensures.due;
   goes =
       goes_on c.args.world.now c.loop-place.world c.activate.new.world c.args.steps.now.items c.loop-place.steps.items c.activate.new.steps.items 0 0 0 0
       c.loop-place.invariant.goes c.in-Ok.ensures.goes;
   sent = c.in-Ok.ensures.sent ∙ c.loop-place.invariant.sent;
 }
+
+pub returns-clause-due : goal.returns-clause-due
+returns-clause-due g c =
+    due_all activation_for c.loop-place.place c.args.world.now c.loop-place.world c.args.steps.now.items c.loop-place.steps.items
+    (omega (arith, c.loop-place-test.false, c.loop-place.auto.place-end, c.device_count-place-end.ensures.count)) c.loop-place.invariant.due

@@ -1,0 +1,117 @@
+-- Packets that links take, one after the other.
+use Rattle.std.proofs.Common.{◌≡◌, ◌≤◌, ◌<◌, ◌+◌, ◌-◌, ◌++◌, ◌∙◌, ℕ, zero, suc, List, [], ◌∷◌, drop, get_or, length, map, slice_get, slice_set, take, Option, Some, None, refl, sym, ap, subst, arith}
+use Rattle.std.specs.Prelude.{option_map}
+use Rattle.std.specs.List.{slice_range}
+use Rattle.std.proofs.lemmas.List.{drop-map, drop_all, length-drop, map-set, map_more, take_all}
+use Rattle.exch_lane.specs.Journals.{sent_of}
+use Rattle.exch_lane.specs.declared.journal.SentPacket.{SentPacket}
+use Rattle.fw_node.specs.Nodes.{DeviceNodeOf}
+use Rattle.fw_world.specs.Worlds.{SiteOf}
+use Rattle.fw_edge.specs.Frames.{frames_of}
+use Rattle.fw_edge.specs.Links.{EndsOf, GrowsAt, end_of}
+use Rattle.fw_edge.specs.Outgoing.{TookAll, TookAt, TookEach}
+use Rattle.fw_edge.proofs.Rising.{map_length, maps_get}
+
+-- one more
+took_append : (device : ℕ) (old mid new : EndsOf) (ps : List (List ℕ)) (p : List ℕ) → TookAll device old ps mid → GrowsAt (end_of p device) (frames_of (p ∷ [])) mid new
+    → TookAll device old (ps ++ p ∷ []) new
+took_append device old mid new [] p h g = (new, subst (λ o. GrowsAt (end_of p device) (frames_of (p ∷ [])) o new) h g, refl)
+took_append device old mid new (q ∷ ps) p h g = (h.0, h.1, took_append device h.0 mid new ps p h.2 g)
+
+abbrev pub bytes_in : SentPacket → List ℕ
+bytes_in p = p.bytes.items
+
+pub took_more : (device : ℕ) (old mid new : EndsOf) (ps : List SentPacket) (i : ℕ) (p : SentPacket) (side : _) → i < length ps → p ≡ get_or ps i p → side ≡ end_of p.bytes.items device
+    → TookAll device old (map bytes_in (take i ps)) mid → GrowsAt side (frames_of (p.bytes.items ∷ [])) mid new → TookAll device old (map bytes_in (take (i + 1) ps)) new
+took_more device old mid new ps i p side lt is at h g =
+    subst (λ xs. TookAll device old xs new) (sym (map_more bytes_in ps i p lt ∙ ap (λ q. map bytes_in (take i ps) ++ bytes_in q ∷ []) (sym is)))
+    (took_append device old mid new (map bytes_in (take i ps)) p.bytes.items h (subst (λ s. GrowsAt s (frames_of (p.bytes.items ∷ [])) mid new) at g))
+
+-- all
+pub took_all : (device : ℕ) (old new : EndsOf) (ps : List SentPacket) (i : ℕ) → length ps ≤ i → TookAll device old (map bytes_in (take i ps)) new → TookAll device old (map bytes_in ps) new
+took_all device old new ps i le h = subst (λ xs. TookAll device old (map bytes_in xs) new) (take_all i ps le) h
+
+-- a slice to the end
+pub drop_rest : (n : ℕ) (ps : List SentPacket) → slice_range ps n (length ps) ≡ drop n ps
+drop_rest n ps = take_all (length ps - n) (drop n ps) (let rest = length-drop n ps in omega arith)
+
+-- those of a pair that aren't written
+same_bytes : (ps : List SentPacket) → map (λ p. p.bytes) (map sent_of ps) ≡ map bytes_in ps
+same_bytes [] = refl
+same_bytes (p ∷ ps) = ap (λ xs. p.bytes.items ∷ xs) (same_bytes ps)
+
+pub took_there : (x : Option SiteOf) (node : DeviceNodeOf) (ps : List SentPacket) (device written : ℕ) (old new : EndsOf) → option_map (λ y. y.node) x ≡ Some node → option_map (λ y. y.packets) x ≡ Some (map sent_of ps)
+    → device ≡ node.endpoint.eid → TookAll device old (map bytes_in (drop written ps)) new → TookAt x written old new
+took_there None node ps device written old new is has eid h = absurd (cc)
+took_there (Some x) node ps device written old new is has eid h =
+    let same : x.node ≡ node = cc in
+    let packets : x.packets ≡ map sent_of ps = cc in
+    subst (λ d. TookAll d old (map (λ p. p.bytes) (drop written x.packets)) new) (eid ∙ sym (ap (λ n. n.endpoint.eid) same))
+    (subst (λ xs. TookAll device old xs new) (sym (ap (λ xs. map (λ p. p.bytes) (drop written xs)) packets ∙ ap (map (λ p. p.bytes)) (drop-map sent_of written ps) ∙ same_bytes (drop written ps))) h)
+
+-- all are
+pub took_none : (x : Option SiteOf) (ps : List SentPacket) (written : ℕ) (ends : EndsOf) → option_map (λ y. y.packets) x ≡ Some (map sent_of ps) → length ps ≤ written → TookAt x written ends ends
+took_none None ps written ends has le = absurd (cc)
+took_none (Some x) ps written ends has le =
+    let packets : x.packets ≡ map sent_of ps = cc in
+    let long : length (map sent_of ps) ≡ length ps = map_length sent_of ps in
+    subst (λ xs. TookAll x.node.endpoint.eid ends (map (λ p. p.bytes) xs) ends) (sym (drop_all written x.packets (rw packets (omega arith)))) refl
+
+pub took_nowhere : (x : Option SiteOf) (written : ℕ) (ends : EndsOf) → option_map (λ y. y.node) x ≡ None → TookAt x written ends ends
+took_nowhere None written ends is = refl
+took_nowhere (Some x) written ends is = absurd (cc)
+
+pub took_unsent : (x : Option SiteOf) (written : ℕ) (ends : EndsOf) → option_map (λ y. y.packets) x ≡ None → TookAt x written ends ends
+took_unsent None written ends is = refl
+took_unsent (Some x) written ends is = absurd (cc)
+
+-- The first so many links took what wasn't written, and those behind them, and their counts, are as they were.
+abbrev pub TookBefore : ℕ → List SiteOf → (ws vs : List ℕ) → List EndsOf → List EndsOf → Type 0
+TookBefore zero xs ws vs olds news = (vs ≡ ws) × (news ≡ olds)
+TookBefore (suc n) (x ∷ xs) (w ∷ ws) (v ∷ vs) (old ∷ olds) (new ∷ news) = TookAt (Some x) w old new × TookBefore n xs ws vs olds news
+TookBefore (suc n) xs ws vs olds news = ⊥
+
+took_put : (i : ℕ) (xs : List SiteOf) (ws vs : List ℕ) (olds news : List EndsOf) (c : ℕ) (d new : EndsOf) → i < length xs → i < length vs → i < length news → TookBefore i xs ws vs olds news
+    → TookAt (slice_get xs i) (get_or vs i 0) (get_or news i d) new → TookBefore (suc i) xs ws (slice_set vs i c) olds (slice_set news i new)
+took_put zero [] ws vs olds news c d new lx lv ln h g = absurd (omega arith)
+took_put zero (x ∷ xs) ws [] olds news c d new lx lv ln h g = absurd (omega arith)
+took_put zero (x ∷ xs) ws (v ∷ vs) olds [] c d new lx lv ln h g = absurd (omega arith)
+took_put zero (x ∷ xs) [] (v ∷ vs) olds (n ∷ news) c d new lx lv ln h g = absurd (let same : v ∷ vs ≡ [] = h.0 in cc)
+took_put zero (x ∷ xs) (w ∷ ws) (v ∷ vs) [] (n ∷ news) c d new lx lv ln h g = absurd (let same : n ∷ news ≡ [] = h.1 in cc)
+took_put zero (x ∷ xs) (w ∷ ws) (v ∷ vs) (o ∷ olds) (n ∷ news) c d new lx lv ln h g =
+    let counts : v ∷ vs ≡ w ∷ ws = h.0 in
+    let ends : n ∷ news ≡ o ∷ olds = h.1 in
+    let first : v ≡ w = cc in
+    let rest : vs ≡ ws = cc in
+    let here : n ≡ o = cc in
+    let others : news ≡ olds = cc in
+    (subst (λ m. TookAt (Some x) m o new) first (subst (λ e. TookAt (Some x) v e new) here g), (rest, others))
+took_put (suc i) [] ws vs olds news c d new lx lv ln h g = absurd (omega arith)
+took_put (suc i) (x ∷ xs) ws [] olds news c d new lx lv ln h g = absurd (omega arith)
+took_put (suc i) (x ∷ xs) ws (v ∷ vs) olds [] c d new lx lv ln h g = absurd (omega arith)
+took_put (suc i) (x ∷ xs) [] (v ∷ vs) olds (n ∷ news) c d new lx lv ln h g = absurd h
+took_put (suc i) (x ∷ xs) (w ∷ ws) (v ∷ vs) [] (n ∷ news) c d new lx lv ln h g = absurd h
+took_put (suc i) (x ∷ xs) (w ∷ ws) (v ∷ vs) (o ∷ olds) (n ∷ news) c d new lx lv ln h g =
+    (h.0, took_put i xs ws vs olds news c d new (omega arith) (omega arith) (omega arith) h.1 g)
+
+pub took_next : {A : Type 0} (f : A → EndsOf) (i : ℕ) (xs : List SiteOf) (ws vs : List ℕ) (olds : List EndsOf) (links : List A) (c : ℕ) (was new : A) → i < length xs → i < length vs → i < length links
+    → TookBefore i xs ws vs olds (map f links) → TookAt (slice_get xs i) (get_or vs i 0) (f (get_or links i was)) (f new)
+    → TookBefore (i + 1) xs ws (slice_set vs i c) olds (map f (slice_set links i new))
+took_next f i xs ws vs olds links c was new lx lv ln h g =
+    let next : suc i ≡ i + 1 = omega arith in
+    let long : length (map f links) ≡ length links = map_length f links in
+    subst (λ n. TookBefore n xs ws (slice_set vs i c) olds (map f (slice_set links i new))) next
+    (subst (TookBefore (suc i) xs ws (slice_set vs i c) olds) (sym (map-set f links i new))
+    (took_put i xs ws vs olds (map f links) c (f was) (f new) lx lv (omega arith) h (subst (λ o. TookAt (slice_get xs i) (get_or vs i 0) o (f new)) (sym (maps_get f links i was ln)) g)))
+
+took_by : (n : ℕ) (xs : List SiteOf) (ws vs : List ℕ) (olds news : List EndsOf) → TookBefore n xs ws vs olds news → TookEach n xs ws olds news
+took_by zero xs ws vs olds news h = h.1
+took_by (suc n) [] ws vs olds news h = absurd h
+took_by (suc n) (x ∷ xs) [] vs olds news h = absurd h
+took_by (suc n) (x ∷ xs) (w ∷ ws) [] olds news h = absurd h
+took_by (suc n) (x ∷ xs) (w ∷ ws) (v ∷ vs) [] news h = absurd h
+took_by (suc n) (x ∷ xs) (w ∷ ws) (v ∷ vs) (o ∷ olds) [] h = absurd h
+took_by (suc n) (x ∷ xs) (w ∷ ws) (v ∷ vs) (o ∷ olds) (m ∷ news) h = (h.0, took_by n xs ws vs olds news h.1)
+
+pub took_each : (n m : ℕ) (xs : List SiteOf) (ws vs : List ℕ) (olds news : List EndsOf) → n ≡ m → TookBefore n xs ws vs olds news → TookEach m xs ws olds news
+took_each n m xs ws vs olds news e h = subst (λ k. TookEach k xs ws olds news) e (took_by n xs ws vs olds news h)

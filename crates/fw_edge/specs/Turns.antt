@@ -1,0 +1,194 @@
+-- What a turn of a run does, step by step.
+use Rattle.std.specs.Prelude.{ℕ, zero, suc, ◌≡◌, ◌≤◌, ◌<◌, ◌+◌, ◌++◌, ◌⊎◌, true, false, if◌then◌else◌, is_some, List, [], ◌∷◌, length, map, option_map, option_to_list, take, Option, Some, None}
+use Rattle.fd_core.specs.States.{DeviceState}
+use Rattle.fd_core.specs.Steps.{device_verdict}
+use Rattle.fd_core.specs.declared.states.Verdict.{Verdict}
+use Rattle.fd_core.specs.declared.states.Verdict.TheVariants as verdicts
+use Rattle.fw_message.specs.declared.side.Side.{Side}
+use Rattle.fw_message.specs.declared.side.Side.TheVariants as sides
+use Rattle.fw_node.specs.Agents.{ready_for}
+use Rattle.fw_world.specs.Promises.{eids_of}
+use Rattle.fw_world.specs.Replays.{Leads, Run}
+use Rattle.fw_world.specs.Worlds.{SiteOf, WorldOf, site_for}
+use Rattle.fw_world.specs.declared.step.Step.{Step}
+use Rattle.fw_world.specs.declared.step.Step.TheVariants as steps
+use Rattle.fw_edge.specs.Drives.{all_over, delivers_in}
+use Rattle.fw_edge.specs.Frames.{frames_of}
+use Rattle.fw_edge.specs.Hearing.{IsHeard}
+use Rattle.fw_edge.specs.Links.{EndsOf, GrowsAt, LinksOf}
+use Rattle.fw_edge.specs.Outgoing.{WritesOut}
+
+-- the identifier of the device at a place
+abbrev pub eid_in : Option SiteOf → ℕ
+eid_in None = 0
+eid_in (Some x) = x.node.endpoint.eid
+
+-- the node at an end of a device's link
+abbrev pub node_at : WorldOf → (device : ℕ) → Side → ℕ
+node_at w device sides.Agent = w.agent.endpoint.eid
+node_at w device sides.Device = device
+
+-- a step is taken and listed, if there is one
+abbrev pub TakesIf : WorldOf → List Step → Option Step → WorldOf → List Step → Type 0
+TakesIf w before None v after = (v ≡ w) × (after ≡ before)
+TakesIf w before (Some s) v after = Leads w s v × (after ≡ before ++ s ∷ [])
+
+-- the verdict that a device waits for: that all is well
+abbrev pub awaited_by : DeviceState → Option Verdict
+awaited_by d =
+    if is_some (device_verdict d verdicts.VerifyOk true) then Some verdicts.VerifyOk
+    else (if is_some (device_verdict d verdicts.ApplyOk true) then Some verdicts.ApplyOk else None)
+
+abbrev pub awaited_in : Option SiteOf → Option Verdict
+awaited_in None = None
+awaited_in (Some x) = awaited_by x.node.half.core.device
+
+-- the step that is due for a device: the verdict that it waits for; or the activation that its session waits for
+abbrev pub verdict_for : WorldOf → (device : ℕ) → Option Step
+verdict_for w device = option_map (λ v. steps.Verdict device v) (awaited_in (site_for w.sites device))
+
+abbrev pub activation_for : WorldOf → (device : ℕ) → Option Step
+activation_for w device = if is_some (ready_for w.agent device) then Some (steps.Activate device) else None
+
+-- for the device at a place
+abbrev pub due_at : (WorldOf → ℕ → Option Step) → WorldOf → Option SiteOf → Option Step
+due_at due w None = None
+due_at due w (Some x) = due w x.node.endpoint.eid
+
+-- for these devices, one after the other
+abbrev pub all_due : (WorldOf → ℕ → Option Step) → WorldOf → List ℕ → List Step
+all_due due w [] = []
+all_due due w (e ∷ es) = option_to_list (due w e) ++ all_due due w es
+
+-- these steps are taken, and listed
+abbrev pub TakesAll : WorldOf → List Step → List Step → WorldOf → List Step → Type 0
+TakesAll w before ss v after = Run w ss v × (after ≡ before ++ ss)
+
+-- A frame came at an end of a device's link: it is a living packet of the pair, which comes to the node at that end; or it is none,
+-- and comes to nobody.
+pub record HandsOver (w : WorldOf) (before : List Step) (device : ℕ) (side : Side) (bytes : List ℕ) (v : WorldOf) (after : List Step) : Type 0 where
+  pub number : Option ℕ
+  pub heard : IsHeard w device bytes number
+  pub takes : TakesIf w before (option_map (λ n. steps.Deliver device n (node_at w device side)) number) v after
+
+-- an end of a device's link that was asked for a frame, and what came
+pub record Ask : Type 0 where
+  pub device : ℕ
+  pub side : Side
+  pub frame : Option (List ℕ)
+
+abbrev pub HearsFrame : WorldOf → List Step → (device : ℕ) → Side → Option (List ℕ) → WorldOf → List Step → Type 0
+HearsFrame w before device side None v after = (v ≡ w) × (after ≡ before)
+HearsFrame w before device side (Some bytes) v after = HandsOver w before device side bytes v after
+
+-- one after the other
+abbrev pub Hears : WorldOf → List Step → List Ask → WorldOf → List Step → Type 0
+Hears w before [] v after = (v ≡ w) × (after ≡ before)
+Hears w before (a ∷ rest) v after =
+    (mid : WorldOf) × (steps : List Step) × HearsFrame w before a.device a.side a.frame mid steps × Hears mid steps rest v after
+
+-- how many frames came
+abbrev pub frame_in : Option (List ℕ) → ℕ
+frame_in None = 0
+frame_in (Some bytes) = 1
+
+abbrev pub frames_in : List Ask → ℕ
+frames_in [] = 0
+frames_in (a ∷ rest) = frame_in a.frame + frames_in rest
+
+-- what a link gave where its ends were asked, one after the other
+abbrev pub Gave : EndsOf → List Ask → EndsOf → Type 0
+Gave old [] new = new ≡ old
+Gave old (a ∷ rest) new = (mid : EndsOf) × GrowsAt a.side (frames_of (option_to_list a.frame)) old mid × Gave mid rest new
+
+-- what the first so many links gave, where both ends of each were asked; the others gave nothing
+abbrev pub GaveEach : ℕ → List EndsOf → List Ask → List EndsOf → Type 0
+GaveEach zero olds [] news = news ≡ olds
+GaveEach (suc n) (old ∷ olds) (first ∷ second ∷ rest) (new ∷ news) = Gave old (first ∷ second ∷ []) new × GaveEach n olds rest news
+GaveEach n olds asks news = ⊥
+
+-- These ends of a link were asked, in this order, and so many frames came: those that the link gave.
+pub record CameAt (w : WorldOf) (before : List Step) (old : EndsOf) (ends : List (ℕ × Side)) (v : WorldOf) (after : List Step) (new : EndsOf) (count : ℕ) : Type 0 where
+  pub asks : List Ask
+  pub ends_are : map (λ a. (a.device, a.side)) asks ≡ ends
+  pub hears : Hears w before asks v after
+  pub gave : Gave old asks new
+  pub count_is : count ≡ frames_in asks
+
+-- the ends of a device's link, the device's first; and of each link, in configured order
+abbrev pub both_ends : ℕ → List (ℕ × Side)
+both_ends device = (device, sides.Device) ∷ (device, sides.Agent) ∷ []
+
+abbrev pub round_ends : List ℕ → List (ℕ × Side)
+round_ends [] = []
+round_ends (e ∷ es) = both_ends e ++ round_ends es
+
+-- The ends of the links of the first so many devices were asked, in this order, and so many frames came: those that the links gave.
+pub record Came (devices : ℕ) (es : List ℕ) (w : WorldOf) (before : List Step) (old : LinksOf) (v : WorldOf) (after : List Step) (new : LinksOf) (count : ℕ) : Type 0 where
+  pub asks : List Ask
+  pub ends_are : map (λ a. (a.device, a.side)) asks ≡ round_ends (take devices es)
+  pub hears : Hears w before asks v after
+  pub gave : GaveEach devices old.gave asks new.gave
+  pub took_none : new.took ≡ old.took
+  pub count_is : count ≡ frames_in asks
+
+-- A round: what isn't written goes out, and each end of each link is asked.
+pub record RoundOf (es : List ℕ) (w : WorldOf) (before : List Step) (old : LinksOf) (v : WorldOf) (after : List Step) (new : LinksOf) (count : ℕ) : Type 0 where
+  pub out : LinksOf
+  pub writes : WritesOut w old out
+  pub came : Came (length es) es w before out v after new count
+  pub wrote_none : new.written ≡ out.written
+
+-- So many rounds, in each of which a frame came, and fewer than 1,024 in all.
+abbrev pub RoundsOn : List ℕ → ℕ → WorldOf → List Step → LinksOf → WorldOf → List Step → LinksOf → (count : ℕ) → Type 0
+RoundsOn es zero w before old v after new count = (v ≡ w) × (after ≡ before) × (new ≡ old) × (count ≡ 0)
+RoundsOn es (suc n) w before old v after new count =
+    (mid : WorldOf) × (steps : List Step) × (links : LinksOf) × (read : ℕ) × (more : ℕ) × RoundsOn es n w before old mid steps links read
+    × RoundOf es mid steps links v after new more × (1 ≤ more) × (count ≡ read + more) × (count < 1024)
+
+-- The rounds of a turn: in the last one no frame came, or the turn has then read 1,024 and more.
+pub record Rounds (es : List ℕ) (w : WorldOf) (before : List Step) (old : LinksOf) (v : WorldOf) (after : List Step) (new : LinksOf) (count : ℕ) : Type 0 where
+  pub rounds : ℕ
+  pub mid : WorldOf
+  pub steps : List Step
+  pub links : LinksOf
+  pub read : ℕ
+  pub more : ℕ
+  pub earlier : RoundsOn es rounds w before old mid steps links read
+  pub last : RoundOf es mid steps links v after new more
+  pub all : count ≡ read + more
+  pub ended : (more ≡ 0) ⊎ (1024 ≤ count)
+
+-- The rounds of a turn, and then what is unwritten goes out.
+pub record Exchanged (es : List ℕ) (w : WorldOf) (before : List Step) (old : LinksOf) (v : WorldOf) (after : List Step) (new : LinksOf) (count : ℕ) : Type 0 where
+  pub links : LinksOf
+  pub rounds : Rounds es w before old v after links count
+  pub out : WritesOut v links new
+
+-- A turn: a tick; the rounds; for each device in configured order the verdict that it then waits for; and for each the activation
+-- that its session then waits for.
+pub record Turned (w : WorldOf) (before : List Step) (old : LinksOf) (v : WorldOf) (after : List Step) (new : LinksOf) (count : ℕ) : Type 0 where
+  pub ticked : WorldOf
+  pub ticked_steps : List Step
+  pub tick : TakesIf w before (Some steps.Tick) ticked ticked_steps
+  pub heard : WorldOf
+  pub heard_steps : List Step
+  pub exchanged : Exchanged (eids_of ticked.sites) ticked ticked_steps old heard heard_steps new count
+  pub judged : WorldOf
+  pub judged_steps : List Step
+  pub verdicts : TakesAll heard heard_steps (all_due verdict_for heard (eids_of heard.sites)) judged judged_steps
+  pub activations : TakesAll judged judged_steps (all_due activation_for judged (eids_of judged.sites)) v after
+
+-- So many turns, before each of which some session was neither Done nor Failed, and the frames that came in them.
+abbrev pub Turns : ℕ → WorldOf → List Step → LinksOf → WorldOf → List Step → LinksOf → (count : ℕ) → Type 0
+Turns zero w before old v after new count = (v ≡ w) × (after ≡ before) × (new ≡ old) × (count ≡ 0)
+Turns (suc n) w before old v after new count =
+    (mid : WorldOf) × (steps : List Step) × (links : LinksOf) × (read : ℕ) × (more : ℕ) × Turns n w before old mid steps links read × (all_over mid ≡ false)
+    × Turned mid steps links v after new more × (count ≡ read + more)
+
+-- The turns of a run, over links that gave so far what stands first, and now what stands last: the frames that came are those that
+-- were delivered, and so many others.
+pub record Drove (turns : ℕ) (w : WorldOf) (before : List Step) (old : LinksOf) (v : WorldOf) (after : List Step) (new : LinksOf) (foreign : ℕ) : Type 0 where
+  pub count : ℕ
+  pub turned : Turns turns w before old v after new count
+  pub frames : delivers_in before + count ≡ delivers_in after + foreign
