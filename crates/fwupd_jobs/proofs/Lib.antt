@@ -4,3 +4,4 @@ mod Making
 mod Packed
 mod Started
 mod Told
+mod Traced

@@ -22,7 +22,7 @@ use Rattle.fwupd_jobs.specs.declared.faults.RunFault.TheVariants as told
 use Rattle.fwupd_jobs.specs.declared.running.WatchFault.{WatchFault}
 use Rattle.fwupd_jobs.specs.declared.running.WatchFault.TheVariants as watches
 
-take_next : {A : Type 0} (xs : List A) (i : ℕ) (x : A) → slice_get xs i ≡ Some x → take (suc i) xs ≡ take i xs ++ x ∷ []
+pub take_next : {A : Type 0} (xs : List A) (i : ℕ) (x : A) → slice_get xs i ≡ Some x → take (suc i) xs ≡ take i xs ++ x ∷ []
 take_next [] i x e = absurd cc
 take_next (y ∷ ys) zero x e = ap (λ z. z ∷ []) (let same : Some y ≡ Some x = e in cc)
 take_next (y ∷ ys) (suc i) x e = ap (λ zs. y ∷ zs) (take_next ys i x e)

@@ -7,3 +7,4 @@ pub mod Promises
 pub mod Replayed
 pub mod Running
 pub mod Setups
+pub mod Traces

@@ -1,5 +1,13 @@
 //! The packets of a run, written as they go out.
 
+ghost use Rattle.std.specs.Prelude.{◌≡◌, [], IfErr, IfOk, IfSome, OnOk, length, map, slice_get};
+ghost use Rattle.std.specs.Io.Buffered.{writer_buffer, writer_contents, writer_inner};
+ghost use Rattle.std.specs.Io.KnownBytes.{Appends, Keeps};
+ghost use Rattle.exch_lane.specs.Journals.{sent_of};
+ghost use Rattle.fw_edge.specs.Ledgers.{packet_counts};
+ghost use Rattle.fw_text.specs.Printing.{Adds};
+ghost use Rattle.fwupd_jobs.specs.Traces.{pair_text, pairs_text, trace_line, trace_text, way_of, written_at as written_of};
+
 use crate::running::WatchFault;
 use arrayvec::ArrayVec;
 use exch_lane::SentPacket;
@@ -7,38 +15,50 @@ use fd_core::MemBank;
 use fw_text::{push_number, push_words};
 use fw_world::World;
 use std::alloc::{AllocError, Global};
-use std::io::Write;
+use std::io::{BufWriter, Write};
 
 /// Writes each packet of a run as it goes out, a line each: the turn, the device of the pair, `to-device` or `to-agent`, and the
 /// packet in upper-case digits.
 #[derive(Drop)]
 pub struct Trace<W: Write + Drop> {
     alloc: Global,
-    writer: W,
+    writer: BufWriter<W>,
     /// How many packets of each pair are written, in configured order.
     written: ArrayVec<usize, 16>,
 }
 
+/// Which way a packet goes, as its third byte says.
+fn way(device: u8, bytes: &[u8]) -> &'static str
+    ensures { result.now ≡ way_of device bytes.now }
+{
+    match bytes {
+        [_, _, source, ..] if *source == device => " to-agent ",
+        _ => " to-device ",
+    }
+}
+
 /// Appends a packet's line.
+#[tactic(auto, unfolding(crate::specs::Traces::trace_line))]
 fn push_line(
     alloc: Global,
     text: &mut Vec<u8>,
     device: u8,
     packet: &SentPacket,
-) -> Result<(), AllocError> {
-    let way = match packet.bytes.as_slice() {
-        [_, _, source, ..] if *source == device => " to-agent ",
-        _ => " to-device ",
-    };
+) -> Result<(), AllocError>
+    ensures { OnOk result (Adds text.old.items text.new.items (trace_line device (sent_of packet.now))) }
+{
     push_number(alloc, text, "", packet.date as usize)?;
     push_number(alloc, text, " ", usize::from(device))?;
-    push_words(text, way)?;
-    push_words(text, &hex::encode_upper(alloc, &packet.bytes)?)?;
-    push_words(text, "\n")
+    push_words(text, way(device, packet.bytes.as_slice()))?;
+    push_words(text, &hex::encode_upper(alloc, packet.bytes.as_slice())?)?;
+    push_words(text, "\n")?;
+    Ok(())
 }
 
 /// The lines of these packets.
-fn lines(alloc: Global, device: u8, packets: &[SentPacket]) -> Result<Vec<u8>, AllocError> {
+fn lines(alloc: Global, device: u8, packets: &[SentPacket]) -> Result<Vec<u8>, AllocError>
+    ensures { IfOk result (λ text. text.items ≡ trace_text device (map sent_of packets.now)) }
+{
     let mut text = Vec::new(alloc);
     for packet in packets {
         push_line(alloc, &mut text, device, packet)?;
@@ -46,48 +66,102 @@ fn lines(alloc: Global, device: u8, packets: &[SentPacket]) -> Result<Vec<u8>, A
     Ok(text)
 }
 
+/// Writes the lines of the packets of the pair at a place behind so many, and gives how many packets it has.
+fn write_pair<W: Write>(
+    alloc: Global,
+    world: &World<'_, MemBank>,
+    place: usize,
+    written: usize,
+    writer: &mut W,
+) -> Result<usize, WatchFault>
+    ensures lines { OnOk result (Appends (W.contents writer.old) (W.contents writer.new) (pair_text (slice_get world.now.sites place) written)) }
+    ensures count { IfOk result (λ n. IfSome (slice_get world.now.sites place) (λ x. n ≡ length x.packets)) }
+{
+    let (Some(node), Some(packets)) = (world.device_at(place), world.packets_at(place)) else {
+        return Ok(0);
+    };
+    if packets.len() <= written {
+        return Ok(packets.len());
+    }
+    let Ok(text) = lines(alloc, node.eid(), &packets[written..]) else {
+        return Err(WatchFault::Memory);
+    };
+    match writer.write_all(&text) {
+        Ok(()) => Ok(packets.len()),
+        Err(_) => Err(WatchFault::Unwritten),
+    }
+}
+
+/// How many packets of the pair at a place are written.
+fn written_at(written: &[usize], place: usize) -> usize
+    ensures { result ≡ written_of written.now place }
+{
+    match written.get(place) {
+        Some(count) => *count,
+        None => 0,
+    }
+}
+
+/// Writes the packets of each pair behind those that are written, and gives how many there are of each.
+fn write_pairs<W: Write>(
+    alloc: Global,
+    world: &World<'_, MemBank>,
+    written: &[usize],
+    writer: &mut W,
+) -> Result<ArrayVec<usize, 16>, WatchFault>
+    ensures lines { OnOk result (Appends (W.contents writer.old) (W.contents writer.new) (pairs_text written.now world.now.sites (length world.now.sites))) }
+    ensures counts { IfOk result (λ counts. counts.items ≡ packet_counts world.now.sites) }
+{
+    let mut counts = ArrayVec::new();
+    for place in 0..world.device_count() {
+        match write_pair(alloc, world, place, written_at(written, place), writer) {
+            Ok(count) => counts.push(count),
+            Err(fault) => return Err(fault),
+        }
+    }
+    Ok(counts)
+}
+
 impl<W: Write + Drop> Trace<W> {
     /// A trace of which nothing is written.
-    pub fn new(alloc: Global, writer: W) -> Trace<W> {
-        Trace {
+    ///
+    /// # Errors
+    /// `Memory`.
+    pub fn new(alloc: Global, writer: W) -> Result<Trace<W>, WatchFault>
+        ensures written { IfOk result (λ t. t.written.items ≡ []) }
+        ensures contents { IfOk result (λ t. W.contents (writer_inner t.writer) ≡ W.contents writer) }
+        ensures none { IfOk result (λ t. writer_buffer t.writer ≡ []) }
+        ensures fault { IfErr result (λ e. e ≡ WatchFault.Memory) }
+    {
+        let Ok(writer) = BufWriter::new(alloc, writer) else {
+            return Err(WatchFault::Memory);
+        };
+        Ok(Trace {
             alloc,
             writer,
             written: ArrayVec::new(),
-        }
+        })
     }
 
-    /// Writes the packets of the pair at a place that aren't written yet.
-    fn write_pair(&mut self, world: &World<'_, MemBank>, place: usize) -> Result<(), WatchFault> {
-        let (Some(node), Some(packets)) = (world.device_at(place), world.packets_at(place)) else {
-            return Ok(());
-        };
-        if self.written.len() <= place && !self.written.is_full() {
-            self.written.push(0);
-        }
-        let Some(written) = self.written.get_mut(place) else {
-            return Ok(());
-        };
-        let Some(unwritten) = packets.get(*written..) else {
-            return Ok(());
-        };
-        *written = packets.len();
-        let Ok(text) = lines(self.alloc, node.eid(), unwritten) else {
-            return Err(WatchFault::Memory);
-        };
-        match self.writer.write_all(&text) {
-            Ok(()) => Ok(()),
-            Err(_) => Err(WatchFault::Unwritten),
-        }
-    }
-
-    /// Writes the packets that a turn sent.
+    /// Writes the packets that a turn sent: those of each pair that aren't written yet.
     ///
     /// # Errors
     /// They can't be written, or memory for their lines is refused.
-    pub fn see(&mut self, world: &World<'_, MemBank>) -> Result<(), WatchFault> {
-        for place in 0..world.device_count() {
-            self.write_pair(world, place)?;
-        }
+    pub fn see(&mut self, world: &World<'_, MemBank>) -> Result<(), WatchFault>
+        ensures lines { OnOk result (Appends (writer_contents W.contents self.old.writer) (writer_contents W.contents self.new.writer)
+            (pairs_text self.old.written.items world.now.sites (length world.now.sites))) }
+        ensures counts { OnOk result (self.new.written.items ≡ packet_counts world.now.sites) }
+    {
+        let counts = match write_pairs(
+            self.alloc,
+            world,
+            self.written.as_slice(),
+            &mut self.writer,
+        ) {
+            Ok(counts) => counts,
+            Err(fault) => return Err(fault),
+        };
+        self.written = counts;
         Ok(())
     }
 
@@ -95,7 +169,10 @@ impl<W: Write + Drop> Trace<W> {
     ///
     /// # Errors
     /// It can't be written.
-    pub fn end(&mut self) -> Result<(), WatchFault> {
+    pub fn end(&mut self) -> Result<(), WatchFault>
+        ensures all { OnOk result (writer_buffer self.new.writer ≡ []) }
+        ensures kept { Keeps (writer_contents W.contents self.old.writer) (writer_contents W.contents self.new.writer) }
+    {
         match self.writer.flush() {
             Ok(()) => Ok(()),
             Err(_) => Err(WatchFault::Unwritten),
