@@ -4,7 +4,7 @@ use Rattle.std.specs.Result.{result_map_both}
 use Rattle.fw_package.specs.Package.{PackageText}
 use Rattle.fw_package.specs.Reading.{package_of}
 use Rattle.fw_package.specs.declared.fault.PackageFault.{PackageFault}
-use Rattle.fwupd_jobs.specs.Inspected.{BreaksInspection, InspectEnds, Inspects, told_as}
+use Rattle.fwupd_jobs.specs.Inspected.{BreaksInspection, Inspects, told_as}
 use Rattle.fwupd_base.specs.Inspection.{inspect_of}
 use Rattle.fwupd_jobs.specs.Outputs.{FailsToPrint, OutputOf, Prints}
 use Rattle.fwupd_jobs.specs.Setups.{FileOf, IsNone, MayHold, PackageFails}

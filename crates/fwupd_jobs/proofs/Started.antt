@@ -1,5 +1,5 @@
 -- Updates that are started one by one, and the steps that follow.
-use Rattle.std.proofs.Common.{◌≡◌, ◌⊎◌, ◌+◌, ◌-◌, ◌^◌, ◌++◌, ◌∙◌, ℕ, zero, suc, List, [], ◌∷◌, Some, None, Bool, true, Result, Ok, Err, inl, inr, append_assoc, append-nil, arith, length, map, refl, sym, ap, subst, take}
+use Rattle.std.proofs.Common.{◌≡◌, ◌⊎◌, ◌+◌, ◌-◌, ◌^◌, ◌++◌, ◌∙◌, ℕ, zero, suc, List, [], ◌∷◌, Some, None, Bool, true, Result, Err, inl, inr, append_assoc, append-nil, arith, length, map, refl, sym, ap, subst, take}
 use Rattle.std.specs.Prelude.{IfErr, IfSome, Option, option_map, slice_get}
 use Rattle.std.proofs.Math.Seq.{take-length}
 use Rattle.std.proofs.lemmas.List.{map-append}

@@ -6,7 +6,6 @@ use Rattle.std.proofs.Math.Seq.{take-length}
 use Rattle.std.proofs.KnownBytes.{Appends-nil, Appends-trans}
 use Rattle.std.proofs.lemmas.List.{map-append}
 use Rattle.exch_lane.specs.Journals.{sent_of}
-use Rattle.exch_lane.specs.Lanes.{Sent}
 use Rattle.exch_lane.specs.declared.journal.SentPacket.{SentPacket}
 use Rattle.fw_edge.specs.Ledgers.{packet_counts}
 use Rattle.fw_node.specs.Nodes.{DeviceNodeOf}

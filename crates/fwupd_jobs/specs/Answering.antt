@@ -1,5 +1,5 @@
 -- What is written of the answers to what is read.
-use Rattle.std.specs.Prelude.{ℕ, ◌≡◌, ◌≢◌, ◌≤◌, ◌⊎◌, Bool, false, true, List, [], Option, Result, Ok, Err, IfSome, length}
+use Rattle.std.specs.Prelude.{ℕ, ◌≡◌, ◌≢◌, ◌≤◌, ◌⊎◌, false, true, List, Option, Result, Ok, Err, IfSome, length}
 use Rattle.std.specs.Io.KnownBytes.{Appends, append_known}
 use Rattle.mctp_ctl.specs.declared.answers.Endpoint.{Endpoint}
 use Rattle.fwupd_base.specs.Answers.{answers_of}
