@@ -1,6 +1,7 @@
 -- What a link counts, takes and gives.
-use Rattle.std.specs.Prelude.{ℕ, ◌≡◌, ◌≢◌, ◌==◌, ◌+◌, ◌-◌, ◌^◌, ◌⊎◌, ◌∷◌, Bool, true, false, if◌then◌else◌, List, Option, None}
-use Rattle.std.specs.Io.KnownBytes.{Appends}
+use Rattle.std.specs.Prelude.{ℕ, ◌≡◌, ◌≢◌, ◌==◌, ◌+◌, ◌-◌, ◌^◌, ◌⊎◌, ◌∷◌, Bool, true, false, if◌then◌else◌, List, [], Option, None}
+use Rattle.std.specs.Io.KnownBytes.{Appends, Consumes}
+use Rattle.fw_edge.specs.Frames.{frames_of}
 use Rattle.fw_message.specs.declared.side.Side.{Side}
 use Rattle.fw_message.specs.declared.side.Side.TheVariants as sides
 use Rattle.fw_edge.specs.declared.tally.Tally.{Tally}
@@ -58,3 +59,11 @@ pub record LinksOf : Type 0 where
 
 abbrev pub links_at : List ℕ → List EndsOf → List EndsOf → LinksOf
 links_at written took gave = record { written = written; took = took; gave = gave }
+
+-- At an end of a stream the frame of a packet was written: one more is on the way to the other end.
+abbrev pub Writes : (before now : Option (List ℕ)) → (way_before way_now : ℕ) → List ℕ → Type 0
+Writes before now way_before way_now packet = Appends before now (frames_of (packet ∷ [])) × Rises way_before way_now
+
+-- At an end of a stream the frame of a packet was read: one less is on the way there.
+abbrev pub Reads : (before now : Option (List ℕ)) → (way_before way_now : ℕ) → List ℕ → Type 0
+Reads before now way_before way_now packet = Consumes before now (frames_of (packet ∷ [])) × (way_before ≡ way_now + 1)

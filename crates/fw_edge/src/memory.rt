@@ -1,6 +1,6 @@
 //! A link in memory.
 
-ghost use Rattle.std.specs.Prelude.{◌≡◌, ◌++◌, ◌∷◌, [], IfNone, option_to_list, true};
+ghost use Rattle.std.specs.Prelude.{[], ◌≡◌, ◌++◌, ◌∷◌, IfErr, IfNone, IfOk, IsOk, None, Ok, OnErr, OnOk, is_some, map, option_to_list, true};
 ghost use Rattle.fw_edge.specs.Links.{Asks, Fails, Sends};
 
 use crate::frame::FrameFault;
@@ -77,7 +77,15 @@ pub(crate) fn copy_of(packet: &RawPacket) -> RawPacket
 impl Link for MemLink {
     ghost tally = { λ l. l.tally };
 
-    fn send(&mut self, side: Side, packet: &RawPacket) -> Result<(), FrameFault> {
+    fn send(&mut self, side: Side, packet: &RawPacket) -> Result<(), FrameFault>
+        ensures ok { OnOk result (Sends self.old.tally self.new.tally) }
+        ensures err { OnErr result (Fails self.old.tally self.new.tally) }
+        ensures agent { side ≡ Side.Agent → OnOk result (map (λ p. p.items) self.new.down.items ≡ map (λ p. p.items) self.old.down.items ++ packet.now.items ∷ []) }
+        ensures device { side ≡ Side.Device → OnOk result (map (λ p. p.items) self.new.up.items ≡ map (λ p. p.items) self.old.up.items ++ packet.now.items ∷ []) }
+        ensures not_up { side ≡ Side.Agent → self.new.up.items ≡ self.old.up.items }
+        ensures not_down { side ≡ Side.Device → self.new.down.items ≡ self.old.down.items }
+        ensures fault { IfErr result (λ e. e ≡ FrameFault.Io) }
+    {
         if !self.put(side, copy_of(packet)) {
             self.tally.fail();
             return Err(FrameFault::Io);
@@ -86,7 +94,16 @@ impl Link for MemLink {
         Ok(())
     }
 
-    fn receive(&mut self, side: Side) -> Result<Option<RawPacket>, FrameFault> {
+    fn receive(&mut self, side: Side) -> Result<Option<RawPacket>, FrameFault>
+        ensures ok { IfOk result (λ p. Asks (is_some p) self.old.tally self.new.tally) }
+        ensures err { OnErr result (Fails self.old.tally self.new.tally) }
+        ensures agent { side ≡ Side.Agent → IfOk result (λ p. self.old.up.items ≡ option_to_list p ++ self.new.up.items) }
+        ensures device { side ≡ Side.Device → IfOk result (λ p. self.old.down.items ≡ option_to_list p ++ self.new.down.items) }
+        ensures not_down { side ≡ Side.Agent → self.new.down.items ≡ self.old.down.items }
+        ensures not_up { side ≡ Side.Device → self.new.up.items ≡ self.old.up.items }
+        ensures none { result ≡ Ok None → (side ≡ Side.Agent → self.old.up.items ≡ []) × (side ≡ Side.Device → self.old.down.items ≡ []) }
+        ensures always { IsOk result }
+    {
         let packet = self.take(side);
         self.tally.ask(packet.is_some());
         Ok(packet)

@@ -1,7 +1,8 @@
 //! A link over a byte stream.
 
-ghost use Rattle.std.specs.Prelude.{◌≡◌, ◌+◌, IfOk, IfSome, None, Ok, OnOk};
-ghost use Rattle.fw_edge.specs.Links.{Asks, Fails, Rises, Sends};
+ghost use Rattle.std.specs.Prelude.{◌≡◌, ◌≢◌, IfErr, IfOk, IfSome, None, Ok, OnErr, OnOk, is_some};
+ghost use Rattle.fw_edge.specs.Frames.{ReadStops, WriteStops};
+ghost use Rattle.fw_edge.specs.Links.{Asks, Fails, Reads, Sends, Writes};
 
 use crate::frame::{FrameFault, read_frame, write_frame};
 use crate::link::Link;
@@ -44,11 +45,15 @@ impl<S: Read + Write + Drop> StreamLink<S> {
         }
     }
 
-    /// Writes the frame of a packet at an end; it is then on the way to the other.
+    /// Writes the frame of a packet at an end; it is then on the way to the other. The stream of that other end stays as it is.
     fn write(&mut self, side: Side, packet: &RawPacket) -> Result<(), FrameFault>
         ensures tally { self.new.tally ≡ self.old.tally }
-        ensures agent { OnOk result (side ≡ Side.Agent → Rises self.old.down self.new.down × (self.new.up ≡ self.old.up)) }
-        ensures device { OnOk result (side ≡ Side.Device → Rises self.old.up self.new.up × (self.new.down ≡ self.old.down)) }
+        ensures agent { side ≡ Side.Agent → OnOk result (Writes (S.contents self.old.agent) (S.contents self.new.agent) self.old.down self.new.down packet.now.items) }
+        ensures device { side ≡ Side.Device → OnOk result (Writes (S.contents self.old.device) (S.contents self.new.device) self.old.up self.new.up packet.now.items) }
+        ensures agent_fault { side ≡ Side.Agent → IfErr result (λ e. (self.new.down ≡ self.old.down) × WriteStops e (S.contents self.old.agent) (S.contents self.new.agent) packet.now.items) }
+        ensures device_fault { side ≡ Side.Device → IfErr result (λ e. (self.new.up ≡ self.old.up) × WriteStops e (S.contents self.old.device) (S.contents self.new.device) packet.now.items) }
+        ensures not_device { side ≡ Side.Agent → (self.new.device ≡ self.old.device) × (self.new.up ≡ self.old.up) }
+        ensures not_agent { side ≡ Side.Device → (self.new.agent ≡ self.old.agent) × (self.new.down ≡ self.old.down) }
     {
         match side {
             Side::Agent => {
@@ -63,13 +68,20 @@ impl<S: Read + Write + Drop> StreamLink<S> {
         Ok(())
     }
 
-    /// Reads a frame at an end, if one is on the way there; else it leaves the streams as they are.
+    /// Reads a frame at an end, if one is on the way there; else it leaves the streams as they are. The stream of the other end
+    /// stays as it is. A frame that can't be read is on the way no more.
     fn read(&mut self, side: Side) -> Result<Option<RawPacket>, FrameFault>
         ensures tally { self.new.tally ≡ self.old.tally }
         ensures no_up { side ≡ Side.Agent → self.old.up ≡ 0 → (result ≡ Ok None) × (self.new ≡ self.old) }
         ensures no_down { side ≡ Side.Device → self.old.down ≡ 0 → (result ≡ Ok None) × (self.new ≡ self.old) }
-        ensures agent { IfOk result (λ p. IfSome p (λ _. side ≡ Side.Agent → (self.old.up ≡ self.new.up + 1) × (self.new.down ≡ self.old.down))) }
-        ensures device { IfOk result (λ p. IfSome p (λ _. side ≡ Side.Device → (self.old.down ≡ self.new.down + 1) × (self.new.up ≡ self.old.up))) }
+        ensures agent { side ≡ Side.Agent → IfOk result (λ p. IfSome p (λ q. Reads (S.remaining self.old.agent) (S.remaining self.new.agent) self.old.up self.new.up q.items)) }
+        ensures device { side ≡ Side.Device → IfOk result (λ p. IfSome p (λ q. Reads (S.remaining self.old.device) (S.remaining self.new.device) self.old.down self.new.down q.items)) }
+        ensures some_up { side ≡ Side.Agent → self.old.up ≢ 0 → result ≢ Ok None }
+        ensures some_down { side ≡ Side.Device → self.old.down ≢ 0 → result ≢ Ok None }
+        ensures agent_fault { side ≡ Side.Agent → IfErr result (λ e. ReadStops e (S.remaining self.old.agent) (S.remaining self.new.agent)) }
+        ensures device_fault { side ≡ Side.Device → IfErr result (λ e. ReadStops e (S.remaining self.old.device) (S.remaining self.new.device)) }
+        ensures not_device { side ≡ Side.Agent → (self.new.device ≡ self.old.device) × (self.new.down ≡ self.old.down) }
+        ensures not_agent { side ≡ Side.Device → (self.new.agent ≡ self.old.agent) × (self.new.up ≡ self.old.up) }
     {
         match side {
             Side::Agent => {
@@ -93,7 +105,16 @@ impl<S: Read + Write + Drop> StreamLink<S> {
 impl<S: Read + Write + Drop> Link for StreamLink<S> {
     ghost tally = { λ l. l.tally };
 
-    fn send(&mut self, side: Side, packet: &RawPacket) -> Result<(), FrameFault> {
+    fn send(&mut self, side: Side, packet: &RawPacket) -> Result<(), FrameFault>
+        ensures ok { OnOk result (Sends self.old.tally self.new.tally) }
+        ensures err { OnErr result (Fails self.old.tally self.new.tally) }
+        ensures agent { side ≡ Side.Agent → OnOk result (Writes (S.contents self.old.agent) (S.contents self.new.agent) self.old.down self.new.down packet.now.items) }
+        ensures device { side ≡ Side.Device → OnOk result (Writes (S.contents self.old.device) (S.contents self.new.device) self.old.up self.new.up packet.now.items) }
+        ensures agent_fault { side ≡ Side.Agent → IfErr result (λ e. (self.new.down ≡ self.old.down) × WriteStops e (S.contents self.old.agent) (S.contents self.new.agent) packet.now.items) }
+        ensures device_fault { side ≡ Side.Device → IfErr result (λ e. (self.new.up ≡ self.old.up) × WriteStops e (S.contents self.old.device) (S.contents self.new.device) packet.now.items) }
+        ensures not_device { side ≡ Side.Agent → (self.new.device ≡ self.old.device) × (self.new.up ≡ self.old.up) }
+        ensures not_agent { side ≡ Side.Device → (self.new.agent ≡ self.old.agent) × (self.new.down ≡ self.old.down) }
+    {
         match self.write(side, packet) {
             Ok(()) => {
                 self.tally.send();
@@ -106,7 +127,20 @@ impl<S: Read + Write + Drop> Link for StreamLink<S> {
         }
     }
 
-    fn receive(&mut self, side: Side) -> Result<Option<RawPacket>, FrameFault> {
+    fn receive(&mut self, side: Side) -> Result<Option<RawPacket>, FrameFault>
+        ensures ok { IfOk result (λ p. Asks (is_some p) self.old.tally self.new.tally) }
+        ensures err { OnErr result (Fails self.old.tally self.new.tally) }
+        ensures no_up { side ≡ Side.Agent → self.old.up ≡ 0 → (result ≡ Ok None) × (self.new.agent ≡ self.old.agent) }
+        ensures no_down { side ≡ Side.Device → self.old.down ≡ 0 → (result ≡ Ok None) × (self.new.device ≡ self.old.device) }
+        ensures agent { side ≡ Side.Agent → IfOk result (λ p. IfSome p (λ q. Reads (S.remaining self.old.agent) (S.remaining self.new.agent) self.old.up self.new.up q.items)) }
+        ensures device { side ≡ Side.Device → IfOk result (λ p. IfSome p (λ q. Reads (S.remaining self.old.device) (S.remaining self.new.device) self.old.down self.new.down q.items)) }
+        ensures some_up { side ≡ Side.Agent → self.old.up ≢ 0 → result ≢ Ok None }
+        ensures some_down { side ≡ Side.Device → self.old.down ≢ 0 → result ≢ Ok None }
+        ensures agent_fault { side ≡ Side.Agent → IfErr result (λ e. ReadStops e (S.remaining self.old.agent) (S.remaining self.new.agent)) }
+        ensures device_fault { side ≡ Side.Device → IfErr result (λ e. ReadStops e (S.remaining self.old.device) (S.remaining self.new.device)) }
+        ensures not_device { side ≡ Side.Agent → (self.new.device ≡ self.old.device) × (self.new.down ≡ self.old.down) }
+        ensures not_agent { side ≡ Side.Device → (self.new.agent ≡ self.old.agent) × (self.new.up ≡ self.old.up) }
+    {
         match self.read(side) {
             Ok(packet) => {
                 self.tally.ask(packet.is_some());
