@@ -1,5 +1,5 @@
 -- Lemmas on lines, and on what is answered of a text so far.
-use Rattle.std.proofs.Common.{IsOk, is_ok, if◌then◌else◌, ◌-◌, min, get_or, OnErr, IfErr, zero, suc, ◌≡◌, ◌≢◌, ◌<◌, ◌≤◌, ◌+◌, ◌∙◌, ℕ, List, [], ◌∷◌, ◌++◌, length, refl, sym, ap, subst, take, drop, append_assoc, append-nil, length-append, arith, IfSome, OnOk, Result, Ok, Err, Option, Some, None}
+use Rattle.std.proofs.Common.{IsOk, is_ok, if◌then◌else◌, ◌-◌, min, get_or, OnErr, IfErr, zero, suc, ◌≡◌, ◌≢◌, ◌<◌, ◌≤◌, ◌+◌, ◌∙◌, ℕ, List, [], ◌∷◌, ◌++◌, length, refl, sym, ap, subst, take, drop, append_assoc, append-nil, length-append, arith, OnOk, Result, Ok, Err, Option}
 use Rattle.std.proofs.lemmas.Bool.{ne_eqb}
 use Rattle.std.proofs.lemmas.List.{take_more, drop_more, take_all, take-append-drop, length-drop, length-take-le}
 use Rattle.std.proofs.Math.Seq.{take-add}
@@ -8,7 +8,7 @@ use Rattle.std.proofs.KnownBytes.{Consumes-nil, Consumes-trans, Consumes-kept, A
 use Rattle.mctp_ctl.specs.declared.answers.Endpoint.{Endpoint}
 use Rattle.fwupd_base.specs.Answers.{printed, tid_left_by, lines_text, tid_along, answers_of}
 use Rattle.fwupd_base.specs.Lines.{lines_of, ended, AreLines, IsOneLine}
-use Rattle.fwupd_base.specs.Stream.{Begins, Broken, BrokenOff, IsEnded, Reads, Stands, Stopped}
+use Rattle.fwupd_base.specs.Stream.{Answered, Begins, Broken, BrokenOff, IsEnded, Reads, Stands, Stopped}
 use Rattle.fwupd_base.specs.declared.stream.AnswerFault.{AnswerFault}
 use Rattle.fwupd_base.specs.declared.stream.AnswerFault.TheVariants.{Read, Write}
 
@@ -217,24 +217,17 @@ stopped_past e tid count a b w v part r = record {
   written = r.stands.written;
 }
 
--- a reader at its end gave this text
-whole : (a b : Option (List ℕ)) (text : List ℕ) (P : List ℕ → Type 0) → Consumes a b text → IsAtEnd b → P text → IfSome a P
-whole None b text P read end h = tt
-whole (Some x) None text P read end h = absurd read
-whole (Some x) (Some y) text P read end h = subst P (sym (read ∙ ap (λ t. text ++ t) end ∙ append-nil text)) h
-
+-- a reader at its end gave all that was read
 pub finished : {T : Type 0} (e : Endpoint) (tid count : ℕ) (a b c w v u : Option (List ℕ)) (part : List ℕ) (f : Result T AnswerFault) (r : Reads e tid count a b w v part) → count ≤ 16777216 → Consumes b c [] → IsAtEnd c
-    → OnOk f (Appends w u (answers_of e r.text)) → OnOk f (IfSome a (λ text. Appends w u (answers_of e text)))
+    → OnOk f (Appends w u (answers_of e r.text)) → OnOk f (Answered e a c w u)
 finished e tid count a b c w v u part (Err x) r within read end h = tt
-finished e tid count a b c w v u part (Ok x) r within read end h =
-    whole a c (r.text ++ []) (λ text. Appends w u (answers_of e text)) (read_text e tid count a b c w v part [] r within read) end (subst (λ t. Appends w u (answers_of e t)) (sym (append-nil r.text)) h)
-
-pub read_whole : {T : Type 0} (e : Endpoint) (tid count : ℕ) (a b c w v : Option (List ℕ)) (part : List ℕ) (f : Result T AnswerFault) (r : Reads e tid count a b w v part) → count ≤ 16777216 → Consumes b c [] → IsAtEnd c
-    → OnOk f (IfSome a (λ text. length text ≤ 16777216))
-read_whole e tid count a b c w v part (Err x) r within read end = tt
-read_whole e tid count a b c w v part (Ok x) r within read end =
-    let size : length (r.text ++ []) ≤ 16777216 = rw (append-nil r.text) (omega (arith, r.size)) in
-    whole a c (r.text ++ []) (λ text. length text ≤ 16777216) (read_text e tid count a b c w v part [] r within read) end size
+finished e tid count a b c w v u part (Ok x) r within read end h = record {
+  text = r.text;
+  most = omega (arith, r.size);
+  read = subst (Consumes a c) (append-nil r.text) (read_text e tid count a b c w v part [] r within read);
+  end = end;
+  written = h;
+}
 
 pub finish_broken : {T : Type 0} (e : Endpoint) (tid count : ℕ) (a b c w v u : Option (List ℕ)) (part : List ℕ) (f : Result T AnswerFault) (r : Reads e tid count a b w v part) → count ≤ 16777216 → Consumes b c []
     → OnErr f (BrokenOff e r.text w u) → IfErr f (λ x. x ≡ Write → Broken e a c w u)

@@ -1,8 +1,8 @@
 -- What an answering program does with a text that it reads piece by piece.
 use Rattle.std.specs.Prelude.{ℕ, ◌≡◌, ◌≢◌, ◌≤◌, ◌+◌, List, [], ◌∷◌, ◌++◌, length, take, Option}
-use Rattle.std.specs.Io.KnownBytes.{Appends, Consumes}
+use Rattle.std.specs.Io.KnownBytes.{Appends, Consumes, IsAtEnd}
 use Rattle.mctp_ctl.specs.declared.answers.Endpoint.{Endpoint}
-use Rattle.fwupd_base.specs.Answers.{lines_text, printed, tid_along}
+use Rattle.fwupd_base.specs.Answers.{answers_of, lines_text, printed, tid_along}
 use Rattle.fwupd_base.specs.Lines.{ended, AreLines, IsOneLine}
 use Rattle.fwupd_base.specs.declared.stream.AnswerFault.{AnswerFault}
 use Rattle.fwupd_base.specs.declared.stream.AnswerFault.TheVariants.{Read}
@@ -15,6 +15,14 @@ pub record Stands (e : Endpoint) (tid : ℕ) (text : List ℕ) (before now : Opt
   pub is : text ≡ ended lines ++ part
   pub written : Appends before now (lines_text e 0 lines)
   pub terminus : tid ≡ tid_along e 0 lines
+
+-- The reader gave this text and is at its end, and the answers to it are written. A reader whose bytes aren't known gave some text.
+pub record Answered (e : Endpoint) (read_before read_now written_before written_now : Option (List ℕ)) : Type 0 where
+  pub text : List ℕ
+  pub most : length text ≤ 16777216
+  pub read : Consumes read_before read_now text
+  pub end : IsAtEnd read_now
+  pub written : Appends written_before written_now (answers_of e text)
 
 -- A run stopped for this fault, which isn't the writer's. Of what it read each of these lines is answered, and all else is
 -- less than one line: a part without a line feed, and the byte past the limit where that one stopped the run.

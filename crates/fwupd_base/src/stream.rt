@@ -1,9 +1,9 @@
 //! Lines in, answers out: the engine of `fwupd answer`.
 
-ghost use Rattle.std.specs.Prelude.{◌≡◌, ◌≢◌, ◌≤◌, ◌+◌, ◌*◌, ◌++◌, List, ℕ, Option, length, vec_capacity, IfErr, IfSome, OnErr, OnOk};
+ghost use Rattle.std.specs.Prelude.{◌≡◌, ◌≢◌, ◌≤◌, ◌+◌, ◌*◌, ◌++◌, List, ℕ, Option, length, vec_capacity, IfErr, OnErr, OnOk};
 ghost use Rattle.std.specs.Io.KnownBytes.{Appends, Keeps};
 ghost use Rattle.fwupd_base.specs.Answers.{answers_of, endpoint_of, printed, tid_left_by};
-ghost use Rattle.fwupd_base.specs.Stream.{Begins, Broken, BrokenOff, Stands, Stopped};
+ghost use Rattle.fwupd_base.specs.Stream.{Answered, Begins, Broken, BrokenOff, Stands, Stopped};
 
 use crate::responder::Responder;
 use crate::retries::{read_some, write_whole};
@@ -152,9 +152,7 @@ pub fn answer_stream<R: Read, W: Write>(
     eid: u8,
     uuid: Uuid,
 ) -> Result<(), AnswerFault>
-    ensures ok { OnOk result (IfSome (R.remaining reader.old) (λ text.
-        Appends (W.contents writer.old) (W.contents writer.new) (answers_of (endpoint_of eid uuid) text))) }
-    ensures within { OnOk result (IfSome (R.remaining reader.old) (λ text. length text ≤ 16777216)) }
+    ensures ok { OnOk result (Answered (endpoint_of eid uuid) (R.remaining reader.old) (R.remaining reader.new) (W.contents writer.old) (W.contents writer.new)) }
     ensures stopped { IfErr result (λ e. e ≢ AnswerFault.Write →
         Stopped (endpoint_of eid uuid) e (R.remaining reader.old) (R.remaining reader.new) (W.contents writer.old) (W.contents writer.new)) }
     ensures broken { IfErr result (λ e. e ≡ AnswerFault.Write →

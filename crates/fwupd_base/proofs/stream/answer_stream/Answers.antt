@@ -1,6 +1,6 @@
 use Rattle.std.proofs.Common.{[], ◌∙◌, arith}
 use Rattle.std.proofs.KnownBytes.{Keeps-refl}
-use Rattle.fwupd_base.proofs.Streams.{reads_start, stopped_within, finished, read_whole, finish_broken, reads_more, turn_broken, unflushed, stands_kept}
+use Rattle.fwupd_base.proofs.Streams.{reads_start, stopped_within, finished, finish_broken, reads_more, turn_broken, unflushed, stands_kept}
 use Rattle.fwupd_base.proofs.stream.answer_stream.Goals as goal
 
 pub returns-in_default-clause-stopped : goal.returns-in_default-clause-stopped
@@ -12,11 +12,6 @@ returns-in-Ok-eq0-clause-ok g c =
     finished _ _ _ _ _ _ _ _ _ _ c.finish.result r c.loop-count-test.true (rw c.in-Ok-eq0.field-0-test at c.in-Ok-eq0.ensures.bytes)
     (c.in-Ok-eq0.ensures.end c.in-Ok-eq0.field-0-test (omega (arith, c.loop-count-test.true)))
     (rw (c.deref.ensures.value, c.make_room.ensures.same, c.loop-count.invariant.endpoint) at c.finish.ensures.ok r.text _ r.stands)
-
-pub returns-in-Ok-eq0-clause-within : goal.returns-in-Ok-eq0-clause-within
-returns-in-Ok-eq0-clause-within g c =
-    read_whole _ _ _ _ _ _ _ _ _ c.finish.result c.loop-count.invariant.reads c.loop-count-test.true (rw c.in-Ok-eq0.field-0-test at c.in-Ok-eq0.ensures.bytes)
-    (c.in-Ok-eq0.ensures.end c.in-Ok-eq0.field-0-test (omega (arith, c.loop-count-test.true)))
 
 pub returns-in-Ok-eq0-clause-broken : goal.returns-in-Ok-eq0-clause-broken
 returns-in-Ok-eq0-clause-broken g c =
