@@ -3,6 +3,7 @@
 mod dice;
 mod headers;
 mod isolation;
+mod kept;
 mod memory;
 mod packages;
 mod random;

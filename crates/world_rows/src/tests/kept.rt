@@ -1,0 +1,118 @@
+//! A request that comes again late, and meets the answer that was kept of it.
+
+use crate::tests::headers::TWO_COUNTED;
+use crate::tests::packages::package;
+use crate::tests::setup::{DEVICE, Small, step, world};
+use exch_lane::SentPacket;
+use fd_core::{State, Verdict};
+use fw_world::{Refusal, Step, StepFault};
+use fwup_wire::Command;
+use std::alloc::{AllocError, Global};
+use std::test::Fail;
+
+/// The bytes that the device asks for last: behind 480 of 500, and at least 32.
+const LAST: Command<'static> = Command::RequestFirmwareData {
+    offset: 480,
+    length: 32,
+};
+
+/// More packets than a turn of one device has.
+const MOST: usize = 64;
+
+/// Where a message's command stands in its first packet: behind the packet's four bytes, the message's type, and two of PLDM's.
+const COMMAND: usize = 7;
+
+/// That request from its command on: RequestFirmwareData, the offset and the length (DSP0267).
+const ASKED: &[u8] = &[0x15, 0xE0, 0x01, 0, 0, 0x20, 0, 0, 0];
+
+/// The package of images of 32 and 500 bytes, whose byte i is i modulo 256.
+fn file(alloc: Global) -> Result<Vec<u8>, AllocError> {
+    let mut out = Vec::new(alloc);
+    out.extend_from_slice(TWO_COUNTED)?;
+    for size in [32_u32, 500] {
+        for place in 0..size {
+            let [byte, ..] = place.to_le_bytes();
+            out.push(byte)?;
+        }
+    }
+    Ok(out)
+}
+
+/// A packet of the device's pair, by its number.
+fn packet_at<'a>(world: &'a Small<'_>, number: usize) -> Option<&'a SentPacket> {
+    world.packets(DEVICE)?.get(number.checked_sub(1)?)
+}
+
+/// Who is to get a packet of the device's pair, if there is such a packet: its second byte says it (DSP0236).
+fn receiver(world: &Small<'_>, number: usize) -> Option<u8> {
+    packet_at(world, number)?.bytes.get(1).copied()
+}
+
+/// A tick, then each packet that isn't yet delivered, by rising number, and then the verdict that the device waits for, if it
+/// does. It gives how many packets are delivered then.
+fn turn(world: &mut Small<'_>, delivered: usize) -> Result<usize, StepFault> {
+    let mut delivered = delivered;
+    step(world, &Step::Tick)?;
+    for _ in 0..MOST {
+        let Some(node) = receiver(world, delivered.saturating_add(1)) else {
+            break;
+        };
+        delivered = delivered.saturating_add(1);
+        step(world, &Step::Deliver(DEVICE, delivered, node))?;
+    }
+    for verdict in [Verdict::VerifyOk, Verdict::ApplyOk] {
+        match step(world, &Step::Verdict(DEVICE, verdict)) {
+            Ok(()) | Err(StepFault::Refused(Refusal::NotNow)) => {}
+            Err(fault) => return Err(fault),
+        }
+    }
+    Ok(delivered)
+}
+
+/// Whether a packet of the device's pair is its request for those bytes, sent in that tick.
+fn asks_for_last(world: &Small<'_>, number: usize, date: u32) -> bool {
+    let Some(packet) = packet_at(world, number) else {
+        return false;
+    };
+    packet.date == date && packet.bytes.as_slice().get(COMMAND..) == Some(ASKED)
+}
+
+/// Whether the device waits in DOWNLOAD for those bytes.
+fn waits_for_last(world: &Small<'_>) -> bool {
+    let Some(node) = world.device(DEVICE) else {
+        return false;
+    };
+    node.device().state() == State::Download && node.device().wish() == Some(LAST)
+}
+
+/// Whether two packets of the device's pair are the same.
+fn is_same(world: &Small<'_>, one: usize, other: usize) -> bool {
+    match (packet_at(world, one), packet_at(world, other)) {
+        (Some(one), Some(other)) => one.bytes.as_slice() == other.bytes.as_slice(),
+        _ => false,
+    }
+}
+
+/// UpdateComponent of the first component, packet 14, comes again while the second is loaded: its answer, packet 15, is sent again.
+#[test]
+fn a_late_request_meets_its_kept_answer(rt: HostRuntime) -> Result<(), Fail> {
+    let bytes = file(rt.alloc())?;
+    let packages = [package(&bytes)?];
+    let mut world = world(rt.alloc(), &packages, 1, 2)?;
+    let late = Step::Deliver(DEVICE, 14, DEVICE);
+    step(&mut world, &Step::Start(DEVICE, 1))?;
+    let mut delivered = 0;
+    for _ in 0..14 {
+        delivered = turn(&mut world, delivered)?;
+    }
+    step(&mut world, &Step::Tick)?;
+    assert!(rt; world.now() == 15 && asks_for_last(&world, 36, 15));
+    assert!(rt; waits_for_last(&world));
+    step(&mut world, &late)?;
+    assert!(rt; world.packets(DEVICE).map(|it| it.len()) == Some(37));
+    assert!(rt; is_same(&world, 37, 15));
+    assert!(rt; waits_for_last(&world));
+    step(&mut world, &Step::Tick)?;
+    assert!(rt; step(&mut world, &late) == Err(StepFault::Dead));
+    Ok(())
+}
