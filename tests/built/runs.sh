@@ -64,6 +64,13 @@ on_a_terminal() {
     compare 'progress' 'device 9 component 10 1: 0 of 241 bytes' "$(shown_by run data/worlds/one.config "$work" | grep -o 'device 9.*bytes' | head -n 1)"
     compare 'progress is taken away' "$(printf '%72s' '')" "$(shown_by run data/worlds/one.config "$work" | tr '\r' '\n' | tail -n 1)"
     compare 'no progress' '' "$(shown_by run --quiet data/worlds/one.config "$work")"
+    mkdir -p "$work/taken"
+    touch "$work/taken/9.sock"
+    compare 'why a socket is refused' 'fwupd: socket: 9
+9.sock: this name is taken, as a run that was killed leaves it: remove it unless another run goes on' \
+        "$(shown_by run --quiet data/worlds/one.config "$work/taken" | tr -d '\r')"
+    compare 'why a socket is not made' 'fwupd: socket: 9
+9.sock: No such file or directory (os error 2)' "$(shown_by run --quiet data/worlds/one.config "$work/none" | tr -d '\r')"
 }
 
 # What is shown of a longer run, in which four devices load three images of a MiB each: how far the first device is, again and

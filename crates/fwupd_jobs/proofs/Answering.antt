@@ -1,10 +1,10 @@
 -- How far answers are.
 use Rattle.std.proofs.Common.{◌≡◌, ◌≢◌, ◌++◌, ◌∙◌, ℕ, List, [], false, true, Option, Some, None, Result, Ok, Err, inl, inr, append-nil, ap, take, subst, sym, refl}
-use Rattle.std.specs.Prelude.{IfErr, IfSome, OnOk}
+use Rattle.std.specs.Prelude.{IfErr, OnOk}
 use Rattle.std.specs.Io.KnownBytes.{Appends, Keeps, append_known}
 use Rattle.mctp_ctl.specs.declared.answers.Endpoint.{Endpoint}
 use Rattle.fwupd_base.specs.Answers.{answers_of, lines_text, printed, tid_along}
-use Rattle.fwupd_base.specs.Stream.{Broken, BrokenOff, Stopped}
+use Rattle.fwupd_base.specs.Stream.{Answered, Broken, BrokenOff, Stopped}
 use Rattle.fwupd_base.specs.declared.stream.AnswerFault.{AnswerFault}
 use Rattle.fwupd_base.specs.declared.stream.AnswerFault.TheVariants as answers
 use Rattle.fwupd_jobs.specs.Answering.{AnswerEnds, IsAnswered}
@@ -23,9 +23,8 @@ appends_kept (Some xs) None v text h k = absurd h
 appends_kept (Some xs) (Some ys) None text h k = absurd k
 appends_kept (Some xs) (Some ys) (Some zs) text h k = k ∙ h
 
-text_kept : (e : Endpoint) (read before w v : Option (List ℕ)) → IfSome read (λ text. Appends before w (answers_of e text)) → Keeps w v → IfSome read (λ text. Appends before v (answers_of e text))
-text_kept e None before w v h k = h
-text_kept e (Some text) before w v h k = appends_kept before w v (answers_of e text) h k
+all_kept : (e : Endpoint) (rb rn before w v : Option (List ℕ)) → Answered e rb rn before w → Keeps w v → Answered e rb rn before v
+all_kept e rb rn before w v h k = record { text = h.text; most = h.most; read = h.read; end = h.end; written = appends_kept before w v (answers_of e h.text) h.written k }
 
 stopped_kept : (e : Endpoint) (fault : AnswerFault) (rb rn before w v : Option (List ℕ)) → Stopped e fault rb rn before w → Keeps w v → Stopped e fault rb rn before v
 stopped_kept e fault rb rn before w v h k = record {
@@ -63,14 +62,14 @@ broken_kept e rb rn before w v h k = record {
 
 -- how far the answers are, where what is written is kept
 answered_kept : (e : Endpoint) (end : Result Unit AnswerFault) (rb rn before w v : Option (List ℕ)) → IsAnswered e end rb rn before w → Keeps w v → IsAnswered e end rb rn before v
-answered_kept e (Ok u) rb rn before w v h k = text_kept e rb before w v h k
+answered_kept e (Ok u) rb rn before w v h k = all_kept e rb rn before w v h k
 answered_kept e (Err answers.Read) rb rn before w v h k = stopped_kept e answers.Read rb rn before w v h k
 answered_kept e (Err answers.Write) rb rn before w v h k = broken_kept e rb rn before w v h k
 answered_kept e (Err answers.Memory) rb rn before w v h k = stopped_kept e answers.Memory rb rn before w v h k
 
 -- the clauses of a run of answers, in one
 pub answered_so : (e : Endpoint) (end : Result Unit AnswerFault) (rb rn before w : Option (List ℕ))
-    → OnOk end (IfSome rb (λ text. Appends before w (answers_of e text)))
+    → OnOk end (Answered e rb rn before w)
     → IfErr end (λ f. f ≢ answers.Write → Stopped e f rb rn before w)
     → IfErr end (λ f. f ≡ answers.Write → Broken e rb rn before w)
     → IsAnswered e end rb rn before w

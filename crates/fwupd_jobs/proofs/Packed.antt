@@ -1,5 +1,5 @@
 -- Files that are read one after the other.
-use Rattle.std.proofs.Common.{◌≡◌, ◌≢◌, ◌<◌, ◌+◌, ◌++◌, ◌⊎◌, ◌∙◌, ℕ, suc, List, [], ◌∷◌, false, true, Result, Ok, Err, IsOk, inl, inr, length, map, take, get_or, Vec, String, Global, refl, sym, ap, subst, arith}
+use Rattle.std.proofs.Common.{◌≡◌, ◌≢◌, ◌<◌, ◌+◌, ◌++◌, ◌⊎◌, ◌∙◌, ℕ, zero, suc, Bool, List, [], ◌∷◌, false, true, Result, Ok, Err, IsOk, inl, inr, length, map, take, get_or, Vec, String, Global, refl, sym, ap, subst, arith}
 use Rattle.std.specs.Prelude.{drop, string_bytes}
 use Rattle.std.proofs.Math.Seq.{split_at, take-suc}
 use Rattle.std.proofs.lemmas.List.{map-append}
@@ -16,8 +16,8 @@ use Rattle.fw_script.specs.declared.faults.ScriptFault.{ScriptFault}
 use Rattle.fw_world.specs.Replays.{new_world}
 use Rattle.fw_world.specs.Worlds.{WorldOf}
 use Rattle.fwupd_jobs.specs.Nodes.{nodes_made}
-use Rattle.fwupd_jobs.specs.Running.{IsApart, IsNamed, IsWatched, ShowOf}
-use Rattle.fwupd_jobs.specs.Setups.{ArePackages, ArePacked, FileOf, IsPacked, IsSetup, IsUnreadable, IsUnsaid, MayHold, NamesNone, PackageFails, PackagesFail, Says, TextFails, TextFault}
+use Rattle.fwupd_jobs.specs.Running.{IsApart, IsBarred, IsNamed, IsWatched, LacksTrace, ShowOf, WatchOf}
+use Rattle.fwupd_jobs.specs.Setups.{ArePackages, ArePacked, FileOf, IsOver, IsOverOne, IsPacked, IsSetup, IsUnreadable, IsUnsaid, MayHold, NamesNone, PackageFails, PackagesFail, Says, TextFails, TextFault}
 use Rattle.fwupd_jobs.specs.declared.faults.RunFault.{RunFault}
 use Rattle.fwupd_jobs.specs.declared.faults.RunFault.TheVariants as faults
 use Rattle.fwupd_jobs.specs.declared.files.FileFault.{FileFault}
@@ -130,6 +130,13 @@ fails_at files paths i p name contents told lt is called h (inr f) =
     (ap (map (λ q. string_bytes q)) split ∙ map-append (λ q. string_bytes q) (take i paths) (p ∷ drop (suc i) paths)) h
     (subst (λ n. PackageFails files n told) called f))
 
+-- what is written is over the file of a path among texts
+pub over_item : (files : List ℕ → FileOf) (written : List ℕ) (others : List (String Global)) (i : ℕ) (other : String Global) (name : List ℕ) → i < length others → other ≡ get_or others i other
+    → name ≡ string_bytes other → IsOver files written name → IsOverOne files written (map (λ p. string_bytes p) others)
+over_item files written [] i other name lt is called h = absurd (omega arith)
+over_item files written (x ∷ others) zero other name lt is called h = inl (subst (IsOver files written) (called ∙ ap (λ p. string_bytes p) is) h)
+over_item files written (x ∷ others) (suc i) other name lt is called h = inr (over_item files written others i other name (omega arith) is called h)
+
 -- the bytes of the files, as vectors
 through : (fs : List (Vec ℕ Global)) → map (λ f. package_of f.items) fs ≡ map package_of (map (λ f. f.items) fs)
 through [] = refl
@@ -195,21 +202,38 @@ named_up files path config w s is some = record {
 }
 
 pub set_up_named : (files : List ℕ → FileOf) (path : List ℕ) (config : Config) (names : List (String Global)) (contents slice : List (Vec ℕ Global)) (ps packs : List PackageText)
-    (nodes : List DeviceNodeOf) (w : WorldOf) → Says config_of (files path) (config_seen config) → names ≡ config.packages.items
+    (w : WorldOf) → Says config_of (files path) (config_seen config) → names ≡ config.packages.items
     → ArePacked files (map (λ p. string_bytes p) names) (map (λ f. f.items) contents) → slice ≡ contents → map (λ p. Ok p) ps ≡ map (λ f. package_of f.items) slice
-    → nodes ≡ nodes_made config.agent.eid (map device_of config.devices.items) → packs ≡ ps → w ≡ new_world config.agent nodes packs → (config.packages.len ≡ 0 → ⊥) → IsNamed files path w
+    → packs ≡ ps → w ≡ new_world config.agent (nodes_made config.agent.eid (map device_of config.devices.items)) packs → (config.packages.len ≡ 0 → ⊥) → IsNamed files path w
 unfolding set_up
-set_up_named files path config names contents slice ps packs nodes w says named packed same read made lent is some =
-    named_up files path config w (set_up files path config names contents slice ps packs nodes w says named packed same read made lent is) refl some
+set_up_named files path config names contents slice ps packs w says named packed same read lent is some =
+    named_up files path config w (set_up files path config names contents slice ps packs _ w says named packed same read refl lent is) refl some
 
 -- where the packets are written over none of them
 pub watched_up : (files : List ℕ → FileOf) (path : List ℕ) (config : Config) (show : ShowOf) (names : List (String Global)) (contents slice : List (Vec ℕ Global)) (ps packs : List PackageText)
-    (nodes : List DeviceNodeOf) (w : WorldOf) → Says config_of (files path) (config_seen config) → names ≡ config.packages.items
+    (w : WorldOf) → Says config_of (files path) (config_seen config) → names ≡ config.packages.items
     → ArePacked files (map (λ p. string_bytes p) names) (map (λ f. f.items) contents) → slice ≡ contents → map (λ p. Ok p) ps ≡ map (λ f. package_of f.items) slice
-    → nodes ≡ nodes_made config.agent.eid (map device_of config.devices.items) → packs ≡ ps → w ≡ new_world config.agent nodes packs → (config.packages.len ≡ 0 → ⊥)
-    → (others : List (String Global)) → others ≡ config.packages.items → IsApart show (path ∷ map (λ p. string_bytes p) others) → IsWatched files path show w
+    → packs ≡ ps → w ≡ new_world config.agent (nodes_made config.agent.eid (map device_of config.devices.items)) packs → (config.packages.len ≡ 0 → ⊥)
+    → (others : List (String Global)) → others ≡ config.packages.items → IsApart files show (path ∷ map (λ p. string_bytes p) others) → IsWatched files path show w
 unfolding set_up_named set_up named_up
-watched_up files path config show names contents slice ps packs nodes w says named packed same read made lent is some others are apart = record {
-  named = set_up_named files path config names contents slice ps packs nodes w says named packed same read made lent is some;
-  apart = subst (λ qs. IsApart show (path ∷ map (λ p. string_bytes p) qs)) are apart;
+watched_up files path config show names contents slice ps packs w says named packed same read lent is some others are apart = record {
+  named = set_up_named files path config names contents slice ps packs w says named packed same read lent is some;
+  apart = subst (λ qs. IsApart files show (path ∷ map (λ p. string_bytes p) qs)) are apart;
 }
+
+-- where what looks on doesn't begin
+pub barred_up : (files : List ℕ → FileOf) (path : List ℕ) (config : Config) (show : ShowOf) (refuses : List ℕ → Bool) (told : RunFault) (watched : WatchOf) (names : List (String Global))
+    (contents slice : List (Vec ℕ Global)) (ps packs : List PackageText) (w : WorldOf) → Says config_of (files path) (config_seen config) → names ≡ config.packages.items
+    → ArePacked files (map (λ p. string_bytes p) names) (map (λ f. f.items) contents) → slice ≡ contents → map (λ p. Ok p) ps ≡ map (λ f. package_of f.items) slice
+    → packs ≡ ps → w ≡ new_world config.agent (nodes_made config.agent.eid (map device_of config.devices.items)) packs → (config.packages.len ≡ 0 → ⊥)
+    → (others : List (String Global)) → others ≡ config.packages.items
+    → (told ≡ faults.Memory) ⊎ ((told ≡ faults.Trace) × IsBarred files refuses show (path ∷ map (λ p. string_bytes p) others) watched)
+    → (told ≡ faults.Memory) ⊎ LacksTrace files path show refuses told watched
+unfolding set_up_named set_up named_up
+barred_up files path config show refuses told watched names contents slice ps packs w says named packed same read lent is some others are (inl e) = inl e
+barred_up files path config show refuses told watched names contents slice ps packs w says named packed same read lent is some others are (inr h) = inr (record {
+  is = h.0;
+  world = w;
+  named = set_up_named files path config names contents slice ps packs w says named packed same read lent is some;
+  barred = subst (λ qs. IsBarred files refuses show (path ∷ map (λ p. string_bytes p) qs) watched) are h.1;
+})

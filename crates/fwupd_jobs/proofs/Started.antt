@@ -1,8 +1,9 @@
 -- Updates that are started one by one, and the steps that follow.
-use Rattle.std.proofs.Common.{◌≡◌, ◌⊎◌, ◌+◌, ◌-◌, ◌^◌, ◌++◌, ◌∙◌, ℕ, zero, suc, List, [], ◌∷◌, Some, None, Bool, true, Result, Err, inl, inr, append_assoc, append-nil, arith, length, map, refl, sym, ap, subst, take}
+use Rattle.std.proofs.Common.{◌≡◌, ◌⊎◌, ◌+◌, ◌-◌, ◌^◌, ◌++◌, ◌∙◌, ℕ, zero, suc, List, [], ◌∷◌, Some, None, Bool, true, Result, Err, inl, inr, append_assoc, append-nil, arith, ◌<◌, get_or, length, map, refl, sym, ap, subst, take}
 use Rattle.std.specs.Prelude.{IfErr, IfSome, Option, option_map, slice_get}
 use Rattle.std.proofs.Math.Seq.{take-length}
 use Rattle.std.proofs.lemmas.List.{map-append}
+use Rattle.std.proofs.lemmas.Option.{slice_get-get_or, slice_get-map}
 use Rattle.std.proofs.lemmas.List.Sums.{sum_by-append}
 use Rattle.fw_edge.specs.Drives.{AreDriven, Drives, tick_in, ticks_in}
 use Rattle.fw_edge.proofs.Going.{driven_append, run_append}
@@ -16,7 +17,7 @@ use Rattle.fw_world.specs.declared.step.Step.{Step}
 use Rattle.fw_world.specs.declared.step.Step.TheVariants as steps
 use Rattle.fw_edge.specs.declared.driving.EdgeFault.{EdgeFault}
 use Rattle.fw_edge.specs.declared.driving.EdgeFault.TheVariants as edges
-use Rattle.fwupd_jobs.specs.Running.{IsCaused, IsRefusedStart, IsUnlinked, MayEnd, StepsLead, Updates, WatchOf, starts_of, told_by, told_of}
+use Rattle.fwupd_jobs.specs.Running.{IsCaused, IsLost, IsRefusedStart, IsUnlinked, MayEnd, StepsLead, Updates, WatchOf, starts_of, told_by, told_of}
 use Rattle.fwupd_jobs.specs.declared.faults.RunFault.{RunFault}
 use Rattle.fwupd_jobs.specs.declared.faults.RunFault.TheVariants as told
 use Rattle.fwupd_jobs.specs.declared.running.WatchFault.{WatchFault}
@@ -170,3 +171,24 @@ unlinked_at w lacks place device n fault at is (inr h) =
 -- as many counts as there are links, one a pair
 pub counted_alike : {A : Type 0} (sites : List SiteOf) (f : A → ℕ) (xs : List A) → length xs ≡ length sites → length (packet_counts sites) ≡ length (map f xs)
 counted_alike sites f xs e = map_length (λ x. length x.packets) sites ∙ sym e ∙ sym (map_length f xs)
+
+some_failures : (count : ℕ) → 0 < count → (n : ℕ) × (count ≡ suc n)
+some_failures zero more = absurd (omega arith)
+some_failures (suc n) more = (n, refl)
+
+-- the device at the place of a link that has failed
+pub lost_at : {A : Type 0} (w : WorldOf) (failures : A → ℕ) (links : List A) (link : A) (place device count : ℕ) (n : DeviceNodeOf) → place < length links → link ≡ get_or links place link
+    → count ≡ failures link → 0 < count → option_map (λ x. x.node) (slice_get w.sites place) ≡ Some n → device ≡ n.endpoint.eid → IsLost w (map failures links) device
+lost_at w failures links link place device count n lt is told more at named =
+    let there = node_there (slice_get w.sites place) n at in
+    let some = some_failures count more in
+    record {
+      place = place;
+      count = some.0;
+      failed =
+          slice_get-map failures links place ∙ ap (option_map failures) (slice_get-get_or links place link lt ∙ ap Some (sym is))
+          ∙ ap Some (sym told ∙ some.1);
+      site = there.0;
+      at = there.1;
+      is = named ∙ ap (λ m. m.endpoint.eid) (sym there.2);
+    }

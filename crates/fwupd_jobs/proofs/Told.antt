@@ -1,5 +1,5 @@
 -- What is told of a job on a world.
-use Rattle.std.proofs.Common.{◌++◌, take, ◌≡◌, ◌≢◌, ◌⊎◌, ◌<◌, ◌+◌, ℕ, Bool, List, Option, None, Some, inl, inr, length, refl, ap, subst}
+use Rattle.std.proofs.Common.{◌++◌, take, ◌≡◌, ◌⊎◌, ◌<◌, ◌+◌, ℕ, Bool, List, Option, None, Some, inl, inr, length, refl, ap, subst}
 use Rattle.fw_script.specs.Reports.{report_of}
 use Rattle.fw_script.specs.Schedules.{script_of}
 use Rattle.fw_world.specs.Replays.{IsOpeningWorld}
@@ -10,12 +10,10 @@ use Rattle.fw_world.specs.declared.step.StepFault.{StepFault}
 use Rattle.fwupd_jobs.specs.Replayed.{IsReplayed, IsReport, Leaves, ReplayEnds, Reports}
 use Rattle.fwupd_jobs.specs.Outputs.{FailsToPrint, OutputOf, Prints}
 use Rattle.fwupd_jobs.specs.Promises.{IsSafeSince}
-use Rattle.fwupd_jobs.specs.Running.{DrivingEnds, IsNamed, IsUnlinked, IsWatched, LacksLink, LacksTrace, ShowOf, StepsLead, UpdateEnds, WatchOf, shown_of, starts_of, told_by}
+use Rattle.fwupd_jobs.specs.Running.{DrivingEnds, IsUnlinked, IsWatched, LacksLink, LacksTrace, ShowOf, StepsLead, UpdateEnds, WatchOf, shown_of, starts_of}
 use Rattle.fwupd_jobs.specs.Setups.{FileOf, IsSetup, NamesNone, Says, SetupFails, TextFails}
 use Rattle.fwupd_jobs.specs.declared.faults.RunFault.{RunFault}
 use Rattle.fwupd_jobs.specs.declared.faults.RunFault.TheVariants as faults
-use Rattle.fwupd_jobs.specs.declared.running.WatchFault.{WatchFault}
-use Rattle.fwupd_jobs.specs.declared.running.WatchFault.TheVariants as watches
 
 -- the world that steps lead to is safe
 pub safe_reached : (w v : WorldOf) → WorldsAreSafe → IsOpeningWorld w → StepsLead w v → IsSafeSince w v
@@ -38,33 +36,30 @@ replayed_by w x v steps fault text is opens law left report =
     })
 
 -- what looks on doesn't begin
-pub unbegun : (files : List ℕ → FileOf) (path : List ℕ) (show : ShowOf) (lacks : ℕ → Bool) (w : WorldOf) (fault : WatchFault) (told : RunFault) (watched : WatchOf) (before : OutputOf)
-    → IsNamed files path w → told ≡ told_by fault → watched.fault ≡ Some fault → (fault ≡ watches.Unwritten → show.trace ≢ None) → UpdateEnds files path show lacks told watched before before
-unbegun files path show lacks w watches.Unwritten told watched before named is seen asked = inr (inr (record {
-  kept = refl;
-  cause = inr (inr (inr (inl (record { is = is; world = w; named = named; asked = asked refl; unwritten = seen }))));
-}))
-unbegun files path show lacks w watches.Memory told watched before named is seen asked = inr (inr (record { kept = refl; cause = inl is }))
+pub unbegun : (files : List ℕ → FileOf) (path : List ℕ) (show : ShowOf) (refuses : List ℕ → Bool) (lacks : ℕ → Bool) (told : RunFault) (watched : WatchOf) (before : OutputOf)
+    → (told ≡ faults.Memory) ⊎ LacksTrace files path show refuses told watched → UpdateEnds files path show refuses lacks told watched before before
+unbegun files path show refuses lacks told watched before (inl e) = inr (inr (record { kept = refl; cause = inl e }))
+unbegun files path show refuses lacks told watched before (inr h) = inr (inr (record { kept = refl; cause = inr (inr (inr (inl h))) }))
 
 -- no link is opened
-unopened : (files : List ℕ → FileOf) (path : List ℕ) (show : ShowOf) (lacks : ℕ → Bool) (w : WorldOf) (told : RunFault) (watched : WatchOf) → IsWatched files path show w
+unopened : (files : List ℕ → FileOf) (path : List ℕ) (show : ShowOf) (refuses : List ℕ → Bool) (lacks : ℕ → Bool) (w : WorldOf) (told : RunFault) (watched : WatchOf) → IsWatched files path show w
     → (told ≡ faults.Memory) ⊎ IsUnlinked w lacks told
     → (told ≡ faults.Memory)
     ⊎ (SetupFails files path told
-    ⊎ (((told ≡ faults.NoPackage) × NamesNone files path) ⊎ (LacksTrace files path show told watched ⊎ LacksLink files path show lacks told)))
-unopened files path show lacks w told watched begins (inl e) = inl e
-unopened files path show lacks w told watched begins (inr u) = inr (inr (inr (inr (record { world = w; begins = begins; unlinked = u }))))
+    ⊎ (((told ≡ faults.NoPackage) × NamesNone files path) ⊎ (LacksTrace files path show refuses told watched ⊎ LacksLink files path show lacks told)))
+unopened files path show refuses lacks w told watched begins (inl e) = inl e
+unopened files path show refuses lacks w told watched begins (inr u) = inr (inr (inr (inr (record { world = w; begins = begins; unlinked = u }))))
 
 -- a run over links that doesn't end well
-pub update_ends : (files : List ℕ → FileOf) (path : List ℕ) (show : ShowOf) (lacks : ℕ → Bool) (w v : WorldOf) (told : RunFault) (watched : WatchOf) (before now : OutputOf)
+pub update_ends : (files : List ℕ → FileOf) (path : List ℕ) (show : ShowOf) (refuses : List ℕ → Bool) (lacks : ℕ → Bool) (w v : WorldOf) (told : RunFault) (watched : WatchOf) (before now : OutputOf)
     → IsWatched files path show w → watched.shows ≡ shown_of show → StepsLead w v → IsSafeSince w v → DrivingEnds lacks w v told watched before now
-    → UpdateEnds files path show lacks told watched before now
-update_ends files path show lacks w v told watched before now begins shown reached promised (inl h) =
+    → UpdateEnds files path show refuses lacks told watched before now
+update_ends files path show refuses lacks w v told watched before now begins shown reached promised (inl h) =
     inl (record { world = w; begins = begins; shown = shown; left = v; reached = reached; promised = promised; caused = h.0; written = h.1 })
-update_ends files path show lacks w v told watched before now begins shown reached promised (inr (inl h)) =
+update_ends files path show refuses lacks w v told watched before now begins shown reached promised (inr (inl h)) =
     inr (inl (record { is = h.0; world = w; begins = begins; left = v; reached = reached; promised = promised; begun = h.1 }))
-update_ends files path show lacks w v told watched before now begins shown reached promised (inr (inr h)) =
-    inr (inr (record { kept = h.1; cause = unopened files path show lacks w told watched begins h.0 }))
+update_ends files path show refuses lacks w v told watched before now begins shown reached promised (inr (inr h)) =
+    inr (inr (record { kept = h.1; cause = unopened files path show refuses lacks w told watched begins h.0 }))
 
 -- a replay whose schedule isn't read
 pub schedule_ends : (files : List ℕ → FileOf) (config schedule : List ℕ) (w : WorldOf) (told : RunFault) (before : OutputOf) → IsSetup files config w

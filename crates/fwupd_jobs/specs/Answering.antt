@@ -1,9 +1,8 @@
 -- What is written of the answers to what is read.
-use Rattle.std.specs.Prelude.{ℕ, ◌≡◌, ◌≢◌, ◌≤◌, ◌⊎◌, false, true, List, Option, Result, Ok, Err, IfSome, length}
-use Rattle.std.specs.Io.KnownBytes.{Appends, append_known}
+use Rattle.std.specs.Prelude.{ℕ, ◌≡◌, ◌≢◌, ◌⊎◌, false, true, List, Option, Result, Ok, Err}
+use Rattle.std.specs.Io.KnownBytes.{append_known}
 use Rattle.mctp_ctl.specs.declared.answers.Endpoint.{Endpoint}
-use Rattle.fwupd_base.specs.Answers.{answers_of}
-use Rattle.fwupd_base.specs.Stream.{Broken, Stopped}
+use Rattle.fwupd_base.specs.Stream.{Answered, Broken, Stopped}
 use Rattle.fwupd_base.specs.declared.stream.AnswerFault.{AnswerFault}
 use Rattle.fwupd_base.specs.declared.stream.AnswerFault.TheVariants as answers
 use Rattle.fwupd_jobs.specs.Outputs.{OutputOf}
@@ -11,15 +10,14 @@ use Rattle.fwupd_jobs.specs.declared.faults.RunFault.{RunFault}
 use Rattle.fwupd_jobs.specs.declared.faults.RunFault.TheVariants as faults
 
 -- All that was read is answered, and no write failed.
-pub record Answers (e : Endpoint) (read : Option (List ℕ)) (before now : OutputOf) : Type 0 where
+pub record Answers (e : Endpoint) (read_before read_now : Option (List ℕ)) (before now : OutputOf) : Type 0 where
   pub intact : before.is_broken ≡ false
   pub whole : now.is_broken ≡ false
-  pub within : IfSome read (λ text. length text ≤ 16777216)
-  pub written : IfSome read (λ text. Appends before.written now.written (answers_of e text))
+  pub answered : Answered e read_before read_now before.written now.written
 
 -- how far the answers are where answering ends so
 abbrev pub IsAnswered : Endpoint → Result Unit AnswerFault → (read_before read_now written_before written_now : Option (List ℕ)) → Type 0
-IsAnswered e (Ok _) read_before read_now written_before written_now = IfSome read_before (λ text. Appends written_before written_now (answers_of e text))
+IsAnswered e (Ok _) read_before read_now written_before written_now = Answered e read_before read_now written_before written_now
 IsAnswered e (Err answers.Write) read_before read_now written_before written_now = Broken e read_before read_now written_before written_now
 IsAnswered e (Err fault) read_before read_now written_before written_now = Stopped e fault read_before read_now written_before written_now
 

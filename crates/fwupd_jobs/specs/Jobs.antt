@@ -11,16 +11,16 @@ use Rattle.fwupd_jobs.specs.declared.command_line.Job.TheVariants as jobs
 use Rattle.fwupd_jobs.specs.declared.faults.RunFault.{RunFault}
 
 -- A job is done: what it was asked for is written.
-abbrev pub IsDone : Job → (files : List ℕ → FileOf) → (read : Option (List ℕ)) → WatchOf → (before now : OutputOf) → Type 0
-IsDone (jobs.Answer endpoint) files read watched before now = Answers endpoint read before now
-IsDone (jobs.Inspect path) files read watched before now = Inspects (files path.now) before now
-IsDone (jobs.Replay config schedule) files read watched before now = Reports files config.now schedule.now None before now
-IsDone (jobs.Run config folder show) files read watched before now = ReportsUpdate files config.now (show_of show) watched before now
+abbrev pub IsDone : Job → (files : List ℕ → FileOf) → (read_before read_now : Option (List ℕ)) → WatchOf → (before now : OutputOf) → Type 0
+IsDone (jobs.Answer endpoint) files read_before read_now watched before now = Answers endpoint read_before read_now before now
+IsDone (jobs.Inspect path) files read_before read_now watched before now = Inspects (files path.now) before now
+IsDone (jobs.Replay config schedule) files read_before read_now watched before now = Reports files config.now schedule.now None before now
+IsDone (jobs.Run config folder show) files read_before read_now watched before now = ReportsUpdate files config.now (show_of show) watched before now
 
 -- How a job ends that isn't done.
-abbrev pub JobEnds : Job → (files : List ℕ → FileOf) → (lacks : (folder : List ℕ) → (device : ℕ) → Bool) → (read_before read_now : Option (List ℕ)) → RunFault → WatchOf → (before now : OutputOf) → Type 0
-JobEnds (jobs.Answer endpoint) files lacks read_before read_now told watched before now = AnswerEnds endpoint read_before read_now told before now
-JobEnds (jobs.Inspect path) files lacks read_before read_now told watched before now = InspectEnds files path.now told before now
-JobEnds (jobs.Replay config schedule) files lacks read_before read_now told watched before now = ReplayEnds files config.now schedule.now told before now
-JobEnds (jobs.Run config folder show) files lacks read_before read_now told watched before now =
-    UpdateEnds files config.now (show_of show) (lacks folder.now) told watched before now
+abbrev pub JobEnds : Job → (files : List ℕ → FileOf) → (refuses : (trace : List ℕ) → Bool) → (lacks : (folder : List ℕ) → (device : ℕ) → Bool) → (read_before read_now : Option (List ℕ)) → RunFault → WatchOf → (before now : OutputOf) → Type 0
+JobEnds (jobs.Answer endpoint) files refuses lacks read_before read_now told watched before now = AnswerEnds endpoint read_before read_now told before now
+JobEnds (jobs.Inspect path) files refuses lacks read_before read_now told watched before now = InspectEnds files path.now told before now
+JobEnds (jobs.Replay config schedule) files refuses lacks read_before read_now told watched before now = ReplayEnds files config.now schedule.now told before now
+JobEnds (jobs.Run config folder show) files refuses lacks read_before read_now told watched before now =
+    UpdateEnds files config.now (show_of show) refuses (lacks folder.now) told watched before now

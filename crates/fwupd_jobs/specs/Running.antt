@@ -1,5 +1,5 @@
 -- What a run over links makes of a world, and what is written of it.
-use Rattle.std.specs.Prelude.{ℕ, ◌≡◌, ◌≢◌, ◌≤◌, ◌-◌, ◌^◌, ◌++◌, ◌⊎◌, Bool, true, List, [], ◌∷◌, Option, None, Some, IfSome, is_some, length, map, option_map, slice_get, take}
+use Rattle.std.specs.Prelude.{ℕ, suc, ◌≡◌, ◌≢◌, ◌≤◌, ◌-◌, ◌^◌, ◌++◌, ◌⊎◌, Bool, true, List, [], ◌∷◌, Option, None, Some, IfSome, is_some, length, map, option_map, slice_get, take}
 use Rattle.std.specs.List.{AllByRecursion}
 use Rattle.fw_edge.specs.Drives.{AreDriven, all_over, ticks_in}
 use Rattle.fw_edge.specs.declared.driving.EdgeFault.{EdgeFault}
@@ -12,7 +12,7 @@ use Rattle.fw_world.specs.declared.step.Step.{Step}
 use Rattle.fw_world.specs.declared.step.Step.TheVariants as steps
 use Rattle.fwupd_jobs.specs.Outputs.{FailsToPrint, OutputOf, Prints}
 use Rattle.fwupd_jobs.specs.Promises.{IsSafeSince}
-use Rattle.fwupd_jobs.specs.Setups.{FileOf, IsSetup, NamesNone, SetupFails}
+use Rattle.fwupd_jobs.specs.Setups.{FileOf, IsApartFrom, IsOverOne, IsSetup, NamesNone, SetupFails}
 use Rattle.fwupd_jobs.specs.declared.command_line.Show.{Show}
 use Rattle.fwupd_jobs.specs.declared.faults.RunFault.{RunFault}
 use Rattle.fwupd_jobs.specs.declared.faults.RunFault.TheVariants as faults
@@ -103,9 +103,21 @@ pub record WatchOf : Type 0 where
   pub shows : ShownOf
   pub has_ended : Bool
 
--- The packets are written to none of the files of these paths.
-abbrev pub IsApart : ShowOf → List (List ℕ) → Type 0
-IsApart show paths = IfSome show.trace (λ trace. AllByRecursion (λ path. path ≢ trace) paths)
+-- The packets are written over none of the files of these paths.
+abbrev pub IsApart : (files : List ℕ → FileOf) → ShowOf → List (List ℕ) → Type 0
+IsApart files show paths = IfSome show.trace (λ trace. AllByRecursion (IsApartFrom files trace) paths)
+
+-- The file that they are written to may be refused.
+pub record MayRefuse (refuses : List ℕ → Bool) (show : ShowOf) : Type 0 where
+  pub trace : List ℕ
+  pub asked : show.trace ≡ Some trace
+  pub refused : refuses trace ≡ true
+
+-- What looks on doesn't begin: the packets would be written over the file of one of these paths, or their file is refused.
+pub record IsBarred (files : List ℕ → FileOf) (refuses : List ℕ → Bool) (show : ShowOf) (paths : List (List ℕ)) (watched : WatchOf) : Type 0 where
+  pub trace : List ℕ
+  pub asked : show.trace ≡ Some trace
+  pub cause : IsOverOne files trace paths ⊎ ((watched.fault ≡ Some watches.Unwritten) × MayRefuse refuses show)
 
 -- Why a run doesn't go on is so: a start is refused or the clock stands at its end, and what looks on can't be written. It was let end.
 pub record IsCaused (w v : WorldOf) (told : RunFault) (watched : WatchOf) : Type 0 where
@@ -122,6 +134,15 @@ pub record IsUnlinked (w : WorldOf) (lacks : ℕ → Bool) (told : RunFault) : T
   pub is : told ≡ faults.Socket site.node.endpoint.eid
   pub lacking : lacks site.node.endpoint.eid ≡ true
 
+-- The link at this device's place among those of a world has failed.
+pub record IsLost (w : WorldOf) (failures : List ℕ) (device : ℕ) : Type 0 where
+  pub place : ℕ
+  pub count : ℕ
+  pub failed : slice_get failures place ≡ Some (suc count)
+  pub site : SiteOf
+  pub at : slice_get w.sites place ≡ Some site
+  pub is : device ≡ site.node.endpoint.eid
+
 -- Where the links of a world are driven and the run doesn't end well: the report of the world that was reached is written, or a
 -- beginning of it, or nothing.
 abbrev pub DrivingEnds : (lacks : ℕ → Bool) (w v : WorldOf) → RunFault → WatchOf → (before now : OutputOf) → Type 0
@@ -137,7 +158,7 @@ pub record IsNamed (files : List ℕ → FileOf) (config : List ℕ) (w : WorldO
 -- The world of a configuration over none of whose files the packets are written.
 pub record IsWatched (files : List ℕ → FileOf) (config : List ℕ) (show : ShowOf) (w : WorldOf) : Type 0 where
   pub named : IsNamed files config w
-  pub apart : IsApart show (config ∷ named.setup.config.packages)
+  pub apart : IsApart files show (config ∷ named.setup.config.packages)
 
 -- The report is written of what an update leaves of the world that a configuration's file is of, and what looks on showed what it
 -- is to show, had no fault, and was let end.
@@ -173,13 +194,12 @@ pub record BreaksReport (files : List ℕ → FileOf) (config : List ℕ) (show 
   pub promised : IsSafeSince world left
   pub begun : FailsToPrint before now (report_of left)
 
--- Before a link is opened, what looks on doesn't begin: the packets can't be written, or only over a file that was read.
-pub record LacksTrace (files : List ℕ → FileOf) (config : List ℕ) (show : ShowOf) (told : RunFault) (watched : WatchOf) : Type 0 where
+-- Before a link is opened, what looks on doesn't begin.
+pub record LacksTrace (files : List ℕ → FileOf) (config : List ℕ) (show : ShowOf) (refuses : List ℕ → Bool) (told : RunFault) (watched : WatchOf) : Type 0 where
   pub is : told ≡ faults.Trace
   pub world : WorldOf
   pub named : IsNamed files config world
-  pub asked : show.trace ≢ None
-  pub unwritten : watched.fault ≡ Some watches.Unwritten
+  pub barred : IsBarred files refuses show (config ∷ named.setup.config.packages) watched
 
 -- No link to a device of the configuration is opened.
 pub record LacksLink (files : List ℕ → FileOf) (config : List ℕ) (show : ShowOf) (lacks : ℕ → Bool) (told : RunFault) : Type 0 where
@@ -188,15 +208,15 @@ pub record LacksLink (files : List ℕ → FileOf) (config : List ℕ) (show : S
   pub unlinked : IsUnlinked world lacks told
 
 -- Nothing is written: memory was refused, or there is no world, no package, no trace or no link.
-pub record ReportsNothing (files : List ℕ → FileOf) (config : List ℕ) (show : ShowOf) (lacks : ℕ → Bool) (told : RunFault) (watched : WatchOf) (before now : OutputOf) : Type 0 where
+pub record ReportsNothing (files : List ℕ → FileOf) (config : List ℕ) (show : ShowOf) (refuses : List ℕ → Bool) (lacks : ℕ → Bool) (told : RunFault) (watched : WatchOf) (before now : OutputOf) : Type 0 where
   pub kept : now ≡ before
   pub cause :
       (told ≡ faults.Memory)
       ⊎ (SetupFails files config told
-      ⊎ (((told ≡ faults.NoPackage) × NamesNone files config) ⊎ (LacksTrace files config show told watched ⊎ LacksLink files config show lacks told)))
+      ⊎ (((told ≡ faults.NoPackage) × NamesNone files config) ⊎ (LacksTrace files config show refuses told watched ⊎ LacksLink files config show lacks told)))
 
 -- How an update ends that doesn't end well.
-abbrev pub UpdateEnds : (files : List ℕ → FileOf) (config : List ℕ) (show : ShowOf) (lacks : ℕ → Bool) (told : RunFault) (watched : WatchOf) (before now : OutputOf) → Type 0
-UpdateEnds files config show lacks told watched before now =
+abbrev pub UpdateEnds : (files : List ℕ → FileOf) (config : List ℕ) (show : ShowOf) (refuses : List ℕ → Bool) (lacks : ℕ → Bool) (told : RunFault) (watched : WatchOf) (before now : OutputOf) → Type 0
+UpdateEnds files config show refuses lacks told watched before now =
     ReportsReached files config show told watched before now
-    ⊎ (BreaksReport files config show told before now ⊎ ReportsNothing files config show lacks told watched before now)
+    ⊎ (BreaksReport files config show told before now ⊎ ReportsNothing files config show refuses lacks told watched before now)

@@ -1,5 +1,5 @@
 -- What the jobs on worlds begin with: the configuration in a file, and the packages in the files that it names.
-use Rattle.std.specs.Prelude.{ℕ, ◌≡◌, ◌≢◌, ◌++◌, ◌⊎◌, Bool, true, List, [], ◌∷◌, Option, None, Result, Ok, Err, IfSome, IsOk, string_bytes}
+use Rattle.std.specs.Prelude.{ℕ, ◌≡◌, ◌≢◌, ◌++◌, ◌⊎◌, Bool, true, List, [], ◌∷◌, Option, None, Some, Result, Ok, Err, IfSome, IsOk, string_bytes}
 use Rattle.fw_package.specs.Package.{PackageText}
 use Rattle.fw_package.specs.Reading.{package_of}
 use Rattle.fw_package.specs.declared.fault.PackageFault.{PackageFault}
@@ -11,19 +11,53 @@ use Rattle.fw_world.specs.Worlds.{WorldOf}
 use Rattle.fwupd_jobs.specs.Nodes.{nodes_made}
 use Rattle.fwupd_jobs.specs.declared.faults.RunFault.{RunFault}
 use Rattle.fwupd_jobs.specs.declared.faults.RunFault.TheVariants as faults
+use Rattle.fwupd_jobs.specs.declared.files.FileIdentity.{FileIdentity}
 
--- What is known of a file before it is read: its bytes, if they are, and whether it may be that it can't be read.
+-- What is known of the file of a path before it is read: its bytes, if they are, whether it may be that it can't be read, and
+-- which file it is, or that there is none, if that is known.
 pub record FileOf : Type 0 where
   pub bytes : Option (List ℕ)
   pub may_fail : Bool
+  pub identity : Option (Option FileIdentity)
 
 -- nothing is
 abbrev pub any_file : FileOf
-any_file = record { bytes = None; may_fail = true }
+any_file = record { bytes = None; may_fail = true; identity = None }
 
 -- bytes that a file may hold of which this is known
 abbrev pub MayHold : FileOf → List ℕ → Type 0
 MayHold file bytes = IfSome file.bytes (λ known. bytes ≡ known)
+
+-- which file it may be
+abbrev pub MayBe : FileOf → Option FileIdentity → Type 0
+MayBe file identity = IfSome file.identity (λ known. identity ≡ known)
+
+-- two paths name one file
+pub record IsOneFile (first second : FileOf) : Type 0 where
+  pub identity : FileIdentity
+  pub of_first : MayBe first (Some identity)
+  pub of_second : MayBe second (Some identity)
+
+-- two paths name two files, or one of them none
+pub record AreTwoFiles (first second : FileOf) : Type 0 where
+  pub one : Option FileIdentity
+  pub other : Option FileIdentity
+  pub of_first : MayBe first one
+  pub of_second : MayBe second other
+  pub differ : IfSome one (λ identity. other ≢ Some identity)
+
+-- What is written to a path is written over the file of another: they are spelled alike, or name one file.
+abbrev pub IsOver : (files : List ℕ → FileOf) → (written path : List ℕ) → Type 0
+IsOver files written path = (path ≡ written) ⊎ IsOneFile (files path) (files written)
+
+-- It isn't: they are spelled otherwise, and name two files.
+abbrev pub IsApartFrom : (files : List ℕ → FileOf) → (written path : List ℕ) → Type 0
+IsApartFrom files written path = (path ≢ written) × AreTwoFiles (files path) (files written)
+
+-- over the file of one of these
+abbrev pub IsOverOne : (files : List ℕ → FileOf) → (written : List ℕ) → List (List ℕ) → Type 0
+IsOverOne files written [] = ⊥
+IsOverOne files written (path ∷ paths) = IsOver files written path ⊎ IsOverOne files written paths
 
 -- a text in a file says this
 pub record Says {A : Type 0} (read : List ℕ → Result A ScriptFault) (file : FileOf) (value : A) : Type 0 where

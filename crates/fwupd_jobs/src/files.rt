@@ -1,8 +1,8 @@
 //! The files that a job reads.
 
-ghost use Rattle.std.specs.Prelude.{◌≡◌, ◌≢◌, IfErr, IfOk, List, false, map, string_bytes, true, ℕ};
+ghost use Rattle.std.specs.Prelude.{◌≡◌, ◌∷◌, IfErr, IfOk, List, false, map, string_bytes, true, ℕ};
 ghost use Rattle.std.specs.List.{AllByRecursion};
-ghost use Rattle.fwupd_jobs.specs.Setups.{FileOf, MayHold, any_file};
+ghost use Rattle.fwupd_jobs.specs.Setups.{FileOf, IsApartFrom, IsOver, IsOverOne, MayBe, MayHold, any_file};
 
 use std::alloc::Global;
 use std::fs::{self, File};
@@ -18,6 +18,15 @@ pub enum FileFault {
     Memory,
 }
 
+/// Which file a path names, as the system numbers it (POSIX `st_dev` and `st_ino`): all paths of one file have the same.
+#[derive(Clone, Copy, PartialEq, Eq)]
+pub struct FileIdentity {
+    /// The number of the device that it lies on.
+    pub device: u64,
+    /// Its own number there.
+    pub number: u64,
+}
+
 /// Where files are read from.
 pub trait Files {
     ghost holds: { Self → List ℕ → FileOf };
@@ -29,6 +38,10 @@ pub trait Files {
     fn contents(&self, alloc: Global, path: &str) -> Result<Vec<u8>, FileFault>
         ensures held { IfOk result (λ bytes. MayHold (holds self.now path.now) bytes.items) }
         ensures fails { IfErr result (λ e. e ≡ FileFault.Unreadable → (holds self.now path.now).may_fail ≡ true) };
+
+    /// Which file a path names, if one is found there.
+    fn identity(&self, path: &str) -> Option<FileIdentity>
+        ensures { MayBe (holds self.now path.now) result };
 }
 
 /// The files of the system, of which nothing is known before they are read.
@@ -69,29 +82,49 @@ impl<'a> Files for SystemFiles<'a> {
             },
         }
     }
+
+    fn identity(&self, path: &str) -> Option<FileIdentity> {
+        match fs::metadata(self.rt, path) {
+            Ok(found) => Some(FileIdentity {
+                device: found.dev(),
+                number: found.ino(),
+            }),
+            Err(_) => None,
+        }
+    }
 }
 
-/// Whether two paths are of one file: they are spelled alike, or the system says so.
-pub fn is_same_file(rt: &HostRuntime, one: &str, other: &str) -> bool
-    ensures { one.now ≡ other.now → result ≡ true }
+/// Whether two paths are of one file: they are spelled alike, or both name the same.
+fn is_same_file<F: Files>(files: &F, one: &str, other: &str) -> bool
+    ensures same { result ≡ true → IsOver (F.holds files.now) other.now one.now }
+    ensures apart { result ≡ false → IsApartFrom (F.holds files.now) other.now one.now }
 {
     if one == other {
         return true;
     }
-    match (fs::metadata(rt, one), fs::metadata(rt, other)) {
-        (Ok(one), Ok(other)) => one.dev() == other.dev() && one.ino() == other.ino(),
+    match (files.identity(one), files.identity(other)) {
+        (Some(first), Some(second)) => first == second,
         _ => false,
     }
 }
 
 /// Whether the file of a path is one of these.
-pub fn is_one_of(rt: &HostRuntime, path: &str, others: &[String]) -> bool
-    ensures { result ≡ false → AllByRecursion (λ p. p ≢ path.now) (map (λ p. string_bytes p) others.now) }
+pub fn is_one_of<F: Files>(files: &F, path: &str, others: &[String]) -> bool
+    ensures over { result ≡ true → IsOverOne (F.holds files.now) path.now (map (λ p. string_bytes p) others.now) }
+    ensures apart { result ≡ false → AllByRecursion (IsApartFrom (F.holds files.now) path.now) (map (λ p. string_bytes p) others.now) }
 {
     for other in others {
-        if is_same_file(rt, other, path) {
+        if is_same_file(files, other, path) {
             return true;
         }
     }
     false
+}
+
+/// Whether the file of a path is one of those that a run reads: its configuration, or one of its packages.
+pub fn is_read<F: Files>(files: &F, path: &str, config: &str, packages: &[String]) -> bool
+    ensures over { result ≡ true → IsOverOne (F.holds files.now) path.now (config.now ∷ map (λ p. string_bytes p) packages.now) }
+    ensures apart { result ≡ false → AllByRecursion (IsApartFrom (F.holds files.now) path.now) (config.now ∷ map (λ p. string_bytes p) packages.now) }
+{
+    is_same_file(files, config, path) || is_one_of(files, path, packages)
 }

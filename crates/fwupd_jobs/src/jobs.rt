@@ -28,8 +28,8 @@ pub fn perform_job<F: Files, R: Read, L: Link + Drop, S: Wires<L>, V: Watch, W: 
     watch: &mut V,
     output: &mut Output<W>,
 ) -> Result<(), RunFault>
-    ensures ok { OnOk result (IsDone job.now (F.holds files.now) (R.remaining reader.old) (V.watched watch.new) output.old output.new) }
-    ensures fault { IfErr result (λ e. JobEnds job.now (F.holds files.now) (S.lacks wires.old) (R.remaining reader.old) (R.remaining reader.new) e (V.watched watch.new) output.old output.new) }
+    ensures ok { OnOk result (IsDone job.now (F.holds files.now) (R.remaining reader.old) (R.remaining reader.new) (V.watched watch.new) output.old output.new) }
+    ensures fault { IfErr result (λ e. JobEnds job.now (F.holds files.now) (V.refuses watch.old) (S.lacks wires.old) (R.remaining reader.old) (R.remaining reader.new) e (V.watched watch.new) output.old output.new) }
 {
     match job {
         Job::Answer(endpoint) => output.answer(alloc, reader, endpoint),

@@ -20,7 +20,7 @@ mod watching;
 
 pub use command_line::{Job, Show, parse};
 pub use faults::{RunFault, inspection_fault};
-pub use files::{FileFault, Files};
+pub use files::{FileFault, FileIdentity, Files};
 pub use inspecting::inspect_file;
 pub use jobs::perform_job;
 pub use output::Output;

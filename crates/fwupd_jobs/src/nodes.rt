@@ -7,13 +7,16 @@ ghost use Rattle.fd_core.specs.Components.{HasComponents};
 ghost use Rattle.fd_core.specs.Images.{key_of};
 ghost use Rattle.fw_script.specs.Seen.{component_of, device_of};
 ghost use Rattle.fw_script.specs.Whole.{AreNew, AreWhole, IsDevice, keys_of};
-ghost use Rattle.fw_world.specs.Replays.{AreNewNodes, IsNewNode};
+ghost use Rattle.fw_world.specs.Replays.{AreNewNodes, IsNewNode, IsOpeningWorld, new_world};
 ghost use Rattle.fwupd_jobs.specs.Nodes.{device_made, node_made, nodes_made, row_made};
 
 use arrayvec::ArrayVec;
 use fd_core::{Component, Device, MAX_COMPONENTS, MemBank};
 use fw_node::DeviceNode;
+use fw_package::Package;
 use fw_script::{ComponentConfig, DeviceConfig};
+use fw_world::World;
+use mctp_ctl::Endpoint;
 use std::alloc::{AllocError, Global};
 
 /// A bank of these components, each with the image that runs.
@@ -96,7 +99,7 @@ fn node_all(
 /// # Errors
 /// `AllocError` where memory for them or for their images is refused.
 #[tactic(auto, using(crate::proofs::Making::nodes_new))]
-pub fn nodes(
+fn nodes(
     alloc: Global,
     agent: u8,
     devices: Vec<DeviceConfig>,
@@ -109,4 +112,22 @@ pub fn nodes(
         Ok(nodes) => Ok(nodes),
         Err(error) => Err(error),
     }
+}
+
+/// The world of a configuration's nodes, before its first step.
+///
+/// # Errors
+/// `AllocError` where memory for it is refused.
+pub fn opening_world<'a>(
+    alloc: Global,
+    agent: Endpoint,
+    devices: Vec<DeviceConfig>,
+    packages: &'a [Package<'a>],
+) -> Result<World<'a, MemBank>, AllocError>
+    requires { AreWhole agent.eid (map device_of devices.items) }
+    ensures made { IfOk result (λ w. w ≡ new_world agent (nodes_made agent.eid (map device_of devices.items)) packages.now) }
+    ensures opens { IfOk result (λ w. IsOpeningWorld w) }
+{
+    let nodes = nodes(alloc, agent.eid, devices)?;
+    World::new(alloc, agent, nodes, packages)
 }

@@ -89,7 +89,7 @@ impl<W: Write + Drop> Output<W> {
         reader: &mut R,
         endpoint: &Endpoint,
     ) -> Result<(), RunFault>
-        ensures ok { OnOk result (Answers endpoint.now (R.remaining reader.old) self.old self.new) }
+        ensures ok { OnOk result (Answers endpoint.now (R.remaining reader.old) (R.remaining reader.new) self.old self.new) }
         ensures fault { IfErr result (λ e. AnswerEnds endpoint.now (R.remaining reader.old) (R.remaining reader.new) e self.old self.new) }
     {
         if self.is_broken {

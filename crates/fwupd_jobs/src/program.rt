@@ -18,23 +18,6 @@ use std::process::ExitCode;
 /// Wrong usage.
 const USAGE: u8 = 2;
 
-/// Does what the words ask for, with the system's files, standard input and output, sockets, and what looks on.
-fn run(rt: &HostRuntime, job: &Job<'_>) -> Result<(), RunFault> {
-    let mut output = match Output::new(rt.alloc(), io::writer(rt)) {
-        Ok(output) => output,
-        Err(fault) => return Err(fault),
-    };
-    perform_job(
-        rt.alloc(),
-        job,
-        &SystemFiles::new(rt),
-        &mut rt.reader(),
-        &mut Sockets::new(rt),
-        &mut Onlookers::new(rt),
-        &mut output,
-    )
-}
-
 /// Prints a fault, where standard error takes it, and gives the status that says so.
 fn failed(rt: &HostRuntime, fault: RunFault) -> ExitCode
     ensures { exit_status result ≡ 1 }
@@ -52,6 +35,32 @@ fn status(rt: &HostRuntime, end: Result<(), RunFault>) -> ExitCode
         Ok(()) => ExitCode::SUCCESS,
         Err(fault) => failed(rt, fault),
     }
+}
+
+/// Does what the words ask for, with the system's files, standard input and output, sockets, and what looks on, and gives the
+/// status. On a terminal a link's fault is explained below it.
+fn run(rt: &HostRuntime, job: &Job<'_>) -> ExitCode
+    ensures { (exit_status result ≡ 0) ⊎ (exit_status result ≡ 1) }
+{
+    let mut output = match Output::new(rt.alloc(), io::writer(rt)) {
+        Ok(output) => output,
+        Err(fault) => return failed(rt, fault),
+    };
+    let mut sockets = Sockets::new(rt);
+    let mut onlookers = Onlookers::new(rt);
+    let end = perform_job(
+        rt.alloc(),
+        job,
+        &SystemFiles::new(rt),
+        &mut rt.reader(),
+        &mut sockets,
+        &mut onlookers,
+        &mut output,
+    );
+    let status = status(rt, end);
+    sockets.explain();
+    onlookers.explain();
+    status
 }
 
 /// Prints what stands in place of a job, the text of help or of wrong usage, and gives its status: 0 for help, or 1 where standard
@@ -104,7 +113,7 @@ pub fn perform(rt: &HostRuntime) -> ExitCode
         Err(status) => return status,
     };
     match command_line::parse(rt.alloc(), words.as_slice()) {
-        Ok(job) => status(rt, run(rt, &job)),
+        Ok(job) => run(rt, &job),
         Err(error) => no_job(rt, &error),
     }
 }

@@ -9,12 +9,12 @@ ghost use Rattle.fwupd_jobs.specs.Replayed.{IsReplayed, ReplayEnds, Reports};
 
 use crate::faults::RunFault;
 use crate::files::Files;
-use crate::nodes::nodes;
+use crate::nodes::opening_world;
 use crate::output::Output;
 use crate::setups::{configuration, package_files, packages_in, schedule};
 use fw_package::Package;
 use fw_script::{Config, DeviceConfig, report};
-use fw_world::{Step, StepFault, World, packets_are_safe, replay};
+use fw_world::{Step, StepFault, packets_are_safe, replay};
 use mctp_ctl::Endpoint;
 use std::alloc::{AllocError, Global};
 use std::io::Write;
@@ -43,8 +43,7 @@ pub fn replayed<'a>(
     ensures { IfOk result (λ r. IsReplayed (new_world agent (nodes_made agent.eid (map device_of devices.items)) packages.now) steps.now r.fault r.report.items) }
 {
     packets_are_safe();
-    let nodes = nodes(alloc, agent.eid, devices)?;
-    let mut world = World::new(alloc, agent, nodes, packages)?;
+    let mut world = opening_world(alloc, agent, devices, packages)?;
     let fault = match replay(&mut world, steps) {
         Ok(()) => None,
         Err(fault) => Some(fault),

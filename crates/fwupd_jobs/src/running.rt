@@ -1,8 +1,8 @@
 //! Updating devices over links.
 
-ghost use Rattle.std.specs.Prelude.{◌≡◌, ◌≢◌, ◌∷◌, ◌-◌, ◌^◌, ◌⊎◌, Err, IfErr, IfSome, None, OnOk, Some, length, map, string_bytes, true};
+ghost use Rattle.std.specs.Prelude.{◌≡◌, ◌-◌, ◌^◌, ◌⊎◌, Bool, Err, IfErr, IfSome, List, None, OnOk, Some, length, map, true, ℕ};
 ghost use Rattle.fw_edge.specs.Ledgers.{AllSent, OneFailed, packet_counts};
-ghost use Rattle.fwupd_jobs.specs.Running.{IsApart, IsCaused, IsRefusedStart, IsUpdated, MayEnd, Starts, StepsLead, show_of, shown_of, told_by, told_of};
+ghost use Rattle.fwupd_jobs.specs.Running.{IsCaused, IsRefusedStart, IsUpdated, MayEnd, MayRefuse, Starts, StepsLead, show_of, shown_of, told_by, told_of};
 
 use crate::command_line::Show;
 use crate::faults::{RunFault, edge_fault};
@@ -29,15 +29,16 @@ pub trait Watch {
 
     ghost watched: { Self → WatchOf };
 
-    /// Begins to show what is asked for. The files of these paths, a configuration and its packages, were read for the run.
+    ghost refuses: { Self → List ℕ → Bool };
+
+    /// Begins to show what is asked for.
     ///
     /// # Errors
-    /// What is told is to be written over one of these files, or it can't be written: then they are as they were. `Memory`.
-    fn begin(&mut self, show: Show<'_>, config: &str, packages: &[String]) -> Result<(), WatchFault>
+    /// The file that the packets are to be written to is refused, or `Memory`. It is known before which files may be refused.
+    fn begin(&mut self, show: Show<'_>) -> Result<(), WatchFault>
         ensures shows { OnOk result ((watched self.new).shows ≡ shown_of (show_of show.entry)) }
-        ensures apart { OnOk result (IsApart (show_of show.entry) (config.now ∷ map (λ p. string_bytes p) packages.now)) }
         ensures err { IfErr result (λ e. (watched self.new).fault ≡ Some e) }
-        ensures asked { IfErr result (λ e. e ≡ WatchFault.Unwritten → (show_of show.entry).trace ≢ None) };
+        ensures refused { IfErr result (λ e. e ≡ WatchFault.Unwritten → MayRefuse (refuses self.old) (show_of show.entry)) };
 
     /// Sees what a turn left.
     ///
@@ -48,6 +49,10 @@ pub trait Watch {
         ensures err { IfErr result (λ e. (watched self.new).fault ≡ Some e) }
         ensures first { IfSome (watched self.old).fault (λ f. result ≡ Err f) }
         ensures same { (watched self.new).shows ≡ (watched self.old).shows };
+
+    /// Is told that the link of this device failed.
+    fn lose(&mut self, device: u8)
+        ensures { watched self.new ≡ watched self.old };
 
     /// The run has ended.
     ///

@@ -5,13 +5,16 @@ ghost use Rattle.std.specs.Prelude.{true};
 use crate::faults::RunFault;
 use crate::updating::Wires;
 use fw_edge::StreamLink;
+use std::fs;
+use std::io::{self, IsTerminal};
 use std::os::unix::net::{UnixListener, UnixStream};
-use std::{fs, io};
 
 /// Unix sockets in folders: that of a device is `EID.sock`, and its name is gone as soon as both of its ends are there.
 #[derive(Drop)]
 pub struct Sockets<'a> {
     rt: &'a HostRuntime,
+    /// The device whose socket wasn't made last, and why.
+    refused: Option<(u8, io::Error)>,
 }
 
 /// Both ends of a connection of a socket to itself, as a link.
@@ -39,7 +42,23 @@ fn socket_link(rt: &HostRuntime, path: &str) -> io::Result<StreamLink<UnixStream
 impl<'a> Sockets<'a> {
     /// The sockets that a runtime reaches.
     pub fn new(rt: &'a HostRuntime) -> Sockets<'a> {
-        Sockets { rt }
+        Sockets { rt, refused: None }
+    }
+
+    /// Says on standard error, where that is a terminal, why a socket wasn't made, if one wasn't.
+    pub fn explain(&self) {
+        let Some((device, error)) = self.refused else {
+            return;
+        };
+        if !self.rt.stderr().is_terminal() {
+            return;
+        }
+        let _ = match error.kind() {
+            io::ErrorKind::AddrInUse => eprintln!(self.rt;
+                "{device}.sock: this name is taken, as a run that was killed leaves it: remove it unless another run goes on"
+            ),
+            _ => eprintln!(self.rt; "{device}.sock: {error}"),
+        };
     }
 }
 
@@ -53,7 +72,10 @@ impl<'a> Wires<StreamLink<UnixStream>> for Sockets<'a> {
         match socket_link(self.rt, &path) {
             Ok(link) => Ok(link),
             Err(error) if error.kind() == io::ErrorKind::OutOfMemory => Err(RunFault::Memory),
-            Err(_) => Err(RunFault::Socket(device)),
+            Err(error) => {
+                self.refused = Some((device, error));
+                Err(RunFault::Socket(device))
+            }
         }
     }
 }

@@ -1,14 +1,14 @@
 //! Updating the devices of a configuration.
 
-ghost use Rattle.std.specs.Prelude.{◌≡◌, ◌⊎◌, Bool, IfErr, IfOk, List, None, OnOk, length, true, ℕ};
+ghost use Rattle.std.specs.Prelude.{◌≡◌, ◌∷◌, ◌⊎◌, Bool, IfErr, IfOk, IfSome, List, None, OnOk, length, map, string_bytes, true, ℕ};
 ghost use Rattle.fw_script.specs.Reports.{report_of};
 ghost use Rattle.fwupd_jobs.specs.Outputs.{FailsToPrint, Prints};
-ghost use Rattle.fwupd_jobs.specs.Running.{DrivingEnds, IsUnlinked, IsUpdated, ReportsUpdate, StepsLead, UpdateEnds, show_of};
+ghost use Rattle.fwupd_jobs.specs.Running.{DrivingEnds, IsApart, IsBarred, IsLost, IsUnlinked, IsUpdated, ReportsUpdate, StepsLead, UpdateEnds, show_of, shown_of};
 
 use crate::command_line::Show;
 use crate::faults::RunFault;
-use crate::files::Files;
-use crate::nodes::nodes;
+use crate::files::{Files, is_read};
+use crate::nodes::opening_world;
 use crate::output::Output;
 use crate::running::{Watch, update_watched, watch_fault};
 use crate::setups::{configuration, package_files, packages_in};
@@ -76,6 +76,45 @@ fn write_report<W: Write + Drop>(
     }
 }
 
+/// Lets what looks on begin, where what it shows isn't written over a file that was read.
+fn begin_apart<F: Files, V: Watch>(
+    files: &F,
+    config: &str,
+    packages: &[String],
+    show: Show<'_>,
+    watch: &mut V,
+) -> Result<(), RunFault>
+    ensures shows { OnOk result ((V.watched watch.new).shows ≡ shown_of (show_of show.entry)) }
+    ensures apart { OnOk result (IsApart (F.holds files.now) (show_of show.entry) (config.now ∷ map (λ p. string_bytes p) packages.now)) }
+    ensures fault { IfErr result (λ e. (e ≡ RunFault.Memory)
+        ⊎ ((e ≡ RunFault.Trace) × IsBarred (F.holds files.now) (V.refuses watch.old) (show_of show.entry) (config.now ∷ map (λ p. string_bytes p) packages.now) (V.watched watch.new))) }
+{
+    if let Some(path) = show.trace {
+        if is_read(files, path, config, packages) {
+            return Err(RunFault::Trace);
+        }
+    }
+    match watch.begin(show) {
+        Ok(()) => Ok(()),
+        Err(fault) => Err(watch_fault(fault)),
+    }
+}
+
+/// The first device whose link has failed.
+fn lost_device<L: Link>(world: &World<'_, MemBank>, links: &[L]) -> Option<u8>
+    ensures { IfSome result (λ device. IsLost world.now (map (λ l. (L.tally l).failures) links.now) device) }
+{
+    for place in 0..links.len() {
+        if links[place].failures() > 0 {
+            return match world.device_at(place) {
+                Some(node) => Some(node.eid()),
+                None => None,
+            };
+        }
+    }
+    None
+}
+
 /// Updates each device of a new world with package 1 over a link of its own, and writes the report of what that leaves.
 fn update_over<L: Link + Drop, S: Wires<L>, V: Watch, W: Write + Drop>(
     alloc: Global,
@@ -101,6 +140,9 @@ fn update_over<L: Link + Drop, S: Wires<L>, V: Watch, W: Write + Drop>(
         Ok(()) => {}
         Err(RunFault::Memory) => return Err(RunFault::Memory),
         Err(fault) => {
+            if let Some(device) = lost_device(world, links.as_slice()) {
+                watch.lose(device);
+            }
             match write_report(alloc, world, output) {
                 Ok(()) => {}
                 Err(other) => return Err(other),
@@ -119,7 +161,7 @@ fn update_over<L: Link + Drop, S: Wires<L>, V: Watch, W: Write + Drop>(
 ///
 /// # Errors
 /// The first fault, in this order: of the configuration's file; `NoPackage` where it names no package; of the packages that it
-/// names, one after the other; `Trace` where what looks on can't begin; `Socket` where a link isn't opened. `Edge` where a link
+/// names, one after the other; `Trace` where what looks on can't begin, or would write over one of these files; `Socket` where a link isn't opened. `Edge` where a link
 /// failed or the clock stands at its end, and `Trace` where what looks on can't write: the report is then of the world that was
 /// reached. `Output` where the report isn't written whole: a beginning of it may be. `Memory` where memory is refused: nothing is
 /// written then.
@@ -134,7 +176,7 @@ pub fn update_files<F: Files, L: Link + Drop, S: Wires<L>, V: Watch, W: Write + 
     output: &mut Output<W>,
 ) -> Result<(), RunFault>
     ensures ok { OnOk result (ReportsUpdate (F.holds files.now) config.now (show_of show.entry) (V.watched watch.new) output.old output.new) }
-    ensures fault { IfErr result (λ e. UpdateEnds (F.holds files.now) config.now (show_of show.entry) (S.lacks wires.old folder.now) e (V.watched watch.new) output.old output.new) }
+    ensures fault { IfErr result (λ e. UpdateEnds (F.holds files.now) config.now (show_of show.entry) (V.refuses watch.old) (S.lacks wires.old folder.now) e (V.watched watch.new) output.old output.new) }
 {
     let Config {
         agent,
@@ -155,16 +197,13 @@ pub fn update_files<F: Files, L: Link + Drop, S: Wires<L>, V: Watch, W: Write + 
         Ok(packages) => packages,
         Err(fault) => return Err(fault),
     };
-    let Ok(nodes) = nodes(alloc, agent.eid, devices) else {
-        return Err(RunFault::Memory);
-    };
-    let Ok(mut world) = World::new(alloc, agent, nodes, packages.as_slice()) else {
+    let Ok(mut world) = opening_world(alloc, agent, devices, packages.as_slice()) else {
         return Err(RunFault::Memory);
     };
     packets_are_safe();
-    match watch.begin(show, config, paths.as_slice()) {
+    match begin_apart(files, config, paths.as_slice(), show, watch) {
         Ok(()) => {}
-        Err(fault) => return Err(watch_fault(fault)),
+        Err(fault) => return Err(fault),
     }
     match update_over(alloc, &mut world, folder, wires, watch, output) {
         Ok(()) => Ok(()),

@@ -1,29 +1,29 @@
 //! Jobs over files in memory.
 
-ghost use Rattle.std.specs.Prelude.{◌≡◌, Err, IfErr, IfSome, None, OnOk, Some, false, is_some, true};
+ghost use Rattle.std.specs.Prelude.{◌≡◌, Err, IfErr, IfSome, None, OnOk, Some, is_some, true};
 ghost use Rattle.fwupd_jobs.specs.Setups.{any_file};
 
 use fd_core::MemBank;
 use fw_edge::{Link, MemLink, StreamLink};
 use fw_world::World;
 use fwupd_jobs::{
-    FileFault, Files, Output, RunFault, Show, Watch, WatchFault, Wires, update_files,
+    FileFault, FileIdentity, Files, Output, RunFault, Show, Watch, WatchFault, Wires, update_files,
 };
 use std::alloc::Global;
 use std::os::unix::net::UnixStream;
 use std::test::Fail;
 
-/// Files in memory: a path and the bytes of each.
+/// Files in memory: a path, the file's number, and its bytes. Paths of one number are of one file.
 #[derive(Drop)]
 struct MemFiles<'a> {
-    files: &'a [(&'a str, &'a [u8])],
+    files: &'a [(&'a str, u64, &'a [u8])],
 }
 
 impl<'a> Files for MemFiles<'a> {
     ghost holds = { λ f path. any_file };
 
     fn contents(&self, alloc: Global, path: &str) -> Result<Vec<u8>, FileFault> {
-        for (name, bytes) in self.files {
+        for (name, _, bytes) in self.files {
             if *name == path {
                 return match Vec::from_slice(alloc, bytes) {
                     Ok(bytes) => Ok(bytes),
@@ -32,6 +32,18 @@ impl<'a> Files for MemFiles<'a> {
             }
         }
         Err(FileFault::Unreadable)
+    }
+
+    fn identity(&self, path: &str) -> Option<FileIdentity> {
+        for (name, number, _) in self.files {
+            if *name == path {
+                return Some(FileIdentity {
+                    device: 1,
+                    number: *number,
+                });
+            }
+        }
+        None
     }
 }
 
@@ -102,14 +114,16 @@ impl Wires<StreamLink<UnixStream>> for CutWires {
     }
 }
 
-/// Counts the turns that it sees, and can't tell of the one of this number. It writes to no file.
+/// Counts the turns that it sees, and can't tell of the one of this number. It begins with each file but that of the path "/".
 #[derive(Drop)]
 struct Counter {
     is_quiet: bool,
+    is_traced: bool,
     turns: usize,
     broken: usize,
     fault: Option<WatchFault>,
     has_ended: bool,
+    lost: Option<u8>,
 }
 
 impl Counter {
@@ -127,18 +141,18 @@ impl Counter {
 }
 
 impl Watch for Counter {
-    ghost watched = { λ c. record { fault = c.fault; shows = record { is_quiet = c.is_quiet; is_traced = false }; has_ended = c.has_ended } };
+    ghost watched = { λ c. record { fault = c.fault; shows = record { is_quiet = c.is_quiet; is_traced = c.is_traced }; has_ended = c.has_ended } };
 
-    fn begin(
-        &mut self,
-        show: Show<'_>,
-        _config: &str,
-        _packages: &[String],
-    ) -> Result<(), WatchFault> {
-        if show.trace.is_some() {
-            self.fault = Some(WatchFault::Unwritten);
-            return Err(WatchFault::Unwritten);
+    ghost refuses = { λ c path. true };
+
+    fn begin(&mut self, show: Show<'_>) -> Result<(), WatchFault> {
+        if let Some(path) = show.trace {
+            if path == "/" {
+                self.fault = Some(WatchFault::Unwritten);
+                return Err(WatchFault::Unwritten);
+            }
         }
+        self.is_traced = show.trace.is_some();
         self.is_quiet = show.is_quiet;
         Ok(())
     }
@@ -149,6 +163,10 @@ impl Watch for Counter {
             self.fault = Some(WatchFault::Unwritten);
         }
         self.outcome()
+    }
+
+    fn lose(&mut self, device: u8) {
+        self.lost = Some(device);
     }
 
     fn end(&mut self) -> Result<(), WatchFault> {
@@ -169,7 +187,7 @@ fn package(rt: &HostRuntime) -> Result<Vec<u8>, Fail> {
     Ok(bytes)
 }
 
-/// What an update over these links writes, its fault, and how many turns were seen.
+/// What an update over these links writes, its fault, how many turns were seen, and whose link failed.
 fn updated<'a, L: Link + Drop, S: Wires<L>>(
     rt: &HostRuntime,
     config: &'a [u8],
@@ -177,18 +195,25 @@ fn updated<'a, L: Link + Drop, S: Wires<L>>(
     trace: Option<&str>,
     wires: &mut S,
     broken: usize,
-) -> Result<(Vec<u8>, usize), Fail> {
-    let files: [(&'a str, &'a [u8]); 2] = [("c", config), ("p", package)];
+) -> Result<(Vec<u8>, usize, Option<u8>), Fail> {
+    let files: [(&'a str, u64, &'a [u8]); 4] = [
+        ("c", 1, config),
+        ("p", 2, package),
+        ("linked to c", 1, config),
+        ("linked to p", 2, package),
+    ];
     let mut watch = Counter {
         is_quiet: false,
+        is_traced: false,
         turns: 0,
         broken,
         fault: None,
         has_ended: false,
+        lost: None,
     };
     let mut output = match Output::new(rt.alloc(), Vec::new(rt.alloc())) {
         Ok(output) => output,
-        Err(fault) => return Ok((outcome(rt, Err(fault), Vec::new(rt.alloc()))?, 0)),
+        Err(fault) => return Ok((outcome(rt, Err(fault), Vec::new(rt.alloc()))?, 0, None)),
     };
     let end = update_files(
         rt.alloc(),
@@ -203,7 +228,11 @@ fn updated<'a, L: Link + Drop, S: Wires<L>>(
         &mut watch,
         &mut output,
     );
-    Ok((outcome(rt, end, output.into_writer())?, watch.turns))
+    Ok((
+        outcome(rt, end, output.into_writer())?,
+        watch.turns,
+        watch.lost,
+    ))
 }
 
 /// The configuration, with a package.
@@ -232,25 +261,35 @@ fn an_update_is_reported_turn_by_turn(rt: HostRuntime) -> Result<(), Fail> {
             opened: 0,
             closed,
         };
-        let (text, seen) = updated(&rt, config, &package, None, &mut wires, broken)?;
+        let (text, seen, lost) = updated(&rt, config, &package, None, &mut wires, broken)?;
         assert!(rt; text.starts_with(begins), "{turns} {}", text.escape_ascii());
         assert!(rt; text.ends_with(ends));
-        assert!(rt; seen == turns);
+        assert!(rt; seen == turns && lost.is_none());
     }
     Ok(())
 }
 
 #[test]
 fn no_link_is_opened_where_the_trace_is_refused(rt: HostRuntime) -> Result<(), Fail> {
-    let mut wires = MemWires {
-        alloc: rt.alloc(),
-        opened: 0,
-        closed: 0,
-    };
     let package = package(&rt)?;
-    let (text, seen) = updated(&rt, WHOLE, &package, Some("t"), &mut wires, 0)?;
-    assert!(rt; text.as_slice() == b"trace".as_slice());
-    assert!(rt; seen == 0 && wires.opened == 0);
+    for (trace, is_refused) in [
+        ("/", true),
+        ("c", true),
+        ("p", true),
+        ("linked to c", true),
+        ("linked to p", true),
+        ("another", false),
+    ] {
+        let mut wires = MemWires {
+            alloc: rt.alloc(),
+            opened: 0,
+            closed: 9,
+        };
+        let (text, seen, _) = updated(&rt, WHOLE, &package, Some(trace), &mut wires, 0)?;
+        let told: &[u8] = if is_refused { b"trace" } else { b"socket: 9" };
+        assert!(rt; text.as_slice() == told, "{trace}");
+        assert!(rt; seen == 0 && wires.opened == 0);
+    }
     Ok(())
 }
 
@@ -258,11 +297,11 @@ fn no_link_is_opened_where_the_trace_is_refused(rt: HostRuntime) -> Result<(), F
 fn a_turn_in_which_a_link_fails_is_seen(rt: HostRuntime) -> Result<(), Fail> {
     let mut wires = CutWires::new(&rt)?;
     let package = package(&rt)?;
-    let (text, seen) = updated(&rt, WHOLE, &package, None, &mut wires, 0)?;
+    let (text, seen, lost) = updated(&rt, WHOLE, &package, None, &mut wires, 0)?;
     let report = b"now 1\nagent 8 up\ndevice 9 up IDLE session Query sent 1\n\
         active 9 10 1 1 AA\nlog 1 last -\nedge: Frame"
         .as_slice();
     assert!(rt; text.as_slice() == report);
-    assert!(rt; seen == 1);
+    assert!(rt; seen == 1 && lost == Some(9));
     Ok(())
 }

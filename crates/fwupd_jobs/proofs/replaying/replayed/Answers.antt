@@ -1,7 +1,8 @@
-use Rattle.std.proofs.Common.{map}
+use Rattle.std.proofs.Common.{map, subst, sym}
 use Rattle.fw_script.specs.Seen.{device_of}
 use Rattle.fw_world.specs.Replays.{new_world}
 use Rattle.fwupd_jobs.specs.Nodes.{nodes_made}
+use Rattle.fwupd_jobs.specs.Replayed.{Leaves}
 use Rattle.fwupd_jobs.proofs.Told.{replayed_by}
 use Rattle.fwupd_jobs.proofs.replaying.replayed.Goals.{in-Err, in-Ok}
 use Rattle.fwupd_jobs.proofs.replaying.replayed.Goals as goal
@@ -9,7 +10,9 @@ use Rattle.fwupd_jobs.proofs.replaying.replayed.Goals as goal
 pub returns : goal.returns
 returns c =
     replayed_by (new_world c.args.agent (nodes_made c.args.agent.eid (map device_of c.args.devices.items)) c.args.packages.now) c.in_ok-world.world c.replay.new.world c.args.steps.now
-    c.match-replay.fault c.in_ok-report.report.items
-    (rw c.in_ok-nodes.ensures.is at c.in_ok-world.ensures.made) c.in_ok-world.ensures.opens c.packets_are_safe.ensures.law
-    (elim c.match-replay.branch [ in-Ok h ↦ rw h.fault-is h.in-Ok.ensures.ok | in-Err h ↦ rw h.fault-is h.in-Err.ensures.stopped ])
+    c.match-replay.fault c.in_ok-report.report.items c.in_ok-world.ensures.made c.in_ok-world.ensures.opens c.packets_are_safe.ensures.law
+    (elim c.match-replay.branch [
+      | in-Ok h ↦ subst (λ f. Leaves c.in_ok-world.world c.args.steps.now f c.replay.new.world) (sym h.fault-is) h.in-Ok.ensures.ok
+      | in-Err h ↦ subst (λ f. Leaves c.in_ok-world.world c.args.steps.now f c.replay.new.world) (sym h.fault-is) h.in-Err.ensures.stopped
+    ])
     c.in_ok-report.ensures
