@@ -1,3 +1,4 @@
+pub mod Asked
 pub mod Choice
 pub mod Components
 pub mod Crc
@@ -10,3 +11,4 @@ pub mod Package
 pub mod Reading
 pub mod Records
 pub mod Views
+pub mod Writing

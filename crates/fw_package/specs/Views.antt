@@ -1,6 +1,8 @@
 -- What is lent from a header, as a value.
-use Rattle.std.specs.Prelude.{ℕ, ◌+◌, ◌-◌, ◌<◌, ◌≤◌, ◌*◌, ◌==◌, ◌||◌, Bool, false, List, [], ◌∷◌, IsOk, IsSome, Result, Ok, Err, drop, filter, length, slice_index_or}
+use Rattle.std.specs.Prelude.{ℕ, ◌≡◌, true, All, ◌+◌, ◌-◌, ◌<◌, ◌≤◌, ◌*◌, ◌==◌, ◌||◌, Bool, false, List, [], ◌∷◌, IsOk, IsSome, Result, Ok, Err, drop, filter, length, slice_index_or, min, ◌^◌}
 use Rattle.std.specs.List.{list_any, range_with_len}
+use Rattle.std.specs.List.Sorted.{IsStrictlyIncreasing}
+use Rattle.fw_package.specs.Asked.{AskedOf, AskedRecordOf, are_uses, header_size, images_size}
 use Rattle.fw_package.specs.Choice.{has_key, no_component}
 use Rattle.fw_package.specs.Components.{components_of}
 use Rattle.fw_package.specs.Layout.{after_components, after_records}
@@ -54,3 +56,23 @@ number_of c = c.classification * 65536 + c.identifier
 abbrev pub doubles : List ℕ → Bool
 doubles [] = false
 doubles (k ∷ ks) = list_any (λ j. k == j) ks || doubles ks
+
+-- a number, or the largest that 64 bits hold where it is larger
+abbrev pub capped : ℕ → ℕ
+capped n = min n (2 ^ 64 - 1)
+
+-- a record's numbers and texts fit, and its components rise
+pub record IsRecordFit (r : AskedRecordOf) : Type 0 where
+  pub text : length r.set_text ≤ 255
+  pub descriptors : length r.descriptors ≤ 255
+  pub rising : IsStrictlyIncreasing r.uses
+
+-- what is asked can be written
+pub record IsFit (a : AskedOf) : Type 0 where
+  pub version : length a.version ≤ 255
+  pub count : length a.records ≤ 255
+  pub records : All IsRecordFit a.records
+  pub uses : All (λ r. are_uses (length a.components) 0 r.uses ≡ true) a.records
+  pub components : All (λ c. length c.text ≤ 255) a.components
+  pub header : header_size a ≤ 65535
+  pub file : header_size a + images_size a ≤ 4294967295

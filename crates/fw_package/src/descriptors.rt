@@ -14,7 +14,7 @@ use byteorder::{ByteOrder, LittleEndian};
 use std::marker::Model;
 
 /// The bytes of a descriptor before its data: type and size.
-const DESCRIPTOR_SIZE: usize = 4;
+pub(crate) const DESCRIPTOR_SIZE: usize = 4;
 
 /// The place of a descriptor's size, after its type.
 const DESCRIPTOR_LENGTH: usize = 2;

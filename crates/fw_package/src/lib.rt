@@ -1,6 +1,8 @@
 //! Firmware update packages (DSP0267 1.0): reading one, and what it names for a device.
 #![tactic(auto)]
 
+mod asked;
+mod bitmaps;
 mod components;
 mod crc;
 mod crc_table;
@@ -8,6 +10,7 @@ mod descriptors;
 mod fault;
 mod laws;
 mod layout;
+mod measures;
 mod packages;
 mod plans;
 mod reading;
@@ -15,7 +18,9 @@ mod records;
 mod texts;
 mod used;
 mod uses;
+mod writing;
 
+pub use asked::{AskedComponent, AskedFault, AskedPackage, AskedRecord};
 pub use components::{Component, Components};
 pub use descriptors::Descriptors;
 pub use fault::{PackageFault, PlanFault};
@@ -25,3 +30,4 @@ pub use plans::{PLAN_LIMIT, Plan};
 pub use records::{Record, Records};
 pub use texts::{Descriptor, Text};
 pub use uses::Uses;
+pub use writing::Header;

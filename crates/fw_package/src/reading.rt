@@ -10,12 +10,12 @@ use crate::layout::{CHECKSUM_SIZE, FIXED_SIZE, HEADER_SIZE, REVISION};
 use byteorder::{ByteOrder, LittleEndian};
 
 /// The package header identifier of revision 1, F018878C-CB7D-4943-9800-A02F059ACA02.
-const PACKAGE_IDENTIFIER: [u8; 16] = [
+pub const PACKAGE_IDENTIFIER: [u8; 16] = [
     0xF0, 0x18, 0x87, 0x8C, 0xCB, 0x7D, 0x49, 0x43, 0x98, 0x00, 0xA0, 0x2F, 0x05, 0x9A, 0xCA, 0x02,
 ];
 
 /// The header revision that this is.
-const HEADER_REVISION: u8 = 1;
+pub const HEADER_REVISION: u8 = 1;
 
 /// The bits of a byte of a bitmap.
 const BYTE_BITS: usize = 8;

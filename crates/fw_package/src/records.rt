@@ -20,7 +20,7 @@ use byteorder::{ByteOrder, LittleEndian};
 use std::marker::Model;
 
 /// The bytes of a record before its bitmap.
-const HEAD_SIZE: usize = 11;
+pub(crate) const HEAD_SIZE: usize = 11;
 
 /// The place of the descriptor count, after the record length.
 const DESCRIPTOR_COUNT: usize = 2;

@@ -8,7 +8,7 @@ ghost use Rattle.fw_package.specs.Views.{named_from};
 use std::marker::Model;
 
 /// The components that one byte of a bitmap names, one a bit.
-const BYTE_BITS: usize = 8;
+pub(crate) const BYTE_BITS: usize = 8;
 
 /// The numbers of components, rising. It is also an iterator over them.
 #[derive(Drop)]

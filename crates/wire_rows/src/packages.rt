@@ -3,3 +3,4 @@
 mod drafts;
 mod planning;
 mod reading;
+mod writing;

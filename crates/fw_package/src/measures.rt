@@ -1,0 +1,171 @@
+//! How long the parts of a header are that is asked for, and whether all fits.
+
+ghost use Rattle.std.specs.Prelude.{◌≡◌, ◌+◌, ◌-◌, ◌^◌, ◌<◌, ◌≤◌, length, map, min};
+ghost use Rattle.std.specs.List.{list_all, sum_by};
+ghost use Rattle.fw_package.specs.Asked.{all_fits, asked_component_of, asked_of, asked_record_of, component_fits, component_size, descriptor_size, header_size, parts_fit, record_fits, record_size, refusal_of, text_fits, uses_fit};
+ghost use Rattle.fw_package.specs.Package.{descriptor_of};
+ghost use Rattle.fw_package.specs.Views.{capped};
+
+use crate::asked::{AskedComponent, AskedFault, AskedPackage, AskedRecord};
+use crate::bitmaps::{are_uses, bitmap_size};
+use crate::descriptors::DESCRIPTOR_SIZE;
+use crate::layout::{CHECKSUM_SIZE, COMPONENT_SIZE, COUNT_SIZE, FIXED_SIZE};
+use crate::records::HEAD_SIZE;
+use crate::texts::Descriptor;
+
+/// The bytes of the record count.
+const RECORD_COUNT_SIZE: usize = 1;
+
+/// The most bytes of a text, and the most records and descriptors of a record: their numbers have one byte.
+const BYTE_LIMIT: usize = 255;
+
+/// The most bytes of a header: its size has two bytes.
+pub const HEADER_LIMIT: usize = 65_535;
+
+/// The most bytes of a file, so that each offset and each size has four bytes.
+const FILE_LIMIT: usize = 4_294_967_295;
+
+/// The first reason why a package can't be written, if there is one.
+#[tactic(auto, unfolding(crate::specs::Asked::refusal_of))]
+pub fn refusal(asked: &AskedPackage<'_>) -> Option<AskedFault>
+    ensures { result ≡ refusal_of (asked_of asked.now) }
+{
+    if !uses_fit(asked.records, asked.components.len()) {
+        return Some(AskedFault::Uses);
+    }
+    if !all_fits(asked) {
+        return Some(AskedFault::Limit);
+    }
+    None
+}
+
+/// Whether each record uses components that are asked for.
+fn uses_fit(records: &[AskedRecord<'_>], count: usize) -> bool
+    ensures { result ≡ list_all (λ r. Rattle.fw_package.specs.Asked.are_uses count 0 r.uses) (map asked_record_of records.now) }
+{
+    for record in records {
+        if !are_uses(record.uses, count) {
+            return false;
+        }
+    }
+    true
+}
+
+/// Whether all lengths and numbers fit their fields.
+fn all_fits(asked: &AskedPackage<'_>) -> bool
+    ensures { result ≡ all_fits (asked_of asked.now) }
+{
+    let header = header_size(asked);
+    parts_fit(asked)
+        && header <= HEADER_LIMIT
+        && images_size(asked.components).saturating_add(header) <= FILE_LIMIT
+}
+
+/// Whether the texts' lengths, the descriptors' numbers and the records' number have one byte each.
+fn parts_fit(asked: &AskedPackage<'_>) -> bool
+    ensures { result ≡ parts_fit (asked_of asked.now) }
+{
+    text_fits(asked.version)
+        && asked.records.len() <= BYTE_LIMIT
+        && records_fit(asked.records)
+        && components_fit(asked.components)
+}
+
+/// Whether a text's length has one byte.
+fn text_fits(text: &[u8]) -> bool
+    ensures { result ≡ text_fits text.now }
+{
+    text.len() <= BYTE_LIMIT
+}
+
+/// Whether each record's set text and descriptors can be counted in one byte.
+fn records_fit(records: &[AskedRecord<'_>]) -> bool
+    ensures { result ≡ list_all record_fits (map asked_record_of records.now) }
+{
+    for record in records {
+        if !text_fits(record.set_text) || record.descriptors.len() > BYTE_LIMIT {
+            return false;
+        }
+    }
+    true
+}
+
+/// Whether the length of each component's version text has one byte.
+fn components_fit(components: &[AskedComponent<'_>]) -> bool
+    ensures { result ≡ list_all component_fits (map asked_component_of components.now) }
+{
+    for component in components {
+        if !text_fits(component.text) {
+            return false;
+        }
+    }
+    true
+}
+
+/// The bytes of the header, or the largest number where there are more.
+#[tactic(auto, using(crate::proofs::Measured::capped_header))]
+pub fn header_size(asked: &AskedPackage<'_>) -> usize
+    ensures { result ≡ capped (header_size (asked_of asked.now)) }
+{
+    let bitmap_size = bitmap_size(asked.components.len());
+    let lists = records_size(asked.records, bitmap_size).saturating_add(components_size(
+        asked.components,
+    ));
+    (FIXED_SIZE + RECORD_COUNT_SIZE + COUNT_SIZE + CHECKSUM_SIZE)
+        .saturating_add(asked.version.len())
+        .saturating_add(lists)
+}
+
+/// The bytes of records with a bitmap of so many bytes, or the largest number.
+fn records_size(records: &[AskedRecord<'_>], bitmap_size: usize) -> usize
+    ensures { result ≡ capped (sum_by (record_size bitmap_size) (map asked_record_of records.now)) }
+{
+    let mut size = 0usize;
+    for record in records {
+        size = size.saturating_add(record_size(record, bitmap_size));
+    }
+    size
+}
+
+/// The bytes of a record with a bitmap of so many bytes, or the largest number.
+pub fn record_size(record: &AskedRecord<'_>, bitmap_size: usize) -> usize
+    ensures { result ≡ capped (record_size bitmap_size (asked_record_of «record».now)) }
+{
+    let texts = record.set_text.len().saturating_add(bitmap_size);
+    descriptors_size(record.descriptors)
+        .saturating_add(texts)
+        .saturating_add(HEAD_SIZE)
+}
+
+/// The bytes of descriptors, or the largest number.
+fn descriptors_size(descriptors: &[Descriptor<'_>]) -> usize
+    ensures { result ≡ capped (sum_by descriptor_size (map descriptor_of descriptors.now)) }
+{
+    let mut size = 0usize;
+    for descriptor in descriptors {
+        size = size.saturating_add(DESCRIPTOR_SIZE.saturating_add(descriptor.bytes.len()));
+    }
+    size
+}
+
+/// The bytes of components, or the largest number.
+fn components_size(components: &[AskedComponent<'_>]) -> usize
+    ensures { result ≡ capped (sum_by component_size (map asked_component_of components.now)) }
+{
+    let mut size = 0usize;
+    for component in components {
+        size = size.saturating_add(COMPONENT_SIZE.saturating_add(component.text.len()));
+    }
+    size
+}
+
+/// The bytes of the images, or the largest number.
+fn images_size(components: &[AskedComponent<'_>]) -> usize
+    ensures { result ≡ capped (sum_by (λ c. c.size) (map asked_component_of components.now)) }
+{
+    let mut size = 0usize;
+    for component in components {
+        size = size.saturating_add(component.size);
+    }
+    size
+}
