@@ -1,8 +1,8 @@
 //! How long the parts of a header are that is asked for, and whether all fits.
 
-ghost use Rattle.std.specs.Prelude.{◌≡◌, ◌+◌, ◌-◌, ◌^◌, ◌<◌, ◌≤◌, length, map, min};
+ghost use Rattle.std.specs.Prelude.{◌≡◌, map};
 ghost use Rattle.std.specs.List.{list_all, sum_by};
-ghost use Rattle.fw_package.specs.Asked.{all_fits, asked_component_of, asked_of, asked_record_of, component_fits, component_size, descriptor_size, header_size, parts_fit, record_fits, record_size, refusal_of, text_fits, uses_fit};
+ghost use Rattle.fw_package.specs.Asked.{all_fits, are_uses as rise_below, asked_component_of, asked_of, asked_record_of, component_fits, component_size, descriptor_size, header_size, parts_fit, record_fits, record_size, refusal_of, text_fits, uses_fit};
 ghost use Rattle.fw_package.specs.Package.{descriptor_of};
 ghost use Rattle.fw_package.specs.Views.{capped};
 
@@ -41,7 +41,7 @@ pub fn refusal(asked: &AskedPackage<'_>) -> Option<AskedFault>
 
 /// Whether each record uses components that are asked for.
 fn uses_fit(records: &[AskedRecord<'_>], count: usize) -> bool
-    ensures { result ≡ list_all (λ r. Rattle.fw_package.specs.Asked.are_uses count 0 r.uses) (map asked_record_of records.now) }
+    ensures { result ≡ list_all (λ r. rise_below count 0 r.uses) (map asked_record_of records.now) }
 {
     for record in records {
         if !are_uses(record.uses, count) {

@@ -1,13 +1,12 @@
 //! Writing the header of a package that is asked for.
 
-ghost use Rattle.std.specs.Prelude.{◌≡◌, ◌+◌, ◌++◌, ◌∷◌, [], ◌*◌, ◌<◌, ◌≤◌, All, None, length, map, true};
+ghost use Rattle.std.specs.Prelude.{◌≡◌, ◌+◌, ◌++◌, ◌∷◌, [], ◌<◌, ◌≤◌, All, None, length, map};
 ghost use Rattle.std.specs.List.{flat_map, sum_by};
-ghost use Rattle.std.specs.List.Sorted.{IsStrictlyIncreasing};
 ghost use Rattle.arrayvec.specs.ArrayVec.{array_vec_len};
 ghost use Rattle.byteorder.specs.Endian.{little_bytes};
-ghost use Rattle.fw_package.specs.Asked.{asked_component_of, asked_of, asked_record_of, bitmap_size_for, component_size, descriptor_size, header_size, record_size, refusal_of};
-ghost use Rattle.fw_package.specs.Views.{IsFit, IsRecordFit};
+ghost use Rattle.fw_package.specs.Asked.{asked_component_of, asked_of, asked_record_of, component_size, descriptor_size, header_size, record_size, refusal_of};
 ghost use Rattle.fw_package.specs.Package.{descriptor_of};
+ghost use Rattle.fw_package.specs.Views.{IsFit, IsRecordFit};
 ghost use Rattle.fw_package.specs.Writing.{HasComponentWidths, HasRecordWidths, HasWidths, IsHeaderOf, body_bytes, component_bytes, components_bytes, descriptor_bytes, header_bytes, opening_bytes, record_bytes, record_head};
 
 use crate::asked::{AskedComponent, AskedFault, AskedPackage, AskedRecord};
@@ -199,7 +198,7 @@ fn put_body(header: &mut Header, asked: &AskedPackage<'_>)
 }
 
 impl<'a> AskedPackage<'a> {
-    ghost use Rattle.std.specs.Prelude.{OnErr, OnOk, MatchOption, IfErr, IsOk, Some};
+    ghost use Rattle.std.specs.Prelude.{IfErr, IsOk, OnErr, OnOk, Some};
 
     /// Writes the header of the package: with it and the images one after the other, in the order of their components, a
     /// file is the package that is asked.
