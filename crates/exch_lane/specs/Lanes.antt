@@ -1,5 +1,5 @@
 -- A lane: the node that asks, the node that answers, and all packets between them.
-use Rattle.std.specs.Prelude.{◌≢◌, ◌≤◌, ℕ, ◌-◌, ◌==◌, not, nat_lt, if◌then◌else◌, Bool, true, List, [], map, slice_get, Option, None}
+use Rattle.std.specs.Prelude.{◌≢◌, ◌≤◌, ℕ, ◌+◌, ◌-◌, ◌==◌, not, nat_lt, if◌then◌else◌, Bool, true, List, [], map, slice_get, Option, None}
 use Rattle.pldm_exch.specs.Ends.{AskerOf, TakerOf, asker_new, taker_new}
 use Rattle.exch_lane.specs.Clocks.{Clock}
 use Rattle.exch_lane.specs.declared.step.End.{End}
@@ -13,6 +13,14 @@ use Rattle.exch_lane.specs.declared.entry.LaneEntry.TheVariants as entries
 pub record Sent : Type 0 where
   pub date : ℕ
   pub bytes : List ℕ
+
+-- A packet lives for 8 units of time after its sending: this is the last unit at which it may come.
+abbrev pub lives_until : Sent → ℕ
+lives_until p = p.date + 8
+
+-- it may still come
+abbrev pub Lives : (now : ℕ) → Sent → Type 0
+Lives now p = now ≤ lives_until p
 
 -- what happened: a request was asked, a request was taken and answered, a reply was learnt
 pub data EntryOf : Type 0 where

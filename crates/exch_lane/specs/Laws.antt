@@ -6,7 +6,7 @@ use Rattle.mctp_wire.specs.declared.fault.WireFault.{WireFault}
 use Rattle.mctp_wire.specs.declared.layout.Head.{Head}
 use Rattle.std.specs.Option.{option_map}
 use Rattle.pldm_exch.specs.Caller.{asking, is_quiet}
-use Rattle.exch_lane.specs.Lanes.{AreEnds, LaneOf, Sent, StepOf, lane_new}
+use Rattle.exch_lane.specs.Lanes.{AreEnds, LaneOf, Lives, Sent, StepOf, lane_new}
 use Rattle.exch_lane.specs.Steps.{MayRun, lane_run}
 use Rattle.exch_lane.specs.Cells.{Cell, CellRun, cells_along, no_cell_yet}
 
@@ -30,7 +30,7 @@ in_lane asker taker bytes = read_between asker taker (wire.packet_of bytes)
 
 -- a packet that can still come is one of the lane
 abbrev pub IsOfLane : LaneOf → Sent → Type 0
-IsOfLane w s = w.now ≤ s.date + 8 → in_lane w.asker_eid w.taker_eid s.bytes ≡ true
+IsOfLane w s = Lives w.now s → in_lane w.asker_eid w.taker_eid s.bytes ≡ true
 
 -- The cell is the lane's: their histories are the same, and where the asker hears and is quiet the cell is empty.
 pub record IsCellOf (w : LaneOf) (run : CellRun) : Type 0 where

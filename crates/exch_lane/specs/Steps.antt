@@ -6,7 +6,7 @@ use Rattle.pldm_base.specs.declared.header.PldmHead.{PldmHead}
 use Rattle.pldm_exch.specs.Caller.{abandoned, begun, may_begin}
 use Rattle.pldm_exch.specs.Kept.{kept_with}
 use Rattle.exch_lane.specs.Clocks.{MayBeat, beat}
-use Rattle.exch_lane.specs.Lanes.{EntryOf, LaneOf, Sent, StepOf, asker_clock, numbered, taker_clock}
+use Rattle.exch_lane.specs.Lanes.{EntryOf, LaneOf, Sent, StepOf, asker_clock, lives_until, numbered, taker_clock}
 use Rattle.pldm_exch.specs.Ends.{AskerOf, TakerOf, asker_new, taker_new}
 use Rattle.pldm_exch.specs.Requests.{reply_message}
 use Rattle.pldm_exch.specs.Sides.{AskerRow, AskerTick, TakerRow, asker_row, asker_tick, taker_row, taker_tick}
@@ -131,10 +131,10 @@ abbrev pub lane_run : LaneOf → List StepOf → LaneOf
 lane_run w [] = w
 lane_run w (s ∷ ss) = lane_run (lane_after w s) ss
 
--- a packet may come for 8 units after its sending
+-- a packet may come as long as it lives
 abbrev pub may_deliver : ℕ → Option Sent → Option LaneFault
 may_deliver now None = Some faults.NoSuchPacket
-may_deliver now (Some p) = if nat_lt (p.date + 8) now then Some faults.Dead else None
+may_deliver now (Some p) = if nat_lt (lives_until p) now then Some faults.Dead else None
 
 -- Why a step may not be taken; None where it may.
 abbrev pub may_step : LaneOf → StepOf → Option LaneFault

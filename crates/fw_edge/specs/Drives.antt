@@ -1,7 +1,7 @@
 -- What a run over links does.
 use Rattle.std.specs.Prelude.{ℕ, ◌≡◌, ◌≤◌, ◌+◌, ◌++◌, ◌&&◌, Bool, true, false, IsSomeAnd, List, [], ◌∷◌, Option, Some, None}
 use Rattle.std.specs.List.{list_all, sum_by}
-use Rattle.exch_lane.specs.Lanes.{numbered}
+use Rattle.exch_lane.specs.Lanes.{Lives, numbered}
 use Rattle.fd_core.specs.declared.states.Verdict.{Verdict}
 use Rattle.fd_core.specs.declared.states.Verdict.TheVariants as verdicts
 use Rattle.fw_node.specs.Agents.{AgentOf, half_for}
@@ -14,9 +14,9 @@ use Rattle.fw_world.specs.Worlds.{SiteOf, WorldOf, packets_of}
 use Rattle.fw_world.specs.declared.step.Step.{Step}
 use Rattle.fw_world.specs.declared.step.Step.TheVariants as steps
 
--- a packet that is delivered was sent in its pair, at most 8 ticks ago
+-- a packet that is delivered was sent in its pair, and lives
 abbrev pub NamesLiving : WorldOf → Step → Type 0
-NamesLiving w (steps.Deliver device number node) = IsSomeAnd (numbered (packets_of w device) number) (λ p. w.now ≤ p.date + 8)
+NamesLiving w (steps.Deliver device number node) = IsSomeAnd (numbered (packets_of w device) number) (Lives w.now)
 NamesLiving w s = Unit {0}
 
 -- so at every step of a run

@@ -1,11 +1,11 @@
 -- Which packet of a pair comes where a frame comes.
 use Rattle.std.specs.Prelude.{ℕ, ◌≡◌, ◌≤◌, ◌+◌, IsSomeAnd, List, Option, None, Some}
-use Rattle.exch_lane.specs.Lanes.{Sent, numbered}
+use Rattle.exch_lane.specs.Lanes.{Lives, Sent, numbered}
 use Rattle.fw_world.specs.Worlds.{WorldOf, packets_of}
 
--- a packet was sent at most 8 ticks ago, and has these bytes
+-- a packet may still come, and has these bytes
 abbrev pub LivesWith : (now : ℕ) → List ℕ → Sent → Type 0
-LivesWith now bytes p = (now ≤ p.date + 8) × (p.bytes ≡ bytes)
+LivesWith now bytes p = Lives now p × (p.bytes ≡ bytes)
 
 -- there is such a packet of this number, counted from 1
 abbrev pub IsLiving : (now : ℕ) → List Sent → List ℕ → (number : ℕ) → Type 0

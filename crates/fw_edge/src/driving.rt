@@ -30,7 +30,7 @@ pub enum EdgeFault {
     /// A link failed.
     #[error("Frame")]
     Frame,
-    /// A step was refused: the clock stands at its last tick.
+    /// A step was refused: the clock stands at its last unit.
     #[error("Step")]
     Step,
     /// Memory was refused.
@@ -146,7 +146,7 @@ fn take_turns<B: Bank + Drop, L: Link>(
 /// unwritten goes out. A frame that is a living packet of its pair comes to the node at that end, and another to nobody.
 ///
 /// # Errors
-/// `Frame` where a link failed, `Step` where the clock stands at its last tick, and `Memory`. The world is then the one after
+/// `Frame` where a link failed, `Step` where the clock stands at its last unit, and `Memory`. The world is then the one after
 /// the steps that are listed.
 pub fn drive<B: Bank + Drop, L: Link>(
     world: &mut World<'_, B>,

@@ -9,7 +9,6 @@ use exch_lane::SentPacket;
 use fd_core::Bank;
 use fw_world::World;
 use mctp_wire::RawPacket;
-use pldm_exch::LIFE;
 
 /// The number of the last packet of a pair, named by its device, that has these bytes and may still come: what a Deliver
 /// names. None exactly where there is no such packet. Those that the world knows to be dead aren't looked at.
@@ -27,7 +26,7 @@ fn is_living(sent: &SentPacket, now: u32, packet: &RawPacket) -> bool
     ensures yes { result ≡ true → LivesWith now packet.now.items (sent_of sent.now) }
     ensures no { result ≡ false → LivesWith now packet.now.items (sent_of sent.now) → ⊥ }
 {
-    now <= sent.date.saturating_add(LIFE) && sent.bytes.as_slice() == packet.as_slice()
+    sent.lives(now) && sent.bytes.as_slice() == packet.as_slice()
 }
 
 /// The number of the last of these packets that has these bytes and may still come at this time. So many of the first are dead.

@@ -48,7 +48,7 @@ pub(crate) fn take<B: Bank + Drop>(
 /// A tick passes.
 ///
 /// # Errors
-/// `Step` where the clock stands at its last tick, and `Memory`. Nothing has changed then.
+/// `Step` where the clock stands at its last unit, and `Memory`. Nothing has changed then.
 pub(crate) fn tick<B: Bank + Drop>(
     world: &mut World<'_, B>,
     steps: &mut Vec<Step>,

@@ -9,7 +9,7 @@ use Rattle.fwup_wire.specs.Values.{CommandOf}
 use Rattle.pldm_exch.specs.Caller.{CallerState, Open, is_quiet, may_begin}
 use Rattle.pldm_exch.specs.Sides.{AskerRow, AskerTick, TakerRow, asker_counts, asker_row, taker_row}
 use Rattle.exch_lane.specs.Cells.{CellRun, cells_along, no_cell_yet}
-use Rattle.exch_lane.specs.Lanes.{AreEnds, EntryOf, LaneOf, Sent, StepOf, lane_new, numbered}
+use Rattle.exch_lane.specs.Lanes.{AreEnds, EntryOf, LaneOf, Lives, Sent, StepOf, lane_new, numbered}
 use Rattle.exch_lane.specs.Laws.{in_lane}
 use Rattle.exch_lane.specs.Steps.{MayRun, lane_run}
 use Rattle.exch_lane.specs.declared.step.End.TheVariants as ends
@@ -197,4 +197,4 @@ pub record LinkExplained (now : ℕ) (l : LinkOf) : Type 0 where
   pub device_peer : l.device.peer ≡ l.agent.own
   pub down : Explained l.agent.own l.device.own (down_lane now l)
   pub up : Explained l.device.own l.agent.own (up_lane now l)
-  pub packets : AllByRecursion (λ s. now ≤ s.date + 8 → (is_down l s ≡ true) ⊎ (is_up l s ≡ true)) l.packets
+  pub packets : AllByRecursion (λ s. Lives now s → (is_down l s ≡ true) ⊎ (is_up l s ≡ true)) l.packets

@@ -2,7 +2,7 @@
 use Rattle.std.specs.Prelude.{◌≡◌, ◌≤◌, ◌<◌, ◌+◌, ◌-◌, ◌^◌, ℕ, Bool, true, List, nat_le, Some, IfSome, IsSomeAnd, is_some}
 use Rattle.fwup_wire.specs.Commands.{IsSpoken}
 use Rattle.exch_lane.specs.Cells.{CellRun, cells_along}
-use Rattle.exch_lane.specs.Lanes.{EntryOf, LaneOf, StepOf, numbered}
+use Rattle.exch_lane.specs.Lanes.{EntryOf, LaneOf, Lives, StepOf, numbered}
 use Rattle.exch_lane.specs.Laws.{IsCellOf}
 use Rattle.exch_lane.specs.Steps.{MayRun, lane_run}
 use Rattle.fw_package.specs.Package.{PackageText}
@@ -14,10 +14,10 @@ use Rattle.fw_node.specs.Nodes.{IsTold}
 use Rattle.fw_world.specs.Lanes.{LinkExplained, down_lane, down_steps, up_lane, up_steps}
 use Rattle.fw_world.specs.Links.{LinkOf, LinkStep, LinkStepped, link_after, time_after}
 
--- The step may be taken: a packet that comes was sent, at most 8 units ago; both nodes count a tick, which isn't the last; and
+-- The step may be taken: a packet that comes was sent, and lives; both nodes count a tick, which isn't the last; and
 -- the calls are allowed.
 abbrev pub MayHappen : (now : ℕ) → List PackageText → LinkOf → LinkStep → Type 0
-MayHappen now packages l (LinkStep.Deliver number to works) = IsSomeAnd (numbered l.packets number) (λ p. now ≤ p.date + 8)
+MayHappen now packages l (LinkStep.Deliver number to works) = IsSomeAnd (numbered l.packets number) (Lives now)
 MayHappen now packages l (LinkStep.Tick agent device) = (agent ≡ true) × (device ≡ true) × (now < 2 ^ 32 - 1)
 MayHappen now packages l s = is_some (link_after now packages l s) ≡ true
 

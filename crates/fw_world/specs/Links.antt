@@ -3,7 +3,7 @@
 use Rattle.std.specs.Prelude.{ℕ, ◌+◌, ◌-◌, ◌^◌, Bool, true, if◌then◌else◌, nat_lt, List, [], ◌∷◌, ◌++◌, map, Option, Some, None}
 use Rattle.mctp_reasm.specs.Pieces.{MessageOf}
 use Rattle.pldm_exch.specs.Caller.{is_quiet}
-use Rattle.exch_lane.specs.Lanes.{Sent, numbered}
+use Rattle.exch_lane.specs.Lanes.{Sent, lives_until, numbered}
 use Rattle.exch_lane.specs.Steps.{sendings}
 use Rattle.fw_package.specs.Package.{PackageText}
 use Rattle.fd_core.specs.Commands.{device_take}
@@ -78,11 +78,11 @@ abbrev pub hears_on : (now : ℕ) → List PackageText → LinkOf → Side → B
 hears_on now packages l sides.Agent works bytes = agent_heard now packages l (half_hears (session_core packages) true l.agent bytes)
 hears_on now packages l sides.Device works bytes = device_heard now works l (half_hears device_core works l.device bytes)
 
--- a packet comes within 8 units of its sending
+-- a packet comes as long as it lives
 abbrev pub delivers_on : (now : ℕ) → List PackageText → LinkOf → Side → Bool → Option Sent → Option LinkStepped
 delivers_on now packages l to works None = None
 delivers_on now packages l to works (Some p) =
-    if nat_lt (p.date + 8) now then None else hears_on now packages l to works p.bytes
+    if nat_lt (lives_until p) now then None else hears_on now packages l to works p.bytes
 
 -- both tick, and what they send is dated with the new time, the agent's before the device's
 abbrev pub link_ticks : (now : ℕ) → List PackageText → LinkOf → (agent device : Bool) → LinkOf

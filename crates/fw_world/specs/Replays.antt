@@ -2,7 +2,7 @@
 use Rattle.std.specs.Prelude.{ℕ, ◌≡◌, ◌≢◌, ◌≤◌, ◌⊎◌, ◌+◌, ◌-◌, ◌^◌, ◌==◌, ◌&&◌, ◌||◌, ◌∷◌, [], Bool, true, false, if◌then◌else◌, nat_lt, nat_le, IfSome, is_some, List, length, map, Option, Some, None}
 use Rattle.std.specs.List.{All, AllByRecursion}
 use Rattle.mctp_ctl.specs.declared.answers.Endpoint.{Endpoint}
-use Rattle.exch_lane.specs.Lanes.{IsEid, Sent, numbered}
+use Rattle.exch_lane.specs.Lanes.{IsEid, Sent, lives_until, numbered}
 use Rattle.fw_package.specs.Package.{PackageText}
 use Rattle.fd_core.specs.Banks.{Rose}
 use Rattle.fd_core.specs.Components.{HasComponents}
@@ -38,10 +38,10 @@ abbrev pub where_known : Bool → Option StepFault → Option StepFault
 where_known true fault = fault
 where_known false fault = Some faults.NoSuchNode
 
--- a packet lives for 8 ticks after its sending
+-- a packet may come as long as it lives
 abbrev pub packet_fault : ℕ → Option Sent → Option StepFault
 packet_fault now None = Some faults.NoSuchPacket
-packet_fault now (Some p) = if nat_lt (p.date + 8) now then Some faults.Dead else None
+packet_fault now (Some p) = if nat_lt (lives_until p) now then Some faults.Dead else None
 
 -- the number of a package, from 1 on
 abbrev pub is_package : List PackageText → ℕ → Bool

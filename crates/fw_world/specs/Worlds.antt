@@ -31,7 +31,7 @@ pub record SiteOf : Type 0 where
   pub node : DeviceNodeOf
   pub packets : List Sent
 
--- The world: the packages, the ticks that have passed, the nodes, the last answer of the event log, and what happened.
+-- The world: the packages, the units of time that have passed, the nodes, the last answer of the event log, and what happened.
 pub record WorldOf : Type 0 where
   pub packages : List PackageText
   pub now : ℕ

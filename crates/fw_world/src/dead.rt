@@ -3,16 +3,15 @@
 ghost use Rattle.std.specs.Prelude.{◌≡◌, List, map, true};
 ghost use Rattle.exch_lane.specs.Journals.{sent_of};
 ghost use Rattle.exch_lane.specs.Lanes.{Sent};
-ghost use Rattle.fw_world.specs.Dead.{AreDead, IsDead};
+ghost use Rattle.fw_world.specs.Dead.{AreDead};
 
 use exch_lane::SentPacket;
-use pldm_exch::LIFE;
 
 /// How many of the first packets are known to be dead.
 #[derive(Drop)]
 pub(crate) struct FirstDead {
     count: usize,
-    /// The ticks that had passed when that was found.
+    /// The units that had passed when that was found.
     since: u32,
 }
 
@@ -55,15 +54,8 @@ fn first_dead(packets: &[SentPacket], now: u32, known: usize) -> usize
     ensures { AreDead now result (map sent_of packets.now) }
 {
     let mut count = known;
-    while count < packets.len() && is_dead(&packets[count], now) {
+    while count < packets.len() && !packets[count].lives(now) {
         count += 1;
     }
     count
-}
-
-/// Whether a packet can't come any more at this time.
-fn is_dead(packet: &SentPacket, now: u32) -> bool
-    ensures { result ≡ true → IsDead now (sent_of packet.now) }
-{
-    packet.date.saturating_add(LIFE) < now
 }

@@ -39,7 +39,7 @@ pub enum Refusal {
     NotNow,
     /// There is no package of this number.
     NoSuchPackage,
-    /// The clock stands at its last tick.
+    /// The clock stands at its last unit.
     ClockEnd,
 }
 
@@ -48,7 +48,7 @@ pub enum Refusal {
 pub enum StepFault {
     /// No packet of this number was sent between the agent and the device.
     NoSuchPacket,
-    /// The packet was sent more than 8 ticks ago.
+    /// The packet was sent more than 8 units of time ago.
     Dead,
     /// No such node; where a device is asked for, the agent is none.
     NoSuchNode,

@@ -143,11 +143,11 @@ Faults of a line. The first that holds is printed:
   Directive, Fields, Order, Number, Hex, Range, Duplicate, Limit; Missing at the line after the last
 
 Why a step isn't taken; the report is then of the world before it:
-  NoSuchNode, NoSuchPacket, Dead (sent more than 8 ticks ago), Memory, or Refused: and
+  NoSuchNode, NoSuchPacket, Dead (sent more than 8 units ago), Memory, or Refused: and
   NoSuchPackage, Busy, NotReady, NotNow, ClockEnd
 
-The report has the ticks that passed; each node, and whether it hears; for a device its state, that of the agent's
-session with it, and how many packets were sent between the two; the images that run, with size and first bytes; the
+The report has the units that passed, one a tick; each node, and whether it hears; for a device its state, that of the
+agent's session with it, and how many packets were sent between the two; the images that run, with size and first bytes; the
 event log's records and last answer; and what was applied, recorded and activated, in order.
 
 Status: 0; 1 if standard error says 'fwupd: PATH: line N: FAULT', 'fwupd: package: FAULT', 'fwupd: step N: FAULT',
@@ -167,7 +167,7 @@ fn replay_command<'a>(alloc: Global) -> Result<Command<'a>, clap::Error> {
         .about("Replays a schedule of packets, ticks and commands, and prints a report")
         .long_about(
             "Replays a schedule of packets, ticks and commands on an update agent and its devices, and prints a report.\n\n\
-            A packet may be delivered at once, later, more than once or never, for 8 ticks after it was sent. The schedule says\n\
+            A packet may be delivered at once, later, more than once or never, for 8 units after it was sent. The schedule says\n\
             which packet is delivered when.",
         )
         .after_long_help(REPLAY_HELP)

@@ -1,5 +1,5 @@
-//! The times of an exchange, in ticks. A packet may arrive until 8 ticks after its sending, and an assembly ends with
-//! the ninth tick after its last packet.
+//! The times of an exchange, in ticks; a packet's life is in units of time. A packet may arrive until 8 units after its
+//! sending, and an assembly ends with the ninth tick after its last packet.
 
 /// An open request is sent again each time so many ticks have passed, twice. So its last sending comes at most 12
 /// ticks after its first, and a copy of it arrives at most 20 after.
@@ -17,7 +17,7 @@ pub const HOLD: u8 = 24;
 /// answers ends within 25, and the answer is kept for at most 33.
 pub const RETIRE: u8 = 40;
 
-/// A packet may arrive while no more than so many ticks have passed since its sending.
+/// A packet may arrive while no more than so many units of time have passed since its sending.
 pub const LIFE: u32 = 8;
 
 /// A node that starts anew is deaf and silent for so many ticks: as long as a tag rests, so that nothing of its requests
