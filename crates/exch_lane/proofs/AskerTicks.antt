@@ -74,7 +74,7 @@ asker_resends c x e w hears past h = record {
 pub nothing_held : (c : Clock) (x : Ends) (e : Exchange) (w : AskerView) → w.deaf ≡ 0 → w.rest ≡ 0 → IsAsker c x e w → (e.last + 40 ≤ c.now) × (w.replies ≡ None)
 nothing_held c x e w hears rested h =
     let far : e.last + 40 ≤ c.now = (let r = h.rest hears in omega (arith, r, rested)) in
-    (far, none_of w.replies (IsReplies c x e) h.replies (λ o r. let soon = within_assembly c (e.last + 16) o.age r.soon r.age in omega arith))
+    (far, none_of w.replies (IsReplies c x e) h.replies (λ o r. let soon = within_assembly c (e.last + 16) o.age r.soon (let young = r.age in omega arith) in omega arith))
 
 pub asker_begins : (c : Clock) (x : Ends) (e : Exchange) (w : AskerView) → e.last ≡ c.now → w.deaf ≡ 0 → w.replies ≡ None → IsAsker c x e (rested w)
 asker_begins c x e w now hears none = record { replies = rw none tt; rest = λ _. omega (arith, now); deaf = λ z. absurd (omega (arith, z, hears)) }

@@ -5,9 +5,9 @@ use Rattle.mctp_reasm.specs.Held.{Held}
 use Rattle.mctp_reasm.specs.declared.outcomes.Fed.{Fed}
 use Rattle.mctp_reasm.specs.declared.outcomes.Fed.TheVariants.{Dropped, Open, Whole}
 use Rattle.pldm_base.specs.Header.{pldm_of}
-use Rattle.exch_lane.specs.Clocks.{Clock}
+use Rattle.exch_lane.specs.Clocks.{Clock, IsClock}
 use Rattle.exch_lane.proofs.Below.{Laws}
-use Rattle.exch_lane.proofs.Elapsed.{IsClock, elapsed_start}
+use Rattle.exch_lane.proofs.Elapsed.{elapsed_start}
 use Rattle.exch_lane.proofs.Facts.{none_of}
 use Rattle.exch_lane.proofs.Pieces.{Comes}
 use Rattle.exch_lane.proofs.Views.{AskerView, Ends, Exchange, IsAsker, IsExchange, IsPart, IsReplies, IsRequests, IsSpan, IsTaker, IsWording, TagView, TakerView, answered_with, asker_time, reply_of, request_of, taker_time}

@@ -5,11 +5,10 @@ use Rattle.mctp_reasm.specs.Pieces.{MessageOf, PacketOf, pieces, spelled}
 use Rattle.pldm_exch.specs.Caller.{IsCaller, Open, fresh, is_quiet, last_tag, rest_at}
 use Rattle.pldm_exch.specs.Kept.{kept_at}
 use Rattle.exch_lane.specs.Cells.{Cell, CellRun}
-use Rattle.exch_lane.specs.Clocks.{Clock, elapsed}
+use Rattle.exch_lane.specs.Clocks.{Clock, IsClock, elapsed}
 use Rattle.exch_lane.specs.Lanes.{LaneOf, Sent, asker_clock, taker_clock}
 use Rattle.pldm_exch.specs.Ends.{AskerOf, TakerOf}
 use Rattle.mctp_reasm.specs.Inboxes.{held_at}
-use Rattle.exch_lane.proofs.Elapsed.{IsClock}
 use Rattle.exch_lane.proofs.Views.{AskerView, Ends, Exchange, TagOf, TagView, TakerView, reply_of, request_of}
 
 -- by tag, the latest exchange; and the tag of that which stands in the cell

@@ -1,18 +1,19 @@
 -- Lane refinement: a new lane is an empty cell, each step goes on, and so does every list of steps.
-use Rattle.std.proofs.Common.{◌≡◌, ◌≢◌, ◌∙◌, ℕ, true, false, List, [], ◌∷◌, Option, Some, None, IfSome, IsSomeAnd, is_some, refl, sym, subst, arith}
+use Rattle.std.proofs.Common.{◌≡◌, ◌≢◌, ◌∙◌, ◌-◌, ◌^◌, ◌&&◌, ℕ, nat_lt, Bool, true, false, List, [], ◌∷◌, Option, Some, None, IfSome, IsSomeAnd, is_some, refl, sym, subst, arith}
 use Rattle.std.specs.Option.{option_map}
 use Rattle.pldm_exch.specs.Caller.{Open, asking}
 use Rattle.exch_lane.specs.Cells.{cell_along, cells_along}
-use Rattle.exch_lane.specs.Clocks.{Clock}
-use Rattle.exch_lane.specs.Lanes.{LaneOf, StepOf, asker_clock, lane_new}
+use Rattle.exch_lane.specs.Clocks.{Clock, MayBeat, may_beat}
+use Rattle.exch_lane.specs.Lanes.{LaneOf, StepOf, asker_clock, lane_new, taker_clock}
 use Rattle.exch_lane.specs.Laws.{IsCellOf, LaneIsACell, awaited}
-use Rattle.exch_lane.specs.Steps.{MayRun, MayTake, lane_after, lane_run}
+use Rattle.exch_lane.specs.Steps.{MayRun, MayTake, lane_after, lane_run, may_step}
 use Rattle.exch_lane.specs.declared.step.End.TheVariants as ends
+use Rattle.exch_lane.specs.declared.step.LaneFault.TheVariants as faults
 use Rattle.exch_lane.proofs.Begins.{goes_begin}
 use Rattle.exch_lane.proofs.Below.{Laws}
 use Rattle.exch_lane.proofs.Delivers.{goes_deliver}
 use Rattle.exch_lane.proofs.Elapsed.{clock_new}
-use Rattle.exch_lane.proofs.Facts.{none_is}
+use Rattle.exch_lane.proofs.Facts.{both, may_of, none_is}
 use Rattle.exch_lane.proofs.Ghosts.{Ghost, GoesOn, IsAskedOf, IsOpenOf, LaneGood, cell_from, cell_with, ends_of, exchange_at, run_of}
 use Rattle.exch_lane.proofs.Lifts.{nothing_held_at, nothing_kept_at}
 use Rattle.exch_lane.proofs.Mine.{of_lane}
@@ -46,12 +47,21 @@ new_good l asker taker differ = record {
   quiet = λ _. refl;
 }
 
+-- a tick that may be taken is one that both ends' clocks allow
+ticks_beat : (w : LaneOf) (asker taker : Bool) → may_step w (StepOf.Tick asker taker) ≡ None → MayBeat asker (asker_clock w) × MayBeat taker (taker_clock w)
+ticks_beat w asker taker may =
+    let ends = may_beat asker w.asker_since_miss && may_beat taker w.taker_since_miss in
+    let all = both (nat_lt w.now (2 ^ 32 - 1)) ends (may_of (nat_lt w.now (2 ^ 32 - 1) && ends) faults.NotNow may) in
+    both (may_beat asker w.asker_since_miss) (may_beat taker w.taker_since_miss) all.1
+
 -- each step goes on
 step_goes : (l : Laws) (w : LaneOf) (g : Ghost) (s : StepOf) → MayTake w s → LaneGood w g → GoesOn (lane_after w s) (cell_along w s (run_of w g))
 step_goes l w g (StepOf.Begin command body) may h = goes_begin l w g command body may.lawful may.may h
 step_goes l w g StepOf.Abandon may h = goes_abandon l w g may.may h
 step_goes l w g (StepOf.Deliver number end reply) may h = goes_deliver l w g number end reply may.may may.lawful h
-step_goes l w g (StepOf.Tick asker taker) may h = goes_tick l w g asker taker may.beats.0 may.beats.1 h
+step_goes l w g (StepOf.Tick asker taker) may h =
+    let beats = ticks_beat w asker taker may.may in
+    goes_tick l w g asker taker beats.0 beats.1 h
 step_goes l w g (StepOf.Restart ends.Asker) may h = goes_restart_asker l w g h
 step_goes l w g (StepOf.Restart ends.Taker) may h = goes_restart_taker w g h
 

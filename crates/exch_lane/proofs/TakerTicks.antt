@@ -86,8 +86,8 @@ taker_resends c x e w past h = record {
 -- nothing old is left where a tag has rested
 pub nothing_kept : (c : Clock) (x : Ends) (e : Exchange) (w : TakerView) → e.last + 40 ≤ c.now → IsTaker c x e w → (w.requests ≡ None) × (w.kept ≡ None)
 nothing_kept c x e w far h = (
-  none_of w.requests (IsRequests c x e) h.requests (λ o r. let soon = within_assembly c (e.last + 8) o.age r.soon r.age in omega arith),
-  none_of w.kept (IsKept c x e) h.kept (λ k r. let soon = within_keeping c (e.last + 8) k.age r.soon r.age in omega arith),
+  none_of w.requests (IsRequests c x e) h.requests (λ o r. let soon = within_assembly c (e.last + 8) o.age r.soon (let young = r.age in omega arith) in omega arith),
+  none_of w.kept (IsKept c x e) h.kept (λ k r. let soon = within_keeping c (e.last + 8) k.age r.soon (let young = r.age in omega arith) in omega arith),
 )
 
 pub taker_begins : (c : Clock) (x : Ends) (e : Exchange) (w : TakerView) → e.reply ≡ None → w.requests ≡ None → w.kept ≡ None → IsTaker c x e w

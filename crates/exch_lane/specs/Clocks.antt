@@ -1,31 +1,82 @@
 -- Time, as an end of a lane has it.
-use Rattle.std.specs.Prelude.{◌≡◌, ◌≤◌, ℕ, ◌+◌, Bool, true}
+use Rattle.std.specs.Prelude.{◌≡◌, ◌≤◌, ℕ, ◌+◌, ◌*◌, ◌/◌, ◌==◌, ◌||◌, Bool, true, false, nat_lt, if◌then◌else◌, List, [], ◌∷◌, length}
 
--- the units that have passed since the lane's beginning, and how many ticks the end counted since it last missed one
+-- the units that have passed since the lane's beginning, and how many ticks the end counted since it last missed one, at most eight
 pub record Clock : Type 0 where
   pub now : ℕ
   pub since_miss : ℕ
 
+-- how many ticks an end counted since it last missed one, after a tick that it counts or misses
+abbrev pub since_after : Bool → ℕ → ℕ
+since_after true n = if nat_lt n 8 then n + 1 else 8
+since_after false n = 0
+
+-- an end misses a tick only where it has counted eight since the last that it missed
+abbrev pub may_beat : Bool → ℕ → Bool
+may_beat counts n = counts || (n == 8)
+
 -- a unit passes: the end counts it, or misses it
 abbrev pub beat : Bool → Clock → Clock
-beat counts c = record { now = c.now + 1; since_miss = c.since_miss }
+beat counts c = record { now = c.now + 1; since_miss = since_after counts c.since_miss }
 
--- whether the end may do so: each end counts every unit
+-- whether the end may do so
 abbrev pub MayBeat : Bool → Clock → Type 0
-MayBeat counts c = counts ≡ true
+MayBeat counts c = may_beat counts c.since_miss ≡ true
+
+-- what a clock may hold
+abbrev pub IsClock : Clock → Type 0
+IsClock c = c.since_miss ≤ 8
+
+-- the most units in which an end counts so many ticks
+abbrev pub late : ℕ → ℕ
+late ticks = ticks + ticks / 8 + 1
 
 -- at most as many units have passed since a date as can, where the end counted so many ticks since then
 unfoldable pub elapsed : Clock → (date count : ℕ) → Type 0
-elapsed c date count = c.now ≤ date + count
+elapsed c date count = 8 * c.now + c.since_miss ≤ 8 * date + 9 * count + 8
+
+-- a tick that is counted or missed leaves a clock
+abbrev pub ClocksStay : Type 0
+ClocksStay = (counts : Bool) (c : Clock) → IsClock c → MayBeat counts c → IsClock (beat counts c)
 
 -- none have at that date
 abbrev pub TimeStarts : Type 0
-TimeStarts = (c : Clock) (date : ℕ) → c.now ≤ date → elapsed c date 0
+TimeStarts = (c : Clock) (date : ℕ) → IsClock c → c.now ≤ date → elapsed c date 0
 
 -- each tick that is counted is one more
 abbrev pub TimeIsCounted : Type 0
 TimeIsCounted = (c : Clock) (date count : ℕ) → MayBeat true c → elapsed c date count → elapsed (beat true c) date (count + 1)
 
+-- a tick that is missed is none
+abbrev pub TimeIsMissed : Type 0
+TimeIsMissed = (c : Clock) (date count : ℕ) → MayBeat false c → elapsed c date count → elapsed (beat false c) date count
+
+-- where so many ticks were counted, so many units have passed at most
+abbrev pub TimeIsLate : Type 0
+TimeIsLate = (c : Clock) (date count : ℕ) → elapsed c date count → c.now ≤ date + late count
+
 -- where so many ticks were counted at most, so many units have passed at most
 abbrev pub PassesWithin : (ticks units : ℕ) → Type 0
 PassesWithin ticks units = (c : Clock) (date count : ℕ) → elapsed c date count → count ≤ ticks → c.now ≤ date + units
+
+-- THE LAW
+
+-- A node's ticks between two moments, in order: whether it counted each of them. How many it counted.
+abbrev pub counted : List Bool → ℕ
+counted [] = 0
+counted (true ∷ bs) = counted bs + 1
+counted (false ∷ bs) = counted bs
+
+-- each of them was allowed, from so many counted since the last miss on
+abbrev pub AreAllowed : List Bool → ℕ → Type 0
+AreAllowed [] n = Unit {0}
+AreAllowed (b ∷ bs) n = (may_beat b n ≡ true) × AreAllowed bs (since_after b n)
+
+-- how many are counted since the last miss then
+abbrev pub since_all : List Bool → ℕ → ℕ
+since_all [] n = n
+since_all (b ∷ bs) n = since_all bs (since_after b n)
+
+-- While so many units pass a node counts at most as many ticks, and at least so many that the units are at most `late` of them.
+abbrev pub TicksAreLate : Type 0
+TicksAreLate = (bs : List Bool) (n : ℕ) → n ≤ 8 → AreAllowed bs n → (counted bs ≤ length bs) × (length bs ≤ late (counted bs))

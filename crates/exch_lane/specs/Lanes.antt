@@ -1,5 +1,5 @@
 -- A lane: the node that asks, the node that answers, and all packets between them.
-use Rattle.std.specs.Prelude.{◌≢◌, ◌≤◌, ℕ, ◌+◌, ◌-◌, ◌==◌, not, nat_lt, if◌then◌else◌, Bool, true, List, [], map, slice_get, Option, None}
+use Rattle.std.specs.Prelude.{◌≢◌, ◌≤◌, ℕ, ◌+◌, ◌-◌, ◌==◌, not, nat_lt, if◌then◌else◌, Bool, List, [], map, slice_get, Option, None}
 use Rattle.pldm_exch.specs.Ends.{AskerOf, TakerOf, asker_new, taker_new}
 use Rattle.exch_lane.specs.Clocks.{Clock}
 use Rattle.exch_lane.specs.declared.step.End.{End}
@@ -49,12 +49,12 @@ pub data StepOf : Type 0 where
   Tick : (asker taker : Bool) → StepOf
   Restart : (end : End) → StepOf
 
--- a step as the code has it: both ends count every tick
+-- a step as the code has it
 abbrev pub step_of : LaneStep → StepOf
 step_of (steps.Begin command body) = StepOf.Begin command body.items
 step_of steps.Abandon = StepOf.Abandon
 step_of (steps.Deliver number end reply) = StepOf.Deliver number end reply.items
-step_of steps.Tick = StepOf.Tick true true
+step_of (steps.Tick asker taker) = StepOf.Tick asker taker
 step_of (steps.Restart end) = StepOf.Restart end
 
 abbrev pub steps_of : List LaneStep → List StepOf
@@ -73,8 +73,8 @@ lane_new asker taker =
       asker_eid = asker;
       taker_eid = taker;
       now = 0;
-      asker_since_miss = 0;
-      taker_since_miss = 0;
+      asker_since_miss = 8;
+      taker_since_miss = 8;
       asker = asker_new asker taker 0;
       taker = taker_new 0;
       packets = [];

@@ -5,7 +5,7 @@ use Rattle.mctp_reasm.specs.Pieces.{MessageOf, pieces, spelled}
 use Rattle.pldm_base.specs.declared.header.PldmHead.{PldmHead}
 use Rattle.pldm_exch.specs.Caller.{abandoned, begun, may_begin}
 use Rattle.pldm_exch.specs.Kept.{kept_with}
-use Rattle.exch_lane.specs.Clocks.{MayBeat, beat}
+use Rattle.exch_lane.specs.Clocks.{beat, may_beat}
 use Rattle.exch_lane.specs.Lanes.{EntryOf, LaneOf, Sent, StepOf, asker_clock, lives_until, numbered, taker_clock}
 use Rattle.pldm_exch.specs.Ends.{AskerOf, TakerOf, asker_new, taker_new}
 use Rattle.pldm_exch.specs.Requests.{reply_message}
@@ -142,7 +142,9 @@ may_step w (StepOf.Begin command body) =
     if (w.asker.deaf == 0) && may_begin w.asker.caller then None else Some faults.NotNow
 may_step w StepOf.Abandon = if is_some w.asker.caller.asked then None else Some faults.NotNow
 may_step w (StepOf.Deliver number end reply) = may_deliver w.now (numbered w.packets number)
-may_step w (StepOf.Tick asker taker) = if nat_lt w.now (2 ^ 32 - 1) then None else Some faults.NotNow
+may_step w (StepOf.Tick asker taker) =
+    if nat_lt w.now (2 ^ 32 - 1) && (may_beat asker w.asker_since_miss && may_beat taker w.taker_since_miss) then None
+    else Some faults.NotNow
 may_step w (StepOf.Restart end) = None
 
 -- a step that may add packets or an entry needs memory for them; to give a request up and to start anew needs none
@@ -166,19 +168,10 @@ IsStep (StepOf.Deliver number end reply) = length reply ≤ 252
 IsStep (StepOf.Tick asker taker) = Unit {0}
 IsStep (StepOf.Restart end) = Unit {0}
 
--- the ends' clocks allow the step
-abbrev pub MayBeats : LaneOf → StepOf → Type 0
-MayBeats w (StepOf.Begin command body) = Unit {0}
-MayBeats w StepOf.Abandon = Unit {0}
-MayBeats w (StepOf.Deliver number end reply) = Unit {0}
-MayBeats w (StepOf.Tick asker taker) = MayBeat asker (asker_clock w) × MayBeat taker (taker_clock w)
-MayBeats w (StepOf.Restart end) = Unit {0}
-
 -- the step may be taken
 pub record MayTake (w : LaneOf) (s : StepOf) : Type 0 where
   pub lawful : IsStep s
   pub may : may_step w s ≡ None
-  pub beats : MayBeats w s
 
 -- each of these steps may be taken where it stands
 abbrev pub MayRun : LaneOf → List StepOf → Type 0

@@ -9,6 +9,7 @@ ghost use Rattle.exch_lane.specs.Nodes.{asker_after, asker_ticked, call_tick_of,
 ghost use Rattle.pldm_exch.specs.Sides.{asker_counts, asker_row, learnt_in, taker_counts, taker_row};
 ghost use Rattle.exch_lane.specs.Steps.{IsCause, MayTake, abandons, begins, lane_after, lane_hears, lane_ticks, may_step, restarts};
 
+use crate::clock::{UNMISSED, may_beat, since_after};
 use crate::entry::LaneEntry;
 use crate::journal::{Journal, SentPacket};
 use crate::step::{End, LaneFault, LaneStep};
@@ -20,6 +21,8 @@ use std::marker::Model;
 /// One direction of requests between two nodes: both ends, and every packet that was ever sent between them.
 #[derive(Drop)]
 pub struct Lane {
+    asker_since_miss: u8,
+    taker_since_miss: u8,
     asker_deaf: u8,
     taker_deaf: u8,
     asker: Asker,
@@ -35,7 +38,7 @@ impl Model for Lane {
 
     ghost Value = { LaneOf };
 
-    ghost view = { λ l. record { asker_eid = l.asker.own; taker_eid = l.asker.peer; now = l.journal.time; asker_since_miss = 0; taker_since_miss = 0; asker = asker_of l.asker_deaf l.asker; taker = taker_of l.taker_deaf l.taker; packets = map sent_of l.journal.packets.items; entries = map entry_of l.journal.entries.items } };
+    ghost view = { λ l. record { asker_eid = l.asker.own; taker_eid = l.asker.peer; now = l.journal.time; asker_since_miss = l.asker_since_miss; taker_since_miss = l.taker_since_miss; asker = asker_of l.asker_deaf l.asker; taker = taker_of l.taker_deaf l.taker; packets = map sent_of l.journal.packets.items; entries = map entry_of l.journal.entries.items } };
 
     ghost invariant = { λ l. (l.taker.own ≡ l.asker.peer) × (l.taker.peer ≡ l.asker.own) };
 }
@@ -47,6 +50,8 @@ impl Lane {
         ensures { result ≡ lane_new asker taker }
     {
         Lane {
+            asker_since_miss: UNMISSED,
+            taker_since_miss: UNMISSED,
             asker_deaf: 0,
             taker_deaf: 0,
             asker: Asker::new(asker, taker),
@@ -118,7 +123,7 @@ impl Lane {
             LaneStep::Begin(command, body) => self.begin(*command, body.as_slice()),
             LaneStep::Abandon => self.abandon(),
             LaneStep::Deliver(number, end, reply) => self.deliver(*number, *end, reply.as_slice()),
-            LaneStep::Tick => self.tick(),
+            LaneStep::Tick(asker, taker) => self.tick(*asker, *taker),
             LaneStep::Restart(end) => {
                 self.restart(*end);
                 Ok(())
@@ -187,13 +192,16 @@ impl Lane {
         Ok(())
     }
 
-    /// A unit of time passes.
+    /// A unit of time passes, and each end counts it or misses it.
     #[tactic(auto, using(crate::proofs::LaneRows::rows))]
-    fn tick(&mut self) -> Result<(), LaneFault>
-        ensures ok { OnOk result ((may_step self.old (StepOf.Tick true true) ≡ None) × (self.new ≡ lane_ticks self.old true true)) }
+    fn tick(&mut self, asker: bool, taker: bool) -> Result<(), LaneFault>
+        ensures ok { OnOk result ((may_step self.old (StepOf.Tick asker taker) ≡ None) × (self.new ≡ lane_ticks self.old asker taker)) }
         ensures err { OnErr result (self.new ≡ self.old) }
-        ensures cause { IfErr result (λ e. IsCause self.old (StepOf.Tick true true) e) }
+        ensures cause { IfErr result (λ e. IsCause self.old (StepOf.Tick asker taker) e) }
     {
+        if !may_beat(asker, self.asker_since_miss) || !may_beat(taker, self.taker_since_miss) {
+            return Err(LaneFault::NotNow);
+        }
         let Some(time) = self.journal.time.checked_add(1) else {
             return Err(LaneFault::NotNow);
         };
@@ -201,9 +209,15 @@ impl Lane {
             return Err(LaneFault::Memory);
         };
         self.journal.time = time;
-        taker_ticks(&mut self.taker_deaf, &mut self.taker);
-        if let CallTick::Send(message) = asker_ticks(&mut self.asker_deaf, &mut self.asker) {
-            self.journal.send(&message);
+        self.asker_since_miss = since_after(asker, self.asker_since_miss);
+        self.taker_since_miss = since_after(taker, self.taker_since_miss);
+        if taker {
+            taker_ticks(&mut self.taker_deaf, &mut self.taker);
+        }
+        if asker {
+            if let CallTick::Send(message) = asker_ticks(&mut self.asker_deaf, &mut self.asker) {
+                self.journal.send(&message);
+            }
         }
         Ok(())
     }

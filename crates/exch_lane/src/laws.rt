@@ -1,6 +1,6 @@
 //! What layers above rely on: a lane is one cell.
 
-ghost use Rattle.exch_lane.specs.Clocks.{PassesWithin, TimeIsCounted, TimeStarts};
+ghost use Rattle.exch_lane.specs.Clocks.{ClocksStay, PassesWithin, TimeIsCounted, TicksAreLate, TimeIsLate, TimeIsMissed, TimeStarts};
 ghost use Rattle.exch_lane.specs.Laws.{LaneIsACell};
 
 /// One direction of packets (DSP0236), tags and time is one cell: from a new lane, for every list of steps that may be
@@ -20,12 +20,17 @@ pub fn lane_is_a_cell()
     pldm_exch::rests_change();
 }
 
-/// Time in a lane adds up, in ticks and units: an assembly's 8 ticks are over within 11 units, the 12 in which a request is repeated
-/// within 14, and the 24 for which an answer is kept within 29.
+/// Time in a lane adds up: an end that counted so many ticks may have missed one before them and one after each eight,
+/// so that 9 ticks, after which an assembly is over, are at most 11 units, the 12 in which a request is repeated at most
+/// 14, and the 25 after which no kept answer is left at most 29.
 pub fn time_adds_up()
+    ensures clocks { ClocksStay }
     ensures starts { TimeStarts }
     ensures counted { TimeIsCounted }
-    ensures assembly { PassesWithin 8 11 }
+    ensures missed { TimeIsMissed }
+    ensures late { TimeIsLate }
+    ensures law { TicksAreLate }
+    ensures assembly { PassesWithin 9 11 }
     ensures repeats { PassesWithin 12 14 }
-    ensures keeping { PassesWithin 24 29 }
+    ensures keeping { PassesWithin 25 29 }
 {}

@@ -2,6 +2,7 @@
 //! reordered and late, with the exchanges of PLDM messages (DSP0240) at both ends.
 #![tactic(auto)]
 
+mod clock;
 mod entry;
 mod journal;
 mod lane;
@@ -9,6 +10,7 @@ mod laws;
 mod replay;
 mod step;
 
+pub use clock::{UNMISSED, may_beat, since_after};
 pub use entry::LaneEntry;
 pub use journal::SentPacket;
 pub use lane::Lane;

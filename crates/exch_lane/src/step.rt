@@ -22,8 +22,8 @@ pub enum LaneStep {
     /// The packet with this number, counted from 1 in the order of sending, comes to an end. Where it makes a new request
     /// whole, the taker answers that with this completion code and what follows it.
     Deliver(usize, End, Reply),
-    /// A unit of time passes, and both ends count it.
-    Tick,
+    /// A unit of time passes: whether the asker counts it, and whether the taker does. An end that doesn't misses it.
+    Tick(bool, bool),
     /// An end starts anew, and is deaf and silent for 40 ticks.
     Restart(End),
 }
@@ -31,7 +31,8 @@ pub enum LaneStep {
 /// Why a step isn't taken.
 #[derive(Clone, Copy, Debug, PartialEq, Eq, Error)]
 pub enum LaneFault {
-    /// Begin at a deaf asker, or while no request may begin; Abandon while no request is open; Tick at the end of time.
+    /// Begin at a deaf asker, or while no request may begin; Abandon while no request is open; Tick at the end of time, or
+    /// missed by an end that counted fewer than 8 since the last that it missed.
     #[error("NotNow")]
     NotNow,
     /// No packet of this number was sent.

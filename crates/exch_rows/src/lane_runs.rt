@@ -56,7 +56,7 @@ fn exchanges(lane: &mut Lane, command: u8) -> bool {
         to_asker(first.wrapping_add(2)),
         to_asker(first.wrapping_add(3)),
         to_asker(first.wrapping_add(4)),
-        LaneStep::Tick,
+        LaneStep::Tick(true, true),
     ];
     for step in &steps {
         if !takes(lane, step) {

@@ -21,9 +21,15 @@ enum Act<'a> {
     Ticks(u32),
     /// So many ticks pass, before each of which the asker is deaf and does nothing.
     Deaf(u32),
+    /// A tick passes that the asker misses, or the taker, or both.
+    AskerMisses,
+    TakerMisses,
+    BothMiss,
 }
 
-use Act::{Abandon, Begin, Deaf, Restart, Ticks, ToAsker, ToTaker};
+use Act::{
+    Abandon, AskerMisses, Begin, BothMiss, Deaf, Restart, TakerMisses, Ticks, ToAsker, ToTaker,
+};
 
 /// What happened, as an entry of a lane's history.
 #[derive(Clone, Copy)]
@@ -50,7 +56,10 @@ fn step_of(act: Act<'_>) -> LaneStep {
         ToTaker(number, reply) => LaneStep::Deliver(number, End::Taker, data(reply)),
         ToAsker(number) => LaneStep::Deliver(number, End::Asker, Reply::new()),
         Restart => LaneStep::Restart(End::Asker),
-        Ticks(_) | Deaf(_) => LaneStep::Tick,
+        Ticks(_) | Deaf(_) => LaneStep::Tick(true, true),
+        AskerMisses => LaneStep::Tick(false, true),
+        TakerMisses => LaneStep::Tick(true, false),
+        BothMiss => LaneStep::Tick(false, false),
     }
 }
 
@@ -163,7 +172,14 @@ const REPLY_13: [u8; 9] = [0x01, 8, 9, 0xC0, 0x01, 0x00, 0x05, 0x13, 0x00];
 
 const BODY: [u8; 100] = [0x5A; 100];
 
-const ROWS: [Row<'static>; 4] = [
+/// The second packet of a request with that data: the end of its message of 104 bytes.
+const SECOND: [u8; 44] = [
+    0x01, 9, 8, 0x58, 0x5A, 0x5A, 0x5A, 0x5A, 0x5A, 0x5A, 0x5A, 0x5A, 0x5A, 0x5A, 0x5A, 0x5A, 0x5A,
+    0x5A, 0x5A, 0x5A, 0x5A, 0x5A, 0x5A, 0x5A, 0x5A, 0x5A, 0x5A, 0x5A, 0x5A, 0x5A, 0x5A, 0x5A, 0x5A,
+    0x5A, 0x5A, 0x5A, 0x5A, 0x5A, 0x5A, 0x5A, 0x5A, 0x5A, 0x5A, 0x5A,
+];
+
+const ROWS: [Row<'static>; 9] = [
     Row {
         situation: "a repeated request gets its first reply again",
         acts: &[
@@ -244,6 +260,94 @@ const ROWS: [Row<'static>; 4] = [
         sent: &[],
         history: &[Asked(0x01, &[])],
     },
+    Row {
+        // the asker counts 12 of the first 14 units, so the request goes out for the last time at 14; that packet may come
+        // until 22, when the taker has counted 22 ticks since it took the request
+        situation: "the last repeat of a request comes 22 units after it began, and meets its kept answer",
+        acts: &[
+            (Begin(0x10, &[0xF0, 0x00]), None),
+            (ToTaker(1, &[0x00, 0x01]), None),
+            (AskerMisses, None),
+            (Ticks(8), None),
+            (AskerMisses, None),
+            (Ticks(4), None),
+            (Ticks(8), None),
+            (ToTaker(4, &[0x00, 0x02]), None),
+            (Ticks(1), None),
+            (ToTaker(4, &[0x00, 0x02]), Some(LaneFault::Dead)),
+        ],
+        count: 5,
+        sent: &[(3, 7, &REQUEST), (4, 14, &REQUEST), (5, 22, &REPLY)],
+        history: &[
+            Asked(0x10, &[0xF0, 0x00]),
+            Taken(0x10, &[0xF0, 0x00], &[0x00, 0x01]),
+        ],
+    },
+    Row {
+        // the taker counts 8 of these 10 units
+        situation: "an assembly waits 10 units for its next piece where two ticks are missed",
+        acts: &[
+            (Begin(0x13, &BODY), None),
+            (ToTaker(1, &[0x05]), None),
+            (TakerMisses, None),
+            (Ticks(8), None),
+            (TakerMisses, None),
+            (ToTaker(4, &[0x00]), None),
+        ],
+        count: 5,
+        sent: &[(4, 6, &SECOND), (5, 10, &REPLY_13)],
+        history: &[Asked(0x13, &BODY), Taken(0x13, &BODY, &[0x00])],
+    },
+    Row {
+        situation: "an assembly is over after 11 units, whatever is missed",
+        acts: &[
+            (Begin(0x13, &BODY), None),
+            (ToTaker(1, &[0x05]), None),
+            (TakerMisses, None),
+            (Ticks(8), None),
+            (TakerMisses, None),
+            (Ticks(1), None),
+            (ToTaker(4, &[0x00]), None),
+        ],
+        count: 4,
+        sent: &[(4, 6, &SECOND)],
+        history: &[Asked(0x13, &BODY)],
+    },
+    Row {
+        situation: "an end misses a tick only where it counted eight since the last that it missed",
+        acts: &[
+            (BothMiss, None),
+            (AskerMisses, Some(LaneFault::NotNow)),
+            (TakerMisses, Some(LaneFault::NotNow)),
+            (BothMiss, Some(LaneFault::NotNow)),
+            (Ticks(7), None),
+            (AskerMisses, Some(LaneFault::NotNow)),
+            (TakerMisses, Some(LaneFault::NotNow)),
+            (Ticks(1), None),
+            (AskerMisses, None),
+            (AskerMisses, Some(LaneFault::NotNow)),
+            (TakerMisses, None),
+            (TakerMisses, Some(LaneFault::NotNow)),
+            (Begin(0x10, &[0xF0, 0x00]), None),
+        ],
+        count: 1,
+        sent: &[(1, 11, &REQUEST)],
+        history: &[Asked(0x10, &[0xF0, 0x00])],
+    },
+    Row {
+        // the sixth tick that the asker counts is in the seventh unit
+        situation: "a missed tick leaves an end as it is",
+        acts: &[
+            (Begin(0x10, &[0xF0, 0x00]), None),
+            (Ticks(5), None),
+            (AskerMisses, None),
+            (ToTaker(2, &[]), Some(LaneFault::NoSuchPacket)),
+            (Ticks(4), None),
+        ],
+        count: 2,
+        sent: &[(2, 7, &REQUEST)],
+        history: &[Asked(0x10, &[0xF0, 0x00])],
+    },
 ];
 
 #[test]
@@ -258,9 +362,9 @@ fn stops_at_its_fault(alloc: Global) -> bool {
     let steps = [
         LaneStep::Begin(0x01, Reply::new()),
         LaneStep::Abandon,
-        LaneStep::Tick,
+        LaneStep::Tick(true, true),
         LaneStep::Abandon,
-        LaneStep::Tick,
+        LaneStep::Tick(true, true),
     ];
     let mut lane = Lane::new(alloc, 8, 9);
     lane_replay(&mut lane, &steps) == Err((3, LaneFault::NotNow))
@@ -271,4 +375,40 @@ fn stops_at_its_fault(alloc: Global) -> bool {
 #[test]
 fn a_run_stops_at_its_fault(rt: HostRuntime) {
     assert!(rt; stops_at_its_fault(rt.alloc()));
+}
+
+/// How many of so many ticks an asker counts that misses each one that it may; None where a tick is refused that it counts.
+fn counted_in(alloc: Global, units: u32) -> Option<u32> {
+    let mut lane = Lane::new(alloc, 8, 9);
+    let mut counted: u32 = 0;
+    for _ in 0..units {
+        if !takes(&mut lane, AskerMisses, None) {
+            if !takes(&mut lane, Ticks(1), None) {
+                return None;
+            }
+            counted = counted.wrapping_add(1);
+        }
+    }
+    Some(counted)
+}
+
+/// The units in which the slowest asker counts so many ticks: it is behind by one, and by one more after each eight.
+const SLOWEST: [(u32, u32); 7] = [
+    (1, 0),
+    (9, 8),
+    (10, 8),
+    (11, 9),
+    (14, 12),
+    (28, 24),
+    (29, 25),
+];
+
+#[test]
+fn the_slowest_end_is_behind_by_an_eighth(rt: HostRuntime) {
+    for (units, counted) in SLOWEST {
+        assert!(rt;
+            counted_in(rt.alloc(), units) == Some(counted),
+            "{units} units"
+        );
+    }
 }

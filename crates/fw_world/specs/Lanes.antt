@@ -9,6 +9,7 @@ use Rattle.fwup_wire.specs.Values.{CommandOf}
 use Rattle.pldm_exch.specs.Caller.{CallerState, Open, is_quiet, may_begin}
 use Rattle.pldm_exch.specs.Sides.{AskerRow, AskerTick, TakerRow, asker_counts, asker_row, taker_row}
 use Rattle.exch_lane.specs.Cells.{CellRun, cells_along, no_cell_yet}
+use Rattle.exch_lane.specs.Clocks.{since_after}
 use Rattle.exch_lane.specs.Lanes.{AreEnds, EntryOf, LaneOf, Lives, Sent, StepOf, lane_new, numbered}
 use Rattle.exch_lane.specs.Laws.{in_lane}
 use Rattle.exch_lane.specs.Steps.{MayRun, lane_run}
@@ -24,15 +25,33 @@ use Rattle.fw_node.specs.Cores.{device_core, session_core}
 use Rattle.fw_node.specs.Halves.{CoreOf, HalfOf, RepliedBy, read_by, recast, reply_read, still_wished, unwished_abandoned}
 use Rattle.fw_world.specs.Links.{LinkOf, LinkStep}
 
+-- the time, and how many ticks the half that asks and the other one counted since they last missed one
+pub record Times : Type 0 where
+  pub now : ℕ
+  pub asker_since_miss : ℕ
+  pub taker_since_miss : ℕ
+
+abbrev pub turned_times : Times → Times
+turned_times t = record { now = t.now; asker_since_miss = t.taker_since_miss; taker_since_miss = t.asker_since_miss }
+
+-- after a unit
+abbrev pub later : Times → (asker taker : Bool) → Times
+later t asker taker =
+    record {
+      now = t.now + 1;
+      asker_since_miss = since_after asker t.asker_since_miss;
+      taker_since_miss = since_after taker t.taker_since_miss;
+    }
+
 -- the lane in which one half asks the other
-abbrev pub lane_of : {A B : Type 0} → (now : ℕ) → HalfOf A → HalfOf B → List Sent → List EntryOf → LaneOf
-lane_of now a b packets entries =
+abbrev pub lane_of : {A B : Type 0} → Times → HalfOf A → HalfOf B → List Sent → List EntryOf → LaneOf
+lane_of t a b packets entries =
     record {
       asker_eid = a.own;
       taker_eid = a.peer;
-      now = now;
-      asker_since_miss = 0;
-      taker_since_miss = 0;
+      now = t.now;
+      asker_since_miss = t.asker_since_miss;
+      taker_since_miss = t.taker_since_miss;
       asker = a.asker;
       taker = b.taker;
       packets = packets;
@@ -50,14 +69,18 @@ abbrev pub is_up : LinkOf → Sent → Bool
 is_up l s = is_of l.device.own l.agent.own s
 
 -- one way between two halves: the lane in which the first asks, with its packets among all
-abbrev pub way_of : {A B : Type 0} → (now : ℕ) → HalfOf A → HalfOf B → List Sent → List EntryOf → LaneOf
-way_of now a b packets entries = lane_of now a b (filter (is_of a.own b.own) packets) entries
+abbrev pub way_of : {A B : Type 0} → Times → HalfOf A → HalfOf B → List Sent → List EntryOf → LaneOf
+way_of t a b packets entries = lane_of t a b (filter (is_of a.own b.own) packets) entries
+
+-- the times of a link at this moment, in the lane in which the agent asks
+abbrev pub times_of : (now : ℕ) → LinkOf → Times
+times_of now l = record { now = now; asker_since_miss = l.agent_since_miss; taker_since_miss = l.device_since_miss }
 
 abbrev pub down_lane : (now : ℕ) → LinkOf → List EntryOf → LaneOf
-down_lane now l entries = way_of now l.agent l.device l.packets entries
+down_lane now l entries = way_of (times_of now l) l.agent l.device l.packets entries
 
 abbrev pub up_lane : (now : ℕ) → LinkOf → List EntryOf → LaneOf
-up_lane now l entries = way_of now l.device l.agent l.packets entries
+up_lane now l entries = way_of (turned_times (times_of now l)) l.device l.agent l.packets entries
 
 -- the number of a packet in its lane: how many of the lane stand up to it
 abbrev pub number_in : (Sent → Bool) → List Sent → ℕ → ℕ

@@ -14,11 +14,10 @@ use Rattle.fw_node.specs.Nodes.{IsTold}
 use Rattle.fw_world.specs.Lanes.{LinkExplained, down_lane, down_steps, up_lane, up_steps}
 use Rattle.fw_world.specs.Links.{LinkOf, LinkStep, LinkStepped, link_after, time_after}
 
--- The step may be taken: a packet that comes was sent, and lives; both nodes count a tick, which isn't the last; and
--- the calls are allowed.
+-- The step may be taken: a packet that comes was sent, and lives; a tick isn't the last, and a node misses it only
+-- where it counted eight since the last that it missed; and the calls are allowed.
 abbrev pub MayHappen : (now : ℕ) → List PackageText → LinkOf → LinkStep → Type 0
 MayHappen now packages l (LinkStep.Deliver number to works) = IsSomeAnd (numbered l.packets number) (Lives now)
-MayHappen now packages l (LinkStep.Tick agent device) = (agent ≡ true) × (device ≡ true) × (now < 2 ^ 32 - 1)
 MayHappen now packages l s = is_some (link_after now packages l s) ≡ true
 
 -- What is known of codecs: the answer that a core gives can be read again; and where a half hears after a tick, what its core
@@ -32,7 +31,8 @@ Speaks core h = nat_le h.asker.deaf 1 ≡ true → IfSome (core.wish (half_ticks
 
 abbrev pub CanBeSaid : List PackageText → LinkOf → LinkStep → Type 0
 CanBeSaid packages l (LinkStep.Deliver number to works) = IfSome (numbered l.packets number) (λ p. IsToldOn packages l to works p.bytes)
-CanBeSaid packages l (LinkStep.Tick agent device) = Speaks (session_core packages) l.agent × Speaks device_core l.device
+CanBeSaid packages l (LinkStep.Tick agent device) =
+    (agent ≡ true → Speaks (session_core packages) l.agent) × (device ≡ true → Speaks device_core l.device)
 CanBeSaid packages l s = Unit {0}
 
 -- One lane through a step of its link: the steps may be taken, they lead to the lane after it, and its cell goes along.

@@ -1,8 +1,9 @@
 -- A link: the agent's half for a device, the device's half for the agent, and every packet sent between them. What a step of
 -- the world is for one device, control and base messages and the event log aside.
-use Rattle.std.specs.Prelude.{ℕ, ◌+◌, ◌-◌, ◌^◌, Bool, true, if◌then◌else◌, nat_lt, List, [], ◌∷◌, ◌++◌, map, Option, Some, None}
+use Rattle.std.specs.Prelude.{ℕ, ◌+◌, ◌-◌, ◌^◌, ◌&&◌, Bool, true, if◌then◌else◌, nat_lt, List, [], ◌∷◌, ◌++◌, map, Option, Some, None}
 use Rattle.mctp_reasm.specs.Pieces.{MessageOf}
 use Rattle.pldm_exch.specs.Caller.{is_quiet}
+use Rattle.exch_lane.specs.Clocks.{may_beat, since_after}
 use Rattle.exch_lane.specs.Lanes.{Sent, lives_until, numbered}
 use Rattle.exch_lane.specs.Steps.{sendings}
 use Rattle.fw_package.specs.Package.{PackageText}
@@ -20,11 +21,13 @@ use Rattle.fw_node.specs.Agents.{activates, cancels, starts}
 use Rattle.fw_node.specs.Cores.{TimedDevice, device_core, package_of, session_core}
 use Rattle.fw_node.specs.Halves.{HalfHeard, HalfOf, half_hears, half_restarts, half_ticks, recast}
 
--- both halves, and the packets, dated, in the order of sending
+-- both halves, the packets, dated, in the order of sending, and how many ticks each node counted since it last missed one
 pub record LinkOf : Type 0 where
   pub agent : HalfOf TimedOf
   pub device : HalfOf TimedDevice
   pub packets : List Sent
+  pub agent_since_miss : ℕ
+  pub device_since_miss : ℕ
 
 -- What can happen on a link. `works` says whether the one call of its bank that the step makes succeeds; a tick says which of
 -- the two nodes count it.
@@ -93,6 +96,8 @@ link_ticks now packages l agent device =
       packets = posted (now + 1)
           (posted (now + 1) l.packets (half_ticks (session_core packages) agent l.agent).sent)
           (half_ticks device_core device l.device).sent;
+      agent_since_miss = since_after agent l.agent_since_miss;
+      device_since_miss = since_after device l.device_since_miss;
     }
 
 abbrev pub activates_on : List PackageText → LinkOf → Option SessionOf → Option LinkStepped
@@ -112,7 +117,9 @@ abbrev pub link_after : (now : ℕ) → List PackageText → LinkOf → LinkStep
 link_after now packages l (LinkStep.Deliver number to works) =
     delivers_on now packages l to works (numbered l.packets number)
 link_after now packages l (LinkStep.Tick agent device) =
-    if nat_lt now (2 ^ 32 - 1) then Some (unnoted (link_ticks now packages l agent device)) else None
+    if nat_lt now (2 ^ 32 - 1) && (may_beat agent l.agent_since_miss && may_beat device l.device_since_miss) then
+    Some (unnoted (link_ticks now packages l agent device))
+    else None
 link_after now packages l (LinkStep.Start number) =
     if may_start packages l.agent.core.session number then
     Some (unnoted (record l { agent = starts packages l.agent number }))

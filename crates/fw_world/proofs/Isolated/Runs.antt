@@ -202,7 +202,7 @@ runs_well law lanes messages opening w v ss eid p k i run fine = elim (runs_or_f
 
 -- what is shared, by its link, and the other way round
 abbrev seen_of : SharedOf → SeenOf
-seen_of q = record { link = record { agent = q.half; device = q.node.half; packets = q.packets }; endpoint = q.node.endpoint; tid = q.node.tid; entries = q.history }
+seen_of q = record { link = record { agent = q.half; device = q.node.half; packets = q.packets; agent_since_miss = 8; device_since_miss = 8 }; endpoint = q.node.endpoint; tid = q.node.tid; entries = q.history }
 
 abbrev shared_of : SeenOf → SharedOf
 shared_of p = record {
@@ -220,7 +220,7 @@ sees w eid (Some h) (Some x) q half site e =
     let same : ◌≡◌ {A = SharedOf} (record { node = record x.node { faults = 0 }; half = h; deaf = w.agent.deaf; packets = x.packets; history = history_of eid w.history }) q = cc in
     record {
       link = ap (λ a. link_from a (site_for w.sites eid)) half ∙ ap (link_from (Some h)) site
-          ∙ ap (λ z. Some (record { agent = z.half; device = z.node.half; packets = z.packets })) same;
+          ∙ ap (λ z. Some (record { agent = z.half; device = z.node.half; packets = z.packets; agent_since_miss = 8; device_since_miss = 8 })) same;
       site = x;
       there = site;
       endpoint = ap (λ z. z.node.endpoint) same;
@@ -234,7 +234,7 @@ shares_by w eid None s p x link site endpoint tid entries deaf = absurd (cc)
 shares_by w eid (Some h) None p x link site endpoint tid entries deaf = absurd (cc)
 shares_by w eid (Some h) (Some y) p x link site endpoint tid entries deaf =
     let same : y ≡ x = cc in
-    let is : ◌≡◌ {A = LinkOf} (record { agent = h; device = y.node.half; packets = y.packets }) p.link = cc in
+    let is : ◌≡◌ {A = LinkOf} (record { agent = h; device = y.node.half; packets = y.packets; agent_since_miss = 8; device_since_miss = 8 }) p.link = cc in
     let device : y.node.half ≡ p.link.device = ap (λ z. z.device) is in
     let agent : h ≡ p.link.agent = ap (λ z. z.agent) is in
     let packets : y.packets ≡ p.link.packets = ap (λ z. z.packets) is in

@@ -14,7 +14,7 @@ use Rattle.fwup_wire.specs.Values.{CommandOf}
 use Rattle.fw_message.specs.Pairs.{HeldOf}
 use Rattle.fw_node.specs.Halves.{CoreOf, HalfOf, half_hears, half_hears_by, half_takes}
 use Rattle.fw_node.specs.Nodes.{IsTold}
-use Rattle.fw_world.specs.Lanes.{answer_steps, ask_steps, is_of, learn_steps, number_in, reply_in, take_steps, way_of}
+use Rattle.fw_world.specs.Lanes.{Times, turned_times, answer_steps, ask_steps, is_of, learn_steps, number_in, reply_in, take_steps, way_of}
 use Rattle.fw_world.proofs.Joins.Goes.{Holds}
 use Rattle.fw_world.proofs.Joins.Learns.{HeardGoes, Others, hears_reply, row_answers, RowAnswers}
 use Rattle.fw_world.proofs.Joins.Rows.{IsOneDeaf}
@@ -26,11 +26,11 @@ use Rattle.fw_world.proofs.Links.Sorted.{lane_number}
 
 -- a reply
 reply_comes : {A B : Type 0} {packages : List PackageText} {core : CoreOf A} {agent : Bool} {place : Place A} {peer_wish : Option CommandOf} {notes : Notes A} (side : Sided packages core agent place peer_wish notes)
-    (works : Bool) (now : ℕ) (a : HalfOf A) (b : HalfOf B) (ps : List Sent) (past later : List LaneEntry) (number : ℕ) (s : Sent) (own other : Option HeldOf) (run last other_run other_last : CellRun)
+    (works : Bool) (now : Times) (a : HalfOf A) (b : HalfOf B) (ps : List Sent) (past later : List LaneEntry) (number : ℕ) (s : Sent) (own other : Option HeldOf) (run last other_run other_last : CellRun)
     → a.own ≢ b.own → a.peer ≡ b.own → numbered ps number ≡ Some s → is_of a.own b.own s ≡ true
     → Holds core agent a.core run.cell own → Others (not agent) peer_wish other_run.cell other → IsOneDeaf a → awaited run.cell ≡ option_map asking a.asker.caller.asked
     → cells_along (way_of now a b ps past) (ask_steps core works a (is_of a.own b.own s) (number_in (is_of a.own b.own) ps number) s.bytes) (Some run) ≡ Some last
-    → cells_along (way_of now b a ps later) (answer_steps core works a (is_of b.own a.own s) (number_in (is_of b.own a.own) ps number) s.bytes) (Some other_run) ≡ Some other_last
+    → cells_along (way_of (turned_times now) b a ps later) (answer_steps core works a (is_of b.own a.own s) (number_in (is_of b.own a.own) ps number) s.bytes) (Some other_run) ≡ Some other_last
     → HeardGoes packages core agent place peer_wish notes (place a.core own other) a.core (is_quiet a.asker.caller) works (half_hears core works a s.bytes) last.cell other_last.cell
 reply_comes {A} {B} {packages} {core} {agent} {place} {peer_wish} {notes} side works now a b ps past later number s own other run last other_run other_last differ peer is mine holds theirs deaf waits e f =
     let row = asker_row a.own a.peer a.asker s.bytes in
@@ -47,7 +47,7 @@ reply_comes {A} {B} {packages} {core} {agent} {place} {peer_wish} {notes} side w
     let along : cells_along (lane_after w (StepOf.Deliver n ends.Asker [])) (learn_steps core works a row) (cell_at_asker row run) ≡ Some last =
     subst (λ o. cells_along (lane_after w (StepOf.Deliver n ends.Asker [])) (learn_steps core works a row) o ≡ Some last) comes steps in
     let still : Some other_run ≡ Some other_last =
-    subst (λ m. cells_along (way_of now b a ps later) (answer_steps core works a m (number_in (is_of b.own a.own) ps number) s.bytes) (Some other_run) ≡ Some other_last) far f in
+    subst (λ m. cells_along (way_of (turned_times now) b a ps later) (answer_steps core works a m (number_in (is_of b.own a.own) ps number) s.bytes) (Some other_run) ≡ Some other_last) far f in
     subst (λ t. HeardGoes packages core agent place peer_wish notes (place a.core own other) a.core (is_quiet a.asker.caller) works (half_hears_by core works a row t) last.cell other_last.cell)
     (sym silent)
     (hears_reply side works a row own other (lane_after w (StepOf.Deliver n ends.Asker [])) run last other_run other_last holds theirs deaf
@@ -55,18 +55,18 @@ reply_comes {A} {B} {packages} {core} {agent} {place} {peer_wish} {notes} side w
 
 -- a request
 request_comes : {A B : Type 0} {packages : List PackageText} {core : CoreOf A} {agent : Bool} {place : Place A} {peer_wish : Option CommandOf} {notes : Notes A} (side : Sided packages core agent place peer_wish notes)
-    (works : Bool) (now : ℕ) (a : HalfOf A) (b : HalfOf B) (ps : List Sent) (past later : List LaneEntry) (number : ℕ) (s : Sent) (own other : Option HeldOf) (run last other_run other_last : CellRun)
+    (works : Bool) (now : Times) (a : HalfOf A) (b : HalfOf B) (ps : List Sent) (past later : List LaneEntry) (number : ℕ) (s : Sent) (own other : Option HeldOf) (run last other_run other_last : CellRun)
     → a.own ≢ b.own → a.peer ≡ b.own → b.peer ≡ a.own → numbered ps number ≡ Some s → is_of b.own a.own s ≡ true
     → Holds core agent a.core run.cell own → Others (not agent) peer_wish other_run.cell other → IsOneDeaf a → awaited run.cell ≡ option_map asking a.asker.caller.asked
     → (a.asker.deaf ≡ 0 → is_quiet a.asker.caller ≡ true → run.cell ≡ Cell.Empty) → IsTold (half_hears core works a s.bytes)
     → cells_along (way_of now a b ps past) (ask_steps core works a (is_of a.own b.own s) (number_in (is_of a.own b.own) ps number) s.bytes) (Some run) ≡ Some last
-    → cells_along (way_of now b a ps later) (answer_steps core works a (is_of b.own a.own s) (number_in (is_of b.own a.own) ps number) s.bytes) (Some other_run) ≡ Some other_last
+    → cells_along (way_of (turned_times now) b a ps later) (answer_steps core works a (is_of b.own a.own s) (number_in (is_of b.own a.own) ps number) s.bytes) (Some other_run) ≡ Some other_last
     → HeardGoes packages core agent place peer_wish notes (place a.core own other) a.core (is_quiet a.asker.caller) works (half_hears core works a s.bytes) last.cell other_last.cell
 request_comes {A} {B} {packages} {core} {agent} {place} {peer_wish} {notes} side works now a b ps past later number s own other run last other_run other_last differ peer back is mine holds theirs deaf waits rests told e f =
     let row = taker_row a.own a.peer a.taker s.bytes in
     let n = number_in (is_of b.own a.own) ps number in
     let w = way_of now a b ps past in
-    let v = way_of now b a ps later in
+    let v = way_of (turned_times now) b a ps later in
     let reply = reply_in core works a row in
     let apart : a.peer ≢ a.own = λ z. differ (sym z ∙ peer) in
     let from : in_lane a.peer a.own s.bytes ≡ true = rw peer mine in
@@ -85,12 +85,12 @@ request_comes {A} {B} {packages} {core} {agent} {place} {peer_wish} {notes} side
 
 -- A packet of the link comes to a half.
 pub half_comes : {A B : Type 0} {packages : List PackageText} {core : CoreOf A} {agent : Bool} {place : Place A} {peer_wish : Option CommandOf} {notes : Notes A} (side : Sided packages core agent place peer_wish notes)
-    (works : Bool) (now : ℕ) (a : HalfOf A) (b : HalfOf B) (ps : List Sent) (past later : List LaneEntry) (number : ℕ) (s : Sent) (own other : Option HeldOf) (run last other_run other_last : CellRun)
+    (works : Bool) (now : Times) (a : HalfOf A) (b : HalfOf B) (ps : List Sent) (past later : List LaneEntry) (number : ℕ) (s : Sent) (own other : Option HeldOf) (run last other_run other_last : CellRun)
     → a.own ≢ b.own → a.peer ≡ b.own → b.peer ≡ a.own → numbered ps number ≡ Some s → (is_of a.own b.own s ≡ true) ⊎ (is_of b.own a.own s ≡ true)
     → Holds core agent a.core run.cell own → Others (not agent) peer_wish other_run.cell other → IsOneDeaf a → awaited run.cell ≡ option_map asking a.asker.caller.asked
     → (a.asker.deaf ≡ 0 → is_quiet a.asker.caller ≡ true → run.cell ≡ Cell.Empty) → IsTold (half_hears core works a s.bytes)
     → cells_along (way_of now a b ps past) (ask_steps core works a (is_of a.own b.own s) (number_in (is_of a.own b.own) ps number) s.bytes) (Some run) ≡ Some last
-    → cells_along (way_of now b a ps later) (answer_steps core works a (is_of b.own a.own s) (number_in (is_of b.own a.own) ps number) s.bytes) (Some other_run) ≡ Some other_last
+    → cells_along (way_of (turned_times now) b a ps later) (answer_steps core works a (is_of b.own a.own s) (number_in (is_of b.own a.own) ps number) s.bytes) (Some other_run) ≡ Some other_last
     → HeardGoes packages core agent place peer_wish notes (place a.core own other) a.core (is_quiet a.asker.caller) works (half_hears core works a s.bytes) last.cell other_last.cell
 half_comes side works now a b ps past later number s own other run last other_run other_last differ peer back is (inl mine) holds theirs deaf waits rests told e f =
     reply_comes side works now a b ps past later number s own other run last other_run other_last differ peer is mine holds theirs deaf waits e f

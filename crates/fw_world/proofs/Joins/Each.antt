@@ -134,9 +134,9 @@ one_goes now s w ls place l alone is apart stand e go = one_from now s w [] w.no
 -- ALL LINKS
 
 -- all links after a step of each
-abbrev pub AllAfter : List PackageText → (now : ℕ) → LinkStep → List LinkOf → List LinkStepped → Type 0
+abbrev pub AllAfter : List PackageText → (now : ℕ) → (LinkOf → LinkStep) → List LinkOf → List LinkStepped → Type 0
 AllAfter packages now s [] [] = Unit {0}
-AllAfter packages now s (l ∷ ls) (t ∷ ts) = (link_after now packages l s ≡ Some t) × AllAfter packages now s ls ts
+AllAfter packages now s (l ∷ ls) (t ∷ ts) = (link_after now packages l (s l) ≡ Some t) × AllAfter packages now s ls ts
 AllAfter packages now s ls ts = ⊥
 
 abbrev pub link_of : LinkStepped → LinkOf
@@ -147,29 +147,29 @@ abbrev pub notes_of : List ℕ → List LinkStepped → List NotedOf
 notes_of (eid ∷ eids) (t ∷ ts) = map (noted_of eid) t.noted ++ notes_of eids ts
 notes_of eids ts = []
 
-pub record AllGone (packages : List PackageText) (now : ℕ) (s : LinkStep) (w : WorldOf) (front ns : List NodeOf) (ls : List LinkOf) (history : List NotedOf) : Type 0 where
+pub record AllGone (packages : List PackageText) (now then : ℕ) (s : LinkOf → LinkStep) (w : WorldOf) (front ns : List NodeOf) (ls : List LinkOf) (history : List NotedOf) : Type 0 where
   pub stepped : List LinkStepped
   pub after : AllAfter packages now s ls stepped
   pub steps : List WorldStepOf
   pub named : AllByRecursion IsNamed steps
   pub nodes : List NodeOf
   pub along : world_along (Some (nodes_in w (front ++ ns) history)) steps ≡ Some (nodes_in w (front ++ nodes) (history ++ notes_of (map eid_of ns) stepped))
-  pub stand : AllStand packages (time_after now s) (map link_of stepped) nodes
+  pub stand : AllStand packages then (map link_of stepped) nodes
   pub same : map eid_of nodes ≡ map eid_of ns
 
 -- each of them can take the step
-abbrev pub AllMay : List PackageText → (now : ℕ) → LinkStep → List LinkOf → Type 0
+abbrev pub AllMay : List PackageText → (now : ℕ) → (LinkOf → LinkStep) → List LinkOf → Type 0
 AllMay packages now s [] = Unit {0}
-AllMay packages now s (l ∷ ls) = ((n : NodeOf) → Stands packages now l n.pair → StandsOn packages now l s n.pair) × AllMay packages now s ls
+AllMay packages now s (l ∷ ls) = ((n : NodeOf) → Stands packages now l n.pair → StandsOn packages now l (s l) n.pair) × AllMay packages now s ls
 
-all_more : (now : ℕ) (s : LinkStep) (w : WorldOf) (front : List NodeOf) (n : NodeOf) (ns : List NodeOf) (l : LinkOf) (ls : List LinkOf) (history : List NotedOf) → IsAlone s → node_at front n.eid ≡ None
-    → (on : StandsOn w.packages now l s n.pair) → AllGone w.packages now s w (front ++ node_of n.eid on.pair ∷ []) ns ls (history ++ map (noted_of n.eid) on.stepped.noted)
-    → AllGone w.packages now s w front (n ∷ ns) (l ∷ ls) history
-all_more now s w front n ns l ls history alone away on g = record {
+all_more : (now then : ℕ) (s : LinkOf → LinkStep) (w : WorldOf) (front : List NodeOf) (n : NodeOf) (ns : List NodeOf) (l : LinkOf) (ls : List LinkOf) (history : List NotedOf) → IsAlone (s l) → time_after now (s l) ≡ then → node_at front n.eid ≡ None
+    → (on : StandsOn w.packages now l (s l) n.pair) → AllGone w.packages now then s w (front ++ node_of n.eid on.pair ∷ []) ns ls (history ++ map (noted_of n.eid) on.stepped.noted)
+    → AllGone w.packages now then s w front (n ∷ ns) (l ∷ ls) history
+all_more now then s w front n ns l ls history alone time away on g = record {
   stepped = on.stepped ∷ g.stepped;
   after = (on.after, g.after);
   steps = map (WorldStepOf.OfPair n.eid) on.steps ++ g.steps;
-  named = all_along IsNamed (map (WorldStepOf.OfPair n.eid) on.steps) g.steps (named_among n.eid on.steps (named_alone s on.steps alone on.named)) g.named;
+  named = all_along IsNamed (map (WorldStepOf.OfPair n.eid) on.steps) g.steps (named_among n.eid on.steps (named_alone (s l) on.steps alone on.named)) g.named;
   nodes = node_of n.eid on.pair ∷ g.nodes;
   along =
       let noted = history ++ map (noted_of n.eid) on.stepped.noted in
@@ -181,14 +181,14 @@ all_more now s w front n ns l ls history alone away on g = record {
       ∙ g.along
       ∙ ap Some (moved_on w front (node_of n.eid on.pair) g.nodes (noted ++ notes_of (map eid_of ns) g.stepped))
       ∙ ap (λ xs. Some (nodes_in w (front ++ node_of n.eid on.pair ∷ g.nodes) xs)) (append_assoc history (map (noted_of n.eid) on.stepped.noted) (notes_of (map eid_of ns) g.stepped));
-  stand = (on.stands, g.stand);
+  stand = (subst (λ m. Stands w.packages m on.stepped.after on.pair) time on.stands, g.stand);
   same = ap (λ es. n.eid ∷ es) g.same;
 }
 
-all_from : (now : ℕ) (s : LinkStep) (w : WorldOf) (front ns : List NodeOf) (ls : List LinkOf) (history : List NotedOf) → IsAlone s
+all_from : (now then : ℕ) (s : LinkOf → LinkStep) (w : WorldOf) (front ns : List NodeOf) (ls : List LinkOf) (history : List NotedOf) → ((l : LinkOf) → IsAlone (s l)) → ((l : LinkOf) → time_after now (s l) ≡ then)
     → AreAway front (map eid_of ns) → AreDifferent (map eid_of ns) → AllStand w.packages now ls ns → AllMay w.packages now s ls
-    → AllGone w.packages now s w front ns ls history
-all_from now s w front [] [] history alone away apart stand may = record {
+    → AllGone w.packages now then s w front ns ls history
+all_from now then s w front [] [] history alone time away apart stand may = record {
   stepped = [];
   after = tt;
   steps = [];
@@ -198,15 +198,15 @@ all_from now s w front [] [] history alone away apart stand may = record {
   stand = tt;
   same = refl;
 }
-all_from now s w front (n ∷ ns) (l ∷ ls) history alone away apart stand may =
+all_from now then s w front (n ∷ ns) (l ∷ ls) history alone time away apart stand may =
     let on = may.0 n stand.0 in
-    all_more now s w front n ns l ls history alone away.0 on
-    (all_from now s w (front ++ node_of n.eid on.pair ∷ []) ns ls (history ++ map (noted_of n.eid) on.stepped.noted) alone
+    all_more now then s w front n ns l ls history (alone l) (time l) away.0 on
+    (all_from now then s w (front ++ node_of n.eid on.pair ∷ []) ns ls (history ++ map (noted_of n.eid) on.stepped.noted) alone time
     (away_more front (node_of n.eid on.pair) (map eid_of ns) away.1 apart.0) apart.1 stand.1 may.1)
-all_from now s w front [] (l ∷ ls) history alone away apart stand may = absurd stand
-all_from now s w front (n ∷ ns) [] history alone away apart stand may = absurd stand
+all_from now then s w front [] (l ∷ ls) history alone time away apart stand may = absurd stand
+all_from now then s w front (n ∷ ns) [] history alone time away apart stand may = absurd stand
 
--- All links take a step.
-pub all_go : (now : ℕ) (s : LinkStep) (w : WorldOf) (ls : List LinkOf) → IsAlone s → AreDifferent (map eid_of w.nodes) → AllStand w.packages now ls w.nodes → AllMay w.packages now s ls
-    → AllGone w.packages now s w [] w.nodes ls w.history
-all_go now s w ls alone apart stand may = all_from now s w [] w.nodes ls w.history alone (away_all (map eid_of w.nodes)) apart stand may
+-- Each link takes a step of its own, all in the same time.
+pub all_go : (now then : ℕ) (s : LinkOf → LinkStep) (w : WorldOf) (ls : List LinkOf) → ((l : LinkOf) → IsAlone (s l)) → ((l : LinkOf) → time_after now (s l) ≡ then) → AreDifferent (map eid_of w.nodes) → AllStand w.packages now ls w.nodes → AllMay w.packages now s ls
+    → AllGone w.packages now then s w [] w.nodes ls w.history
+all_go now then s w ls alone time apart stand may = all_from now then s w [] w.nodes ls w.history alone time (away_all (map eid_of w.nodes)) apart stand may

@@ -81,7 +81,7 @@ both_joined packages l down_cell up_cell down up b = record {
 -- A tick of a link: the agent's half, then the device's.
 pub tick_joins : (packages : List PackageText) (now : ℕ) (l : LinkOf) (agent device : Bool) (down up : Option HeldOf) (down_past up_past : List LaneEntry) (down_run up_run down_last up_last : CellRun)
     → WritesCommands → BothHold packages l down_run.cell up_run.cell down up → BothWait l down_run.cell up_run.cell
-    → Speaks (session_core packages) l.agent → Speaks device_core l.device
+    → (agent ≡ true → Speaks (session_core packages) l.agent) → (device ≡ true → Speaks device_core l.device)
     → cells_along (down_lane now l down_past) (tick_steps (session_core packages) agent device l.agent) (Some down_run) ≡ Some down_last
     → cells_along (up_lane now l up_past) (tick_steps device_core device agent l.device) (Some up_run) ≡ Some up_last
     → LinkGoes packages (pair_at l down up) (unnoted (link_ticks now packages l agent device)) down_last.cell up_last.cell

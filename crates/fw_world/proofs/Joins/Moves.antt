@@ -32,9 +32,9 @@ pub record MovesOn (now : ℕ) (ls : List LinkOf) (notes : List NotedOf) (v : Wo
 one_after : (o : Option LinkStepped) (t u : LinkStepped) → o ≡ Some t → o ≡ Some u → t ≡ u
 one_after o t u e f = cc
 
-pub all_after : (packages : List PackageText) (now : ℕ) (s : LinkStep) (ls : List LinkOf) (ts us : List LinkStepped) → AllAfter packages now s ls ts → AllAfter packages now s ls us → ts ≡ us
+pub all_after : (packages : List PackageText) (now : ℕ) (s : LinkOf → LinkStep) (ls : List LinkOf) (ts us : List LinkStepped) → AllAfter packages now s ls ts → AllAfter packages now s ls us → ts ≡ us
 all_after packages now s [] [] [] e f = refl
-all_after packages now s (l ∷ ls) (t ∷ ts) (u ∷ us) e f = rw (one_after (link_after now packages l s) t u e.0 f.0, all_after packages now s ls ts us e.1 f.1) refl
+all_after packages now s (l ∷ ls) (t ∷ ts) (u ∷ us) e f = rw (one_after (link_after now packages l (s l)) t u e.0 f.0, all_after packages now s ls ts us e.1 f.1) refl
 all_after packages now s [] (t ∷ ts) us e f = absurd e
 all_after packages now s (l ∷ ls) [] us e f = absurd e
 all_after packages now s [] [] (u ∷ us) e f = absurd f
@@ -68,23 +68,23 @@ one_moves lanes messages now v ls place l s t eid stands is at time alone may sa
     }
 
 -- each link can take the step
-abbrev pub AllMayHappen : (now : ℕ) → List PackageText → LinkStep → List LinkOf → Type 0
+abbrev pub AllMayHappen : (now : ℕ) → List PackageText → (LinkOf → LinkStep) → List LinkOf → Type 0
 AllMayHappen now packages s [] = Unit {0}
-AllMayHappen now packages s (l ∷ ls) = MayHappen now packages l s × CanBeSaid packages l s × AllMayHappen now packages s ls
+AllMayHappen now packages s (l ∷ ls) = MayHappen now packages l (s l) × CanBeSaid packages l (s l) × AllMayHappen now packages s ls
 
-pub all_may : LinksAreLanes → LinksAreMessages → (now : ℕ) (packages : List PackageText) (s : LinkStep) (ls : List LinkOf) → AllMayHappen now packages s ls → AllMay packages now s ls
+pub all_may : LinksAreLanes → LinksAreMessages → (now : ℕ) (packages : List PackageText) (s : LinkOf → LinkStep) (ls : List LinkOf) → AllMayHappen now packages s ls → AllMay packages now s ls
 all_may lanes messages now packages s [] may = tt
 all_may lanes messages now packages s (l ∷ ls) may = (
-  λ n here. stands_on lanes messages now packages l s n.pair here may.0 may.1,
+  λ n here. stands_on lanes messages now packages l (s l) n.pair here may.0 may.1,
   all_may lanes messages now packages s ls may.2,
 )
 
 -- All links take a step.
-pub all_move : LinksAreLanes → LinksAreMessages → (now : ℕ) (v : WorldOf) (ls : List LinkOf) (s : LinkStep) (ts : List LinkStepped) → IsAlone s → WorldStands now ls v
+pub all_move : LinksAreLanes → LinksAreMessages → (now then : ℕ) (v : WorldOf) (ls : List LinkOf) (s : LinkOf → LinkStep) (ts : List LinkStepped) → ((l : LinkOf) → IsAlone (s l)) → ((l : LinkOf) → time_after now (s l) ≡ then) → WorldStands now ls v
     → AllMayHappen now v.packages s ls → AllAfter v.packages now s ls ts
-    → MovesOn (time_after now s) (map link_of ts) (notes_of (map eid_of v.nodes) ts) v
-all_move lanes messages now v ls s ts alone stands may after =
-    let g = all_go now s v ls alone stands.apart stands.stand (all_may lanes messages now v.packages s ls may) in
+    → MovesOn then (map link_of ts) (notes_of (map eid_of v.nodes) ts) v
+all_move lanes messages now then v ls s ts alone time stands may after =
+    let g = all_go now then s v ls alone time stands.apart stands.stand (all_may lanes messages now v.packages s ls may) in
     let stepped : g.stepped ≡ ts = all_after v.packages now s ls g.stepped ts g.after after in
     record {
       steps = g.steps;
@@ -96,7 +96,7 @@ all_move lanes messages now v ls s ts alone stands may after =
       history = ap (λ xs. v.history ++ notes_of (map eid_of v.nodes) xs) stepped;
       same = g.same;
       stands = record {
-        stand = subst (λ xs. AllStand v.packages (time_after now s) (map link_of xs) g.nodes) stepped g.stand;
+        stand = subst (λ xs. AllStand v.packages then (map link_of xs) g.nodes) stepped g.stand;
         apart = subst AreDifferent (sym g.same) stands.apart;
       };
     }

@@ -36,10 +36,10 @@ restarted_pair packages now l m on =
 
 record AllRestarted (packages : List PackageText) (now : ℕ) (ls : List LinkOf) (ns : List NodeOf) : Type 0 where
   pub stepped : List LinkStepped
-  pub after : AllAfter packages now anew ls stepped
+  pub after : AllAfter packages now (λ l. anew) ls stepped
   pub stand : AllStand packages now (map link_of stepped) (map (agent_restarted packages) ns)
 
-all_restart : (packages : List PackageText) (now : ℕ) (ls : List LinkOf) (ns : List NodeOf) → AllStand packages now ls ns → AllMay packages now anew ls → AllRestarted packages now ls ns
+all_restart : (packages : List PackageText) (now : ℕ) (ls : List LinkOf) (ns : List NodeOf) → AllStand packages now ls ns → AllMay packages now (λ l. anew) ls → AllRestarted packages now ls ns
 all_restart packages now [] [] stand may = record { stepped = []; after = tt; stand = tt }
 all_restart packages now (l ∷ ls) (n ∷ ns) stand may =
     let on = may.0 n stand.0 in
@@ -62,10 +62,10 @@ goes_anew v = refl
 
 -- The links start anew, and nothing is noted.
 pub all_restart_move : LinksAreLanes → LinksAreMessages → (now : ℕ) (v : WorldOf) (ls : List LinkOf) (ts : List LinkStepped) → WorldStands now ls v
-    → AllMayHappen now v.packages anew ls → AllAfter v.packages now anew ls ts → MovesOn now (map link_of ts) [] v
+    → AllMayHappen now v.packages (λ l. anew) ls → AllAfter v.packages now (λ l. anew) ls ts → MovesOn now (map link_of ts) [] v
 all_restart_move lanes messages now v ls ts stands may after =
-    let g = all_restart v.packages now ls v.nodes stands.stand (all_may lanes messages now v.packages anew ls may) in
-    let stepped : g.stepped ≡ ts = all_after v.packages now anew ls g.stepped ts g.after after in
+    let g = all_restart v.packages now ls v.nodes stands.stand (all_may lanes messages now v.packages (λ l. anew) ls may) in
+    let stepped : g.stepped ≡ ts = all_after v.packages now (λ l. anew) ls g.stepped ts g.after after in
     let same = same_eids v.packages v.nodes in
     record {
       steps = WorldStepOf.RestartAgent ∷ [];

@@ -11,7 +11,7 @@ use Rattle.fw_message.specs.Pairs.{PairOf, StepOf, message_along, noted}
 use Rattle.fw_world.specs.JoinLaws.{AreStepsOf, LinksAreMessages}
 use Rattle.fw_node.specs.Halves.{HalfOf}
 use Rattle.fw_world.specs.Joins.{Joined, StandsFor}
-use Rattle.fw_world.specs.Lanes.{Explained, LinkExplained, way_of}
+use Rattle.fw_world.specs.Lanes.{Explained, LinkExplained, Times, times_of, turned_times, way_of}
 use Rattle.fw_world.specs.LinkLaws.{CanBeSaid, LinksAreLanes, MayHappen}
 use Rattle.fw_world.specs.Links.{LinkOf, LinkStep, LinkStepped, link_after, time_after}
 use Rattle.fw_world.proofs.Joins.Links.{pair_at}
@@ -61,10 +61,10 @@ same_cell run last e empty =
     let same : run ≡ last = cc in
     ap (λ r. r.cell) same ∙ empty
 
-new_way : {A B : Type 0} (law : LaneIsACell) (a : HalfOf A) (b : HalfOf B) (ps : List Sent) (e : Explained a.own b.own (way_of 0 a b ps)) → AreEnds a.own b.own → IsNewHalf a → e.run.cell ≡ Cell.Empty
-new_way law a b ps e ends new =
-    let f = follows law a.own b.own (way_of 0 a b ps) e [] ends tt in
-    same_cell e.run f.run f.along (new_cell a.own a.peer a.asker (way_of 0 a b ps e.run.entries) f.run new.asker refl f.cell)
+new_way : {A B : Type 0} (law : LaneIsACell) (now : Times) (a : HalfOf A) (b : HalfOf B) (ps : List Sent) (e : Explained a.own b.own (way_of now a b ps)) → AreEnds a.own b.own → IsNewHalf a → e.run.cell ≡ Cell.Empty
+new_way law now a b ps e ends new =
+    let f = follows law a.own b.own (way_of now a b ps) e [] ends tt in
+    same_cell e.run f.run f.along (new_cell a.own a.peer a.asker (way_of now a b ps e.run.entries) f.run new.asker refl f.cell)
 
 one_deaf : {C : Type 0} (h : HalfOf C) → IsNewHalf h → h.asker.deaf ≡ h.taker.deaf
 one_deaf h new = rw (new.asker, new.taker) refl
@@ -74,16 +74,16 @@ nothing_asked cell e = rw e tt
 
 -- A link on which nothing was sent yet stands with a pair that has asked nothing.
 pub new_link_stands : LaneIsACell → (packages : List PackageText) (l : LinkOf) → AreEnds l.agent.own l.device.own → l.agent.peer ≡ l.device.own → l.device.peer ≡ l.agent.own
-    → IsNewHalf l.agent → IsNewHalf l.device → l.packets ≡ [] → Stands packages 0 l (pair_at l None None)
-new_link_stands law packages l ends peer back agent device none =
-    let explained = new_link_explained l ends peer back agent device none in
+    → IsNewHalf l.agent → IsNewHalf l.device → l.packets ≡ [] → l.agent_since_miss ≡ 8 → l.device_since_miss ≡ 8 → Stands packages 0 l (pair_at l None None)
+new_link_stands law packages l ends peer back agent device none agent_misses device_misses =
+    let explained = new_link_explained l ends peer back agent device none agent_misses device_misses in
     record {
       explained = explained;
       joined = record {
         session = refl;
         device = refl;
-        down = nothing_asked explained.down.run.cell (new_way law l.agent l.device l.packets explained.down ends agent);
-        up = nothing_asked explained.up.run.cell (new_way law l.device l.agent l.packets explained.up (ends_turned l.agent.own l.device.own ends) device);
+        down = nothing_asked explained.down.run.cell (new_way law (times_of 0 l) l.agent l.device l.packets explained.down ends agent);
+        up = nothing_asked explained.up.run.cell (new_way law (turned_times (times_of 0 l)) l.device l.agent l.packets explained.up (ends_turned l.agent.own l.device.own ends) device);
         agent_deaf = one_deaf l.agent agent;
         device_deaf = one_deaf l.device device;
         down_wished = tt;

@@ -174,9 +174,9 @@ counts_on {C} {packages} {core} {agent} {place} side h own other w run last writ
 
 -- A tick of a half, whether it counts it or not.
 pub half_ticks_on : {C : Type 0} {packages : List PackageText} {core : CoreOf C} {agent : Bool} {place : Place C} {peer_wish : Option CommandOf} {notes : Notes C} (side : Sided packages core agent place peer_wish notes)
-    (counts : Bool) (h : HalfOf C) (own other : Option HeldOf) (w : LaneOf) (run last : CellRun) → WritesCommands → IsWishedIn other peer_wish → Speaks core h
+    (counts : Bool) (h : HalfOf C) (own other : Option HeldOf) (w : LaneOf) (run last : CellRun) → WritesCommands → IsWishedIn other peer_wish → (counts ≡ true → Speaks core h)
     → Holds core agent h.core run.cell own → awaited run.cell ≡ option_map asking h.asker.caller.asked
     → cells_along w (counted_steps core counts h) (cell_ticks (asker_tick counts h.asker) run) ≡ Some last
     → Goes packages core agent place (place h.core own other) other (half_ticks core counts h).half.core last.cell
-half_ticks_on side true h own other w run last written k spoken holds waits e = counts_on side h own other w run last written k spoken holds waits e
+half_ticks_on side true h own other w run last written k spoken holds waits e = counts_on side h own other w run last written k (spoken refl) holds waits e
 half_ticks_on side false h own other w run last written k spoken holds waits e = (rests_if side h.core own other run last (hears_quiet h.asker) k holds e).goes

@@ -1,8 +1,9 @@
 -- Each step of a link is steps of its pair over whole messages.
-use Rattle.std.proofs.Common.{◌≡◌, ◌⊎◌, ◌≤◌, ◌^◌, ◌-◌, ℕ, ◌+◌, nat_lt, Bool, true, false, if◌then◌else◌, List, [], Option, Some, None, IfSome, refl, sym, subst, inl, inr}
+use Rattle.std.proofs.Common.{◌≡◌, ◌⊎◌, ◌≤◌, ◌^◌, ◌-◌, ℕ, ◌+◌, ◌&&◌, nat_lt, Bool, true, false, if◌then◌else◌, List, [], Option, Some, None, IfSome, refl, sym, subst, inl, inr}
 use Rattle.std.proofs.lemmas.Bool.{cases_lt, lt-ltb}
 use Rattle.pldm_exch.specs.Caller.{is_quiet}
 use Rattle.exch_lane.specs.Cells.{Cell, CellRun, cells_along}
+use Rattle.exch_lane.specs.Clocks.{may_beat}
 use Rattle.exch_lane.specs.Lanes.{Sent, numbered}
 use Rattle.exch_lane.specs.Lanes.{EntryOf as LaneEntry}
 use Rattle.fw_package.specs.Package.{PackageText}
@@ -16,7 +17,7 @@ use Rattle.fw_message.specs.declared.side.Side.TheVariants as sides
 use Rattle.fw_node.specs.Cores.{TimedDevice, device_core, session_core}
 use Rattle.fw_node.specs.Halves.{HalfHeard, HalfOf, half_hears}
 use Rattle.fw_world.specs.JoinLaws.{AreStepsOf, LinksAreMessages, StepsInMessages}
-use Rattle.fw_world.specs.Lanes.{LinkExplained, down_comes, down_lane, down_steps, is_down, is_up, up_comes, up_lane, up_steps}
+use Rattle.fw_world.specs.Lanes.{LinkExplained, times_of, turned_times, down_comes, down_lane, down_steps, is_down, is_up, up_comes, up_lane, up_steps}
 use Rattle.fw_world.specs.LinkLaws.{CanBeSaid, IsToldOn}
 use Rattle.fw_world.specs.Links.{LinkOf, LinkStep, LinkStepped, agent_heard, delivers_on, device_heard, hears_on, link_after, link_ticks, posted, unnoted}
 use Rattle.fw_world.proofs.Joins.AgentSide.{agent_notes, agent_place, agent_side}
@@ -118,14 +119,14 @@ deliver_joins packages now l sides.Agent works number (Some p) t down up down_pa
     let live = living (p.date + 8) now (hears_on now packages l sides.Agent works p.bytes) t s in
     let way = fact_of {A = Sent} (λ q. now ≤ q.date + 8 → (is_down l q ≡ true) ⊎ (is_up l q ≡ true)) l.packets number p x.packets is live.0 in
     agent_hears packages now l (pair_at l down up) (is_quiet l.agent.asker.caller) true (half_hears (session_core packages) true l.agent p.bytes) t down_last.cell up_last.cell
-    (half_comes (agent_side packages l.device.core.device) true now l.agent l.device l.packets down_past up_past number p down up down_run down_last up_run up_last
+    (half_comes (agent_side packages l.device.core.device) true (times_of now l) l.agent l.device l.packets down_past up_past number p down up down_run down_last up_run up_last
     x.ends.differ x.agent_peer x.device_peer is way both.agent (record { stands = both.device.stands; wished = both.device.wished; is_for = both.device.is_for }) both.agent_deaf waits.down rests.down told e f)
     live.1 both.device_deaf
 deliver_joins packages now l sides.Device works number (Some p) t down up down_past up_past down_run up_run down_last up_last x both waits rests is told s e f =
     let live = living (p.date + 8) now (hears_on now packages l sides.Device works p.bytes) t s in
     let way = fact_of {A = Sent} (λ q. now ≤ q.date + 8 → (is_down l q ≡ true) ⊎ (is_up l q ≡ true)) l.packets number p x.packets is live.0 in
     device_hears packages now l (pair_at l down up) works (half_hears device_core works l.device p.bytes) t down_last.cell up_last.cell
-    (half_comes (device_side packages l.agent.core.session) works now l.device l.agent l.packets up_past down_past number p up down up_run up_last down_run down_last
+    (half_comes (device_side packages l.agent.core.session) works (turned_times (times_of now l)) l.device l.agent l.packets up_past down_past number p up down up_run up_last down_run down_last
     (λ z. x.ends.differ (sym z)) x.device_peer x.agent_peer is (either_way way) both.device (record { stands = both.agent.stands; wished = both.agent.wished; is_for = both.agent.is_for }) both.device_deaf waits.up rests.up told f e)
     live.1 both.agent_deaf
 
@@ -159,7 +160,7 @@ link_joins written packages now l (LinkStep.Deliver number to works) t down up d
     let g = deliver_joins packages now l to works number (numbered l.packets number) t down up down_past up_past down_run up_run down_last up_last x both waits rests refl said s e f in
     in_messages packages l (LinkStep.Deliver number to works) t down up down_last.cell up_last.cell g g.leads.named
 link_joins written packages now l (LinkStep.Tick agent device) t down up down_past up_past down_run up_run down_last up_last x said both waits rests s e f =
-    let g = ticks_if packages (pair_at l down up) (nat_lt now (2 ^ 32 - 1)) (unnoted (link_ticks now packages l agent device)) t down_last.cell up_last.cell s
+    let g = ticks_if packages (pair_at l down up) (nat_lt now (2 ^ 32 - 1) && (may_beat agent l.agent_since_miss && may_beat device l.device_since_miss)) (unnoted (link_ticks now packages l agent device)) t down_last.cell up_last.cell s
     (tick_joins packages now l agent device down up down_past up_past down_run up_run down_last up_last written both waits said.0 said.1 e f) in
     in_messages packages l (LinkStep.Tick agent device) t down up down_last.cell up_last.cell g g.leads.named
 link_joins written packages now l (LinkStep.Start number) t down up down_past up_past down_run up_run down_last up_last x said both waits rests s e f =

@@ -29,6 +29,8 @@ pub record IsNewLink (l : LinkOf) : Type 0 where
   pub agent : IsNewHalf l.agent
   pub device : IsNewHalf l.device
   pub none : l.packets ≡ []
+  pub agent_misses : l.agent_since_miss ≡ 8
+  pub device_misses : l.device_since_miss ≡ 8
 
 abbrev pub AreNewLinks : List LinkOf → Type 0
 AreNewLinks [] = Unit {0}
@@ -41,7 +43,7 @@ opening_node l = node_of l.device.own (pair_at l None None)
 new_all_stand : LaneIsACell → (packages : List PackageText) (ls : List LinkOf) → AreNewLinks ls → AllStand packages 0 ls (map opening_node ls)
 new_all_stand law packages [] new = tt
 new_all_stand law packages (l ∷ ls) new = (
-  new_link_stands law packages l new.0.ends new.0.peer new.0.back new.0.agent new.0.device new.0.none,
+  new_link_stands law packages l new.0.ends new.0.peer new.0.back new.0.agent new.0.device new.0.none new.0.agent_misses new.0.device_misses,
   new_all_stand law packages ls new.1,
 )
 
@@ -92,17 +94,8 @@ unnoted_if true l t e =
     ap (λ x. x.noted) (sym is)
 unnoted_if false l t e = absurd (cc)
 
--- a tick of all links, and a restart of the agent
-pub ticks_unnoted : (packages : List PackageText) (now : ℕ) (agent device : Bool) (ls : List LinkOf) (ts : List LinkStepped) → AllAfter packages now (LinkStep.Tick agent device) ls ts → AreUnnoted ts
-ticks_unnoted packages now agent device [] [] e = tt
-ticks_unnoted packages now agent device (l ∷ ls) (t ∷ ts) e = (
-  unnoted_if (nat_lt now (2 ^ 32 - 1)) (link_ticks now packages l agent device) t e.0,
-  ticks_unnoted packages now agent device ls ts e.1,
-)
-ticks_unnoted packages now agent device [] (t ∷ ts) e = absurd e
-ticks_unnoted packages now agent device (l ∷ ls) [] e = absurd e
-
-pub restarts_unnoted : (packages : List PackageText) (now : ℕ) (ls : List LinkOf) (ts : List LinkStepped) → AllAfter packages now (LinkStep.Restart sides.Agent) ls ts → AreUnnoted ts
+-- a restart of the agent
+pub restarts_unnoted : (packages : List PackageText) (now : ℕ) (ls : List LinkOf) (ts : List LinkStepped) → AllAfter packages now (λ l. LinkStep.Restart sides.Agent) ls ts → AreUnnoted ts
 restarts_unnoted packages now [] [] e = tt
 restarts_unnoted packages now (l ∷ ls) (t ∷ ts) e = (
   unnoted_if true _ t e.0,

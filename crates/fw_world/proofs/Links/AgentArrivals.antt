@@ -84,9 +84,9 @@ heard_link : (w : WorldOf) (bytes : List ℕ) (h : HalfOf TimedOf) (s : Option S
 heard_link w bytes h None k = refl
 heard_link w bytes h (Some x) k =
     let heard = half_hears (session_core w.packages) true h bytes in
-    ap (λ a. Some (record { agent = a; device = x.node.half; packets = x.packets ++ sent_now w.now (all_packets (sent_in heard)) }))
+    ap (λ a. Some (record { agent = a; device = x.node.half; packets = x.packets ++ sent_now w.now (all_packets (sent_in heard)); agent_since_miss = 8; device_since_miss = 8 }))
     (finished_half roles.Agent w.agent.endpoint w.agent.tid heard k)
-    ∙ ap (λ ps. Some (record { agent = half_in heard; device = x.node.half; packets = ps })) (sym (posted_behind w.now x.packets (sent_in heard)))
+    ∙ ap (λ ps. Some (record { agent = half_in heard; device = x.node.half; packets = ps; agent_since_miss = 8; device_since_miss = 8 })) (sym (posted_behind w.now x.packets (sent_in heard)))
 
 heard_links : (w : WorldOf) (bytes : List ℕ) (source eid : ℕ) (h : HalfOf TimedOf) (o : Option (HalfOf TimedOf)) (s : Option SiteOf)
     → (source ≡ eid → o ≡ Some h) → IsPassed (half_hears (session_core w.packages) true h bytes)

@@ -96,9 +96,9 @@ heard_device works faults now bytes None s k = refl
 heard_device works faults now bytes (Some h) None k = refl
 heard_device works faults now bytes (Some h) (Some x) k =
     let heard = half_hears device_core works x.node.half bytes in
-    ap (λ d. Some (record { agent = h; device = d; packets = x.packets ++ sent_now now (all_packets (device_hears works x.node bytes).sent) }))
+    ap (λ d. Some (record { agent = h; device = d; packets = x.packets ++ sent_now now (all_packets (device_hears works x.node bytes).sent); agent_since_miss = 8; device_since_miss = 8 }))
     (finished_half roles.Device x.node.endpoint x.node.tid heard k)
-    ∙ ap (λ ps. Some (record { agent = h; device = half_in heard; packets = ps }))
+    ∙ ap (λ ps. Some (record { agent = h; device = half_in heard; packets = ps; agent_since_miss = 8; device_since_miss = 8 }))
     (ap (λ ms. x.packets ++ sent_now now (all_packets ms)) (finished_sent roles.Device x.node.endpoint x.node.tid heard k) ∙ sym (posted_behind now x.packets (sent_in heard)))
 
 heard_device_if : (here : Bool) (works : Bool) (faults now : ℕ) (bytes : List ℕ) (o : Option (HalfOf TimedOf)) (s : Option SiteOf)

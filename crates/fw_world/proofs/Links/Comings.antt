@@ -11,7 +11,7 @@ use Rattle.exch_lane.specs.Steps.{MayRun, MayTake, asker_does, delivers, lane_af
 use Rattle.exch_lane.specs.declared.step.End.TheVariants as ends
 use Rattle.fw_node.specs.Halves.{CoreOf, HalfHeard, HalfOf, half_hears, half_hears_by, half_takes}
 use Rattle.fw_node.specs.Nodes.{IsTold}
-use Rattle.fw_world.specs.Lanes.{answer_steps, ask_steps, is_of, lane_of, learn_steps, number_in, reply_in, take_steps, way_of}
+use Rattle.fw_world.specs.Lanes.{Times, turned_times, answer_steps, ask_steps, is_of, lane_of, learn_steps, number_in, reply_in, take_steps, way_of}
 use Rattle.fw_world.specs.Links.{posted}
 use Rattle.fw_world.proofs.Links.Goes.{follows}
 use Rattle.fw_world.proofs.Links.Hears.{IsPassed, IsServed, half_in, learns_in, sent_in, takes_in}
@@ -38,25 +38,25 @@ served_row (TakerRow.Strays requests m) run after e = absurd (cc)
 pub same_row : {A B : Type 0} (a : HalfOf A) (b : HalfOf B) (bytes : List ℕ) → a.peer ≡ b.own → b.peer ≡ a.own → taker_row b.peer b.own a.taker bytes ≡ taker_row a.own a.peer a.taker bytes
 same_row a b bytes peer back = rw (peer, back) refl
 
-served_here : {A B : Type 0} (law : LaneIsACell) (now : ℕ) (a : HalfOf A) (b : HalfOf B) (ps : List Sent) (h : BothWays now a b ps) (n : ℕ) (s : Sent)
-    → numbered (filter (is_of b.own a.own) ps) n ≡ Some s → now ≤ s.date + 8 → IsServed (taker_row a.own a.peer a.taker s.bytes)
+served_here : {A B : Type 0} (law : LaneIsACell) (now : Times) (a : HalfOf A) (b : HalfOf B) (ps : List Sent) (h : BothWays now a b ps) (n : ℕ) (s : Sent)
+    → numbered (filter (is_of b.own a.own) ps) n ≡ Some s → now.now ≤ s.date + 8 → IsServed (taker_row a.own a.peer a.taker s.bytes)
 served_here law now a b ps h n s is soon =
-    let w = way_of now b a ps h.answers.run.entries in
-    let may : MayTake w (StepOf.Deliver n ends.Taker []) = record { lawful = omega arith; may = may_come w n s is soon; beats = tt } in
-    let f = follows law b.own a.own (way_of now b a ps) h.answers (StepOf.Deliver n ends.Taker [] ∷ [])
+    let w = way_of (turned_times now) b a ps h.answers.run.entries in
+    let may : MayTake w (StepOf.Deliver n ends.Taker []) = record { lawful = omega arith; may = may_come w n s is soon } in
+    let f = follows law b.own a.own (way_of (turned_times now) b a ps) h.answers (StepOf.Deliver n ends.Taker [] ∷ [])
     (record { asker = h.ends.taker; taker = h.ends.asker; differ = λ z. h.ends.differ (sym z) }) (may, tt) in
     let goes : cell_delivers w ends.Taker [] (Some s) h.answers.run ≡ Some f.run =
     subst (λ o. cell_delivers w ends.Taker [] o h.answers.run ≡ Some f.run) is f.along in
     subst IsServed (same_row a b s.bytes h.peer h.back) (served_row (taker_row b.peer b.own a.taker s.bytes) h.answers.run f.run goes)
 
 -- What a half hears, on both ways.
-pub record HearsAs {A B : Type 0} (now : ℕ) (a : HalfOf A) (b : HalfOf B) (ps : List Sent) (h : BothWays now a b ps) (heard : HalfHeard A) (asked answered : List StepOf) : Type 0 where
+pub record HearsAs {A B : Type 0} (now : Times) (a : HalfOf A) (b : HalfOf B) (ps : List Sent) (h : BothWays now a b ps) (heard : HalfHeard A) (asked answered : List StepOf) : Type 0 where
   pub passed : IsPassed heard
-  pub ways : WaysGo now now a (half_in heard) b b ps (posted now ps (sent_in heard)) asked answered h
+  pub ways : WaysGo now now a (half_in heard) b b ps (posted now.now ps (sent_in heard)) asked answered h
 
 -- a request
-request_comes : {A B : Type 0} (law : LaneIsACell) (core : CoreOf A) (works : Bool) (now : ℕ) (a : HalfOf A) (b : HalfOf B) (ps : List Sent) (h : BothWays now a b ps)
-    (row : TakerRow) (n : ℕ) (s : Sent) → row ≡ taker_row a.own a.peer a.taker s.bytes → numbered (filter (is_of b.own a.own) ps) n ≡ Some s → now ≤ s.date + 8
+request_comes : {A B : Type 0} (law : LaneIsACell) (core : CoreOf A) (works : Bool) (now : Times) (a : HalfOf A) (b : HalfOf B) (ps : List Sent) (h : BothWays now a b ps)
+    (row : TakerRow) (n : ℕ) (s : Sent) → row ≡ taker_row a.own a.peer a.taker s.bytes → numbered (filter (is_of b.own a.own) ps) n ≡ Some s → now.now ≤ s.date + 8
     → IsTold (half_takes core works a row)
     → HearsAs now a b ps h (half_takes core works a row) (take_steps core works a row) (StepOf.Deliver n ends.Taker (reply_in core works a row) ∷ [])
 request_comes law core works now a b ps h row n s same is soon told =
@@ -64,7 +64,7 @@ request_comes law core works now a b ps h row n s same is soon told =
     let heard = half_takes core works a row in
     let reply = reply_in core works a row in
     let mine = filter (is_of a.own b.own) ps in
-    let w = way_of now b a ps h.answers.run.entries in
+    let w = way_of (turned_times now) b a ps h.answers.run.entries in
     let at : taker_row b.peer b.own a.taker s.bytes ≡ row = same_row a b s.bytes h.peer h.back ∙ sym same in
     record {
       passed = t.passed;
@@ -77,15 +77,15 @@ request_comes law core works now a b ps h row n s same is soon told =
             leads = t.asks mine h.asks.run.entries ∙ ap (lane_of now (half_in heard) b mine) (sym (append-nil h.asks.run.entries));
           })
           (record {
-            may = (record { lawful = t.few; may = may_come w n s is soon; beats = tt }, tt);
+            may = (record { lawful = t.few; may = may_come w n s is soon }, tt);
             more = t.more;
             leads = ap (delivers w ends.Taker reply) is ∙ ap (taker_does w reply) at ∙ t.answers (filter (is_of b.own a.own) ps) h.answers.run.entries;
           });
     }
 
 -- a reply
-reply_comes : {A B : Type 0} (law : LaneIsACell) (core : CoreOf A) (works : Bool) (now : ℕ) (a : HalfOf A) (b : HalfOf B) (ps : List Sent) (h : BothWays now a b ps)
-    (row : AskerRow) (n : ℕ) (s : Sent) → row ≡ asker_row a.own a.peer a.asker s.bytes → numbered (filter (is_of a.own b.own) ps) n ≡ Some s → now ≤ s.date + 8
+reply_comes : {A B : Type 0} (law : LaneIsACell) (core : CoreOf A) (works : Bool) (now : Times) (a : HalfOf A) (b : HalfOf B) (ps : List Sent) (h : BothWays now a b ps)
+    (row : AskerRow) (n : ℕ) (s : Sent) → row ≡ asker_row a.own a.peer a.asker s.bytes → numbered (filter (is_of a.own b.own) ps) n ≡ Some s → now.now ≤ s.date + 8
     → HearsAs now a b ps h (half_hears_by core works a row (TakerRow.Silent a.taker.requests)) (StepOf.Deliver n ends.Asker [] ∷ learn_steps core works a row) []
 reply_comes law core works now a b ps h row n s same is soon =
     let t = learns_in core works now a b row in
@@ -100,7 +100,7 @@ reply_comes law core works now a b ps h row n s same is soon =
           ways_go law now now a (half_in heard) b b ps [] (sent_in heard) (StepOf.Deliver n ends.Asker [] ∷ learn_steps core works a row) [] h (omega arith)
           (record { own = t.own; peer = t.peer; other = refl; back = refl })
           (record {
-            may = (record { lawful = omega arith; may = may_come w n s is soon; beats = tt }, subst (λ v. MayRun v (learn_steps core works a row)) (sym comes) (t.may mine h.asks.run.entries));
+            may = (record { lawful = omega arith; may = may_come w n s is soon }, subst (λ v. MayRun v (learn_steps core works a row)) (sym comes) (t.may mine h.asks.run.entries));
             more = t.more;
             leads = ap (λ v. lane_run v (learn_steps core works a row)) comes ∙ t.asks mine h.asks.run.entries;
           })
@@ -108,24 +108,24 @@ reply_comes law core works now a b ps h row n s same is soon =
             may = tt;
             more = [];
             leads = t.answers theirs h.answers.run.entries
-                ∙ ap (lane_of now b (half_in heard) theirs) (sym (append-nil h.answers.run.entries))
-                ∙ ap (λ ms. lane_of now b (half_in heard) (posted now theirs ms) (h.answers.run.entries ++ [])) (sym t.none);
+                ∙ ap (lane_of (turned_times now) b (half_in heard) theirs) (sym (append-nil h.answers.run.entries))
+                ∙ ap (λ ms. lane_of (turned_times now) b (half_in heard) (posted now.now theirs ms) (h.answers.run.entries ++ [])) (sym t.none);
           });
     }
 
-hears_same : {A B : Type 0} (now : ℕ) (a : HalfOf A) (b : HalfOf B) (ps : List Sent) (h : BothWays now a b ps) (x u : HalfHeard A) (y v z w : List StepOf)
+hears_same : {A B : Type 0} (now : Times) (a : HalfOf A) (b : HalfOf B) (ps : List Sent) (h : BothWays now a b ps) (x u : HalfHeard A) (y v z w : List StepOf)
     → u ≡ x → v ≡ y → w ≡ z → HearsAs now a b ps h x y z → HearsAs now a b ps h u v w
 hears_same now a b ps h x u y v z w heard asked answered k = rw (heard, asked, answered) k
 
 -- What a packet of the link is for a half.
-abbrev pub HearsIt : {A B : Type 0} (core : CoreOf A) (works : Bool) (now : ℕ) (a : HalfOf A) (b : HalfOf B) (ps : List Sent) (h : BothWays now a b ps) (number : ℕ) (s : Sent) → Type 0
+abbrev pub HearsIt : {A B : Type 0} (core : CoreOf A) (works : Bool) (now : Times) (a : HalfOf A) (b : HalfOf B) (ps : List Sent) (h : BothWays now a b ps) (number : ℕ) (s : Sent) → Type 0
 HearsIt core works now a b ps h number s =
     HearsAs now a b ps h (half_hears core works a s.bytes)
     (ask_steps core works a (is_of a.own b.own s) (number_in (is_of a.own b.own) ps number) s.bytes)
     (answer_steps core works a (is_of b.own a.own s) (number_in (is_of b.own a.own) ps number) s.bytes)
 
-comes_as_request : {A B : Type 0} (law : LaneIsACell) (core : CoreOf A) (works : Bool) (now : ℕ) (a : HalfOf A) (b : HalfOf B) (ps : List Sent) (h : BothWays now a b ps)
-    (number : ℕ) (s : Sent) → numbered ps number ≡ Some s → now ≤ s.date + 8 → IsTold (half_hears core works a s.bytes) → is_of b.own a.own s ≡ true
+comes_as_request : {A B : Type 0} (law : LaneIsACell) (core : CoreOf A) (works : Bool) (now : Times) (a : HalfOf A) (b : HalfOf B) (ps : List Sent) (h : BothWays now a b ps)
+    (number : ℕ) (s : Sent) → numbered ps number ≡ Some s → now.now ≤ s.date + 8 → IsTold (half_hears core works a s.bytes) → is_of b.own a.own s ≡ true
     → HearsIt core works now a b ps h number s
 comes_as_request law core works now a b ps h number s is soon told mine =
     let row = taker_row a.own a.peer a.taker s.bytes in
@@ -143,8 +143,8 @@ comes_as_request law core works now a b ps h number s is soon told mine =
     (ap (λ m. answer_steps core works a m n s.bytes) mine)
     (request_comes law core works now a b ps h row n s refl (lane_number (is_of b.own a.own) ps number s is mine) soon (subst IsTold heard told))
 
-comes_as_reply : {A B : Type 0} (law : LaneIsACell) (core : CoreOf A) (works : Bool) (now : ℕ) (a : HalfOf A) (b : HalfOf B) (ps : List Sent) (h : BothWays now a b ps)
-    (number : ℕ) (s : Sent) → numbered ps number ≡ Some s → now ≤ s.date + 8 → is_of a.own b.own s ≡ true
+comes_as_reply : {A B : Type 0} (law : LaneIsACell) (core : CoreOf A) (works : Bool) (now : Times) (a : HalfOf A) (b : HalfOf B) (ps : List Sent) (h : BothWays now a b ps)
+    (number : ℕ) (s : Sent) → numbered ps number ≡ Some s → now.now ≤ s.date + 8 → is_of a.own b.own s ≡ true
     → HearsIt core works now a b ps h number s
 comes_as_reply law core works now a b ps h number s is soon mine =
     let row = asker_row a.own a.peer a.asker s.bytes in
@@ -171,15 +171,15 @@ pub fact_of : {A : Type 0} (P : A → Type 0) (xs : List A) (number : ℕ) (x : 
 fact_of P xs zero x h e = absurd (cc)
 fact_of P xs (suc i) x h e = fact_at P xs i x h (sym (numbered_at xs i) ∙ e)
 
-comes_in : {A B : Type 0} (law : LaneIsACell) (core : CoreOf A) (works : Bool) (now : ℕ) (a : HalfOf A) (b : HalfOf B) (ps : List Sent) (h : BothWays now a b ps)
-    (number : ℕ) (s : Sent) → numbered ps number ≡ Some s → now ≤ s.date + 8 → IsTold (half_hears core works a s.bytes)
+comes_in : {A B : Type 0} (law : LaneIsACell) (core : CoreOf A) (works : Bool) (now : Times) (a : HalfOf A) (b : HalfOf B) (ps : List Sent) (h : BothWays now a b ps)
+    (number : ℕ) (s : Sent) → numbered ps number ≡ Some s → now.now ≤ s.date + 8 → IsTold (half_hears core works a s.bytes)
     → (is_of a.own b.own s ≡ true) ⊎ (is_of b.own a.own s ≡ true) → HearsIt core works now a b ps h number s
 comes_in law core works now a b ps h number s is soon told (inl mine) = comes_as_reply law core works now a b ps h number s is soon mine
 comes_in law core works now a b ps h number s is soon told (inr mine) = comes_as_request law core works now a b ps h number s is soon told mine
 
 -- A packet that comes to a half goes through, and both ways go on.
-pub hears_in_lane : {A B : Type 0} (law : LaneIsACell) (core : CoreOf A) (works : Bool) (now : ℕ) (a : HalfOf A) (b : HalfOf B) (ps : List Sent) (h : BothWays now a b ps)
-    (number : ℕ) (s : Sent) → numbered ps number ≡ Some s → now ≤ s.date + 8 → IsTold (half_hears core works a s.bytes)
+pub hears_in_lane : {A B : Type 0} (law : LaneIsACell) (core : CoreOf A) (works : Bool) (now : Times) (a : HalfOf A) (b : HalfOf B) (ps : List Sent) (h : BothWays now a b ps)
+    (number : ℕ) (s : Sent) → numbered ps number ≡ Some s → now.now ≤ s.date + 8 → IsTold (half_hears core works a s.bytes)
     → HearsIt core works now a b ps h number s
 hears_in_lane law core works now a b ps h number s is soon told =
-    comes_in law core works now a b ps h number s is soon told (fact_of (IsOfEither now a.own b.own) ps number s h.packets is soon)
+    comes_in law core works now a b ps h number s is soon told (fact_of (IsOfEither now.now a.own b.own) ps number s h.packets is soon)

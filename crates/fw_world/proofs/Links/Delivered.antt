@@ -15,7 +15,7 @@ use Rattle.fw_node.specs.Agents.{half_for}
 use Rattle.fw_node.specs.Cores.{TimedDevice, device_core, session_core}
 use Rattle.fw_node.specs.Halves.{HalfHeard, half_hears}
 use Rattle.fw_node.specs.Packets.{all_packets}
-use Rattle.fw_world.specs.Lanes.{LinkExplained}
+use Rattle.fw_world.specs.Lanes.{LinkExplained, times_of, turned_times}
 use Rattle.fw_world.specs.LinkLaws.{IsToldOn}
 use Rattle.fw_world.specs.Links.{LinkOf, LinkStep, agent_heard, delivers_on, device_heard, link_after, posted}
 use Rattle.fw_world.specs.Worlds.{SiteOf, WorldOf, at_agent, at_device, packets_at, packets_of, place_of, site_for}
@@ -42,12 +42,12 @@ pub record IsLinkOf (w : WorldOf) (eid : ℕ) (l : LinkOf) : Type 0 where
 agent_passed : (law : LaneIsACell) (now : ℕ) (packages : List PackageText) (l : LinkOf) (number : ℕ) (p : Sent) → LinkExplained now l
     → numbered l.packets number ≡ Some p → now ≤ p.date + 8 → IsToldOn packages l sides.Agent true p.bytes → IsPassed (half_hears (session_core packages) true l.agent p.bytes)
 agent_passed law now packages l number p e is soon told =
-    (hears_in_lane law (session_core packages) true now l.agent l.device l.packets (ways_of now l e) number p is soon told).passed
+    (hears_in_lane law (session_core packages) true (times_of now l) l.agent l.device l.packets (ways_of now l e) number p is soon told).passed
 
 device_passed : (law : LaneIsACell) (now : ℕ) (packages : List PackageText) (l : LinkOf) (works : Bool) (number : ℕ) (p : Sent) → LinkExplained now l
     → numbered l.packets number ≡ Some p → now ≤ p.date + 8 → IsToldOn packages l sides.Device works p.bytes → IsPassed (half_hears device_core works l.device p.bytes)
 device_passed law now packages l works number p e is soon told =
-    (hears_in_lane law device_core works now l.device l.agent l.packets (turned now l.agent l.device l.packets (ways_of now l e)) number p is soon told).passed
+    (hears_in_lane law device_core works (turned_times (times_of now l)) l.device l.agent l.packets (turned (times_of now l) l.agent l.device l.packets (ways_of now l e)) number p is soon told).passed
 
 -- the link's own step
 agent_heard_after : (now : ℕ) (packages : List PackageText) (l : LinkOf) (heard : HalfHeard TimedOf) → IsPassed heard

@@ -12,7 +12,7 @@ use Rattle.exch_lane.specs.Lanes.{EntryOf, LaneOf, Sent, StepOf}
 use Rattle.exch_lane.specs.Steps.{MayRun, asker_does, lane_run, taker_does}
 use Rattle.fw_node.specs.Halves.{CoreOf, HalfHeard, HalfOf, half_hears_by, half_takes, kept_if, read_by, reply_read, settled, still_wished, takes_if, takes_read, unwished_for, with_caller}
 use Rattle.fw_node.specs.Nodes.{IsTold}
-use Rattle.fw_world.specs.Lanes.{abandon_steps, lane_of, learn_steps, reply_in, settle_steps, take_steps, unless_wished}
+use Rattle.fw_world.specs.Lanes.{Times, turned_times, abandon_steps, lane_of, learn_steps, reply_in, settle_steps, take_steps, unless_wished}
 use Rattle.fw_world.specs.Links.{posted}
 
 -- a half after what it heard, and what it sends
@@ -34,46 +34,46 @@ IsPassed (HalfHeard.Took h sent c answer) = Unit {0}
 IsPassed heard = ⊥
 
 -- what isn't wished is given up
-abandoned_run : {A B : Type 0} (wished : Bool) (now : ℕ) (a : HalfOf A) (b : HalfOf B) (ps : List Sent) (es : List EntryOf)
+abandoned_run : {A B : Type 0} (wished : Bool) (now : Times) (a : HalfOf A) (b : HalfOf B) (ps : List Sent) (es : List EntryOf)
     → lane_run (lane_of now a b ps es) (unless_wished wished []) ≡ lane_of now (with_caller a (kept_if wished a.asker.caller)) b ps es
 abandoned_run true now a b ps es = refl
 abandoned_run false now a b ps es = refl
 
-abandons_run : {A B : Type 0} (wish : Option CommandOf) (asked : Option Open) (now : ℕ) (a : HalfOf A) (b : HalfOf B) (ps : List Sent) (es : List EntryOf)
+abandons_run : {A B : Type 0} (wish : Option CommandOf) (asked : Option Open) (now : Times) (a : HalfOf A) (b : HalfOf B) (ps : List Sent) (es : List EntryOf)
     → lane_run (lane_of now a b ps es) (abandon_steps wish asked []) ≡ lane_of now (with_caller a (unwished_for wish a.asker.caller asked)) b ps es
 abandons_run wish None now a b ps es = refl
 abandons_run wish (Some o) now a b ps es = abandoned_run (still_wished wish o) now a b ps es
 
 abandoned_may : (wished : Bool) (w : LaneOf) → is_some w.asker.caller.asked ≡ true → MayRun w (unless_wished wished [])
 abandoned_may true w asked = tt
-abandoned_may false w asked = (record { lawful = tt; may = rw asked refl; beats = tt }, tt)
+abandoned_may false w asked = (record { lawful = tt; may = rw asked refl }, tt)
 
 abandons_may : (wish : Option CommandOf) (asked : Option Open) (w : LaneOf) → w.asker.caller.asked ≡ asked → MayRun w (abandon_steps wish asked [])
 abandons_may wish None w is = tt
 abandons_may wish (Some o) w is = abandoned_may (still_wished wish o) w (rw is refl)
 
 -- where a call changes a half's core, its lane gives up what isn't wished
-pub settles_in_lane : {A B : Type 0} (core : CoreOf A) (x : A) (now : ℕ) (a : HalfOf A) (b : HalfOf B) (ps : List Sent) (es : List EntryOf)
+pub settles_in_lane : {A B : Type 0} (core : CoreOf A) (x : A) (now : Times) (a : HalfOf A) (b : HalfOf B) (ps : List Sent) (es : List EntryOf)
     → lane_run (lane_of now a b ps es) (settle_steps core a.asker.caller.asked x) ≡ lane_of now (settled core (record a { core = x })) b ps es
 settles_in_lane core x now a b ps es = abandons_run (core.wish x) a.asker.caller.asked now (record a { core = x }) b ps es
 
-pub may_settle : {A B : Type 0} (core : CoreOf A) (x : A) (now : ℕ) (a : HalfOf A) (b : HalfOf B) (ps : List Sent) (es : List EntryOf)
+pub may_settle : {A B : Type 0} (core : CoreOf A) (x : A) (now : Times) (a : HalfOf A) (b : HalfOf B) (ps : List Sent) (es : List EntryOf)
     → MayRun (lane_of now a b ps es) (settle_steps core a.asker.caller.asked x)
 may_settle core x now a b ps es = abandons_may (core.wish x) a.asker.caller.asked (lane_of now a b ps es) refl
 
 -- A request at a half: in the lane in which it answers, it is taken with the half's reply; in the lane in which it asks, what
 -- isn't wished any more is given up.
-pub record TakesIn {A B : Type 0} (now : ℕ) (a : HalfOf A) (b : HalfOf B) (row : TakerRow) (reply : List ℕ) (settles : List StepOf) (heard : HalfHeard A) : Type 0 where
+pub record TakesIn {A B : Type 0} (now : Times) (a : HalfOf A) (b : HalfOf B) (row : TakerRow) (reply : List ℕ) (settles : List StepOf) (heard : HalfHeard A) : Type 0 where
   pub passed : IsPassed heard
   pub own : (half_in heard).own ≡ a.own
   pub peer : (half_in heard).peer ≡ a.peer
   pub few : length reply ≤ 252
   pub more : List EntryOf
-  pub answers : (ps : List Sent) (es : List EntryOf) → taker_does (lane_of now b a ps es) reply row ≡ lane_of now b (half_in heard) (posted now ps (sent_in heard)) (es ++ more)
+  pub answers : (ps : List Sent) (es : List EntryOf) → taker_does (lane_of (turned_times now) b a ps es) reply row ≡ lane_of (turned_times now) b (half_in heard) (posted now.now ps (sent_in heard)) (es ++ more)
   pub asks : (ps : List Sent) (es : List EntryOf) → lane_run (lane_of now a b ps es) settles ≡ lane_of now (half_in heard) b ps es
   pub may : (ps : List Sent) (es : List EntryOf) → MayRun (lane_of now a b ps es) settles
 
-takes_read_in : {A B : Type 0} (core : CoreOf A) (quiet works : Bool) (now : ℕ) (a : HalfOf A) (b : HalfOf B)
+takes_read_in : {A B : Type 0} (core : CoreOf A) (quiet works : Bool) (now : Times) (a : HalfOf A) (b : HalfOf B)
     (requests : List (Option Held)) (m : MessageOf) (head : PldmHead) (body : List ℕ) (c : Result CommandOf ℕ)
     → IsTold (takes_read core quiet works a requests m head c)
     → TakesIn now a b (TakerRow.TakesUp requests m head body) (reply_read core quiet works a.core c).reply
@@ -99,7 +99,7 @@ takes_read_in core quiet works now a b requests m head body (Err code) told = re
   may = λ ps es. may_settle core a.core now a b ps es;
 }
 
-takes_if_in : {A B : Type 0} (five : Bool) (core : CoreOf A) (works : Bool) (now : ℕ) (a : HalfOf A) (b : HalfOf B)
+takes_if_in : {A B : Type 0} (five : Bool) (core : CoreOf A) (works : Bool) (now : Times) (a : HalfOf A) (b : HalfOf B)
     (requests : List (Option Held)) (m : MessageOf) (head : PldmHead) (body : List ℕ)
     → five ≡ true → IsTold (takes_if five core works a requests m head body)
     → TakesIn now a b (TakerRow.TakesUp requests m head body) (reply_read core (is_quiet a.asker.caller) works a.core (read_by core head.command body)).reply
@@ -116,7 +116,7 @@ IsServed (TakerRow.Repeats requests answer) = Unit {0}
 IsServed (TakerRow.TakesUp requests m head body) = (head.pldm_type == 5) ≡ true
 IsServed (TakerRow.Strays requests m) = ⊥
 
-pub takes_in : {A B : Type 0} (core : CoreOf A) (works : Bool) (now : ℕ) (a : HalfOf A) (b : HalfOf B) (row : TakerRow)
+pub takes_in : {A B : Type 0} (core : CoreOf A) (works : Bool) (now : Times) (a : HalfOf A) (b : HalfOf B) (row : TakerRow)
     → IsServed row → IsTold (half_takes core works a row)
     → TakesIn now a b row (reply_in core works a row) (take_steps core works a row) (half_takes core works a row)
 takes_in core works now a b (TakerRow.Silent requests) served told = record {
@@ -145,7 +145,7 @@ takes_in core works now a b (TakerRow.Strays requests m) served told = absurd se
 
 -- A reply at a half: in the lane in which it asks, it is learnt, and what isn't wished any more is given up; in the lane in
 -- which it answers, nothing happens.
-pub record LearnsIn {A B : Type 0} (now : ℕ) (a : HalfOf A) (b : HalfOf B) (row : AskerRow) (settles : List StepOf) (heard : HalfHeard A) : Type 0 where
+pub record LearnsIn {A B : Type 0} (now : Times) (a : HalfOf A) (b : HalfOf B) (row : AskerRow) (settles : List StepOf) (heard : HalfHeard A) : Type 0 where
   pub passed : IsPassed heard
   pub own : (half_in heard).own ≡ a.own
   pub peer : (half_in heard).peer ≡ a.peer
@@ -153,9 +153,9 @@ pub record LearnsIn {A B : Type 0} (now : ℕ) (a : HalfOf A) (b : HalfOf B) (ro
   pub more : List EntryOf
   pub asks : (ps : List Sent) (es : List EntryOf) → lane_run (asker_does (lane_of now a b ps es) row) settles ≡ lane_of now (half_in heard) b ps (es ++ more)
   pub may : (ps : List Sent) (es : List EntryOf) → MayRun (asker_does (lane_of now a b ps es) row) settles
-  pub answers : (ps : List Sent) (es : List EntryOf) → lane_of now b a ps es ≡ lane_of now b (half_in heard) ps es
+  pub answers : (ps : List Sent) (es : List EntryOf) → lane_of (turned_times now) b a ps es ≡ lane_of (turned_times now) b (half_in heard) ps es
 
-pub learns_in : {A B : Type 0} (core : CoreOf A) (works : Bool) (now : ℕ) (a : HalfOf A) (b : HalfOf B) (row : AskerRow)
+pub learns_in : {A B : Type 0} (core : CoreOf A) (works : Bool) (now : Times) (a : HalfOf A) (b : HalfOf B) (row : AskerRow)
     → LearnsIn now a b row (learn_steps core works a row) (half_hears_by core works a row (TakerRow.Silent a.taker.requests))
 learns_in core works now a b (AskerRow.Ignores replies) = record {
   passed = tt;

@@ -5,6 +5,7 @@ use Rattle.std.proofs.lemmas.Bool.Decides.{eqb_tells}
 use Rattle.ua_core.specs.Session.{TimedOf}
 use Rattle.fw_node.specs.Agents.{half_for}
 use Rattle.fw_node.specs.Halves.{HalfOf}
+use Rattle.fw_world.specs.Lanes.{times_of}
 use Rattle.fw_world.specs.Links.{LinkOf}
 use Rattle.fw_world.specs.Replays.{AreDifferent}
 use Rattle.fw_world.specs.Worlds.{SiteOf, WorldOf, site_for}
@@ -92,14 +93,14 @@ half_of_link : (w : WorldOf) (eid : ℕ) (h : HalfOf TimedOf) (l : LinkOf) → l
 half_of_link w eid h l is k = subst (IsHalfOf w.agent.deaf) is (record {
   asking = k.asking;
   answering = k.answering;
-  routed = routed_half w.now l.agent l.device l.packets (ways_of w.now l k.explained);
+  routed = routed_half (times_of w.now l) l.agent l.device l.packets (ways_of w.now l k.explained);
 })
 
 half_by : (w : WorldOf) (i eid : ℕ) (h : HalfOf TimedOf) (s : Option SiteOf) → KnownLinks w → slice_get (eids_of w) i ≡ Some eid → slice_get w.agent.halves i ≡ Some h → slice_get w.sites i ≡ s
     → IsSomeAnd s (λ x. site_eid x ≡ eid) → IsHalfOf w.agent.deaf h
 half_by w i eid h None k e half site some = absurd some
 half_by w i eid h (Some x) k e half site some =
-    let l : LinkOf = record { agent = h; device = x.node.half; packets = x.packets } in
+    let l : LinkOf = record { agent = h; device = x.node.half; packets = x.packets; agent_since_miss = 8; device_since_miss = 8 } in
     half_of_link w eid h l refl
     (k.links i eid l e (link_in_place w.agent.halves w.sites i ∙ ap (λ o. link_from o (slice_get w.sites i)) half ∙ ap (link_from (Some h)) site))
 

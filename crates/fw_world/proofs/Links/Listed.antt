@@ -47,7 +47,7 @@ first_by_place key xs i eid apart e = placed_by key xs i eid (slice_get xs i) ap
 abbrev pub links_in : List (HalfOf TimedOf) → List SiteOf → List LinkOf
 links_in [] xs = []
 links_in (h ∷ hs) [] = []
-links_in (h ∷ hs) (x ∷ xs) = record { agent = h; device = x.node.half; packets = x.packets } ∷ links_in hs xs
+links_in (h ∷ hs) (x ∷ xs) = record { agent = h; device = x.node.half; packets = x.packets; agent_since_miss = 8; device_since_miss = 8 } ∷ links_in hs xs
 
 abbrev pub links_of : WorldOf → List LinkOf
 links_of w = links_in w.agent.halves w.sites

@@ -60,13 +60,13 @@ StepsTo now packages l (Some s) after = IsSomeAnd (link_after now packages l s) 
 pub link_half : (o : Option (HalfOf TimedOf)) (s : Option SiteOf) (l : LinkOf) → link_from o s ≡ Some l → o ≡ Some l.agent
 link_half None s l e = absurd (cc)
 link_half (Some h) None l e = absurd (cc)
-link_half (Some h) (Some x) l e = let is : ◌≡◌ {A = LinkOf} (record { agent = h; device = x.node.half; packets = x.packets }) l = cc in ap (λ z. Some z.agent) is
+link_half (Some h) (Some x) l e = let is : ◌≡◌ {A = LinkOf} (record { agent = h; device = x.node.half; packets = x.packets; agent_since_miss = 8; device_since_miss = 8 }) l = cc in ap (λ z. Some z.agent) is
 
 pub link_site : (o : Option (HalfOf TimedOf)) (s : Option SiteOf) (l : LinkOf) → link_from o s ≡ Some l → IsSomeAnd s (λ x. (x.node.half ≡ l.device) × (x.packets ≡ l.packets))
 link_site None s l e = absurd (cc)
 link_site (Some h) None l e = absurd (cc)
 link_site (Some h) (Some x) l e =
-    let is : ◌≡◌ {A = LinkOf} (record { agent = h; device = x.node.half; packets = x.packets }) l = cc in (ap (λ z. z.device) is, ap (λ z. z.packets) is)
+    let is : ◌≡◌ {A = LinkOf} (record { agent = h; device = x.node.half; packets = x.packets; agent_since_miss = 8; device_since_miss = 8 }) l = cc in (ap (λ z. z.device) is, ap (λ z. z.packets) is)
 
 -- where a link is led
 pub leads_to : (o : Option LinkStepped) (g : LinkOf → LinkOf) (y : Option LinkOf) (l : LinkOf) → y ≡ Some (g l) → IsSomeAnd o (λ t. g l ≡ t.after) → IsSomeAnd o (λ t. y ≡ Some t.after)

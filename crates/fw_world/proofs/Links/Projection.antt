@@ -22,7 +22,7 @@ use Rattle.fw_world.proofs.Links.Sorted.{posted_behind}
 abbrev pub link_from : Option (HalfOf TimedOf) → Option SiteOf → Option LinkOf
 link_from None x = None
 link_from (Some h) None = None
-link_from (Some h) (Some x) = Some (record { agent = h; device = x.node.half; packets = x.packets })
+link_from (Some h) (Some x) = Some (record { agent = h; device = x.node.half; packets = x.packets; agent_since_miss = 8; device_since_miss = 8 })
 
 abbrev pub link_at : WorldOf → ℕ → Option LinkOf
 link_at w eid = link_from (half_for w.agent eid) (site_for w.sites eid)
@@ -34,10 +34,12 @@ tick_link : (packages : List PackageText) (now : ℕ) (h : HalfOf TimedOf) (x : 
       agent = half_after_tick packages h;
       device = (half_ticks device_core true x.node.half).half;
       packets = (x.packets ++ sent_now (now + 1) (ticked_packets packages h)) ++ sent_now (now + 1) (all_packets (half_ticks device_core true x.node.half).sent);
+      agent_since_miss = 8;
+      device_since_miss = 8;
     })
-    (link_ticks now packages (record { agent = h; device = x.node.half; packets = x.packets }) true true)
+    (link_ticks now packages (record { agent = h; device = x.node.half; packets = x.packets; agent_since_miss = 8; device_since_miss = 8 }) true true)
 tick_link packages now h x =
-    ap (λ ps. record { agent = half_after_tick packages h; device = (half_ticks device_core true x.node.half).half; packets = ps })
+    ap (λ ps. record { agent = half_after_tick packages h; device = (half_ticks device_core true x.node.half).half; packets = ps; agent_since_miss = 8; device_since_miss = 8 })
     (sym (posted_behind (now + 1) (posted (now + 1) x.packets (half_ticks (session_core packages) true h).sent) (half_ticks device_core true x.node.half).sent
     ∙ ap (λ ps. ps ++ sent_now (now + 1) (all_packets (half_ticks device_core true x.node.half).sent)) (posted_behind (now + 1) x.packets (half_ticks (session_core packages) true h).sent)))
 

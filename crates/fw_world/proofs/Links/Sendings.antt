@@ -12,7 +12,7 @@ use Rattle.fw_package.specs.Package.{PackageText}
 use Rattle.fw_node.specs.Cores.{session_core}
 use Rattle.fw_node.specs.Halves.{CoreOf, HalfOf, begins_if, begins_wish, called, half_hears, half_hears_by, half_takes, half_ticks, hears_if, kept_if, read_by, still_wished, takes_if, takes_read, unwished_abandoned, unwished_for, with_caller}
 use Rattle.fw_node.specs.Packets.{all_packets, packets_of}
-use Rattle.fw_world.specs.Lanes.{Explained, LinkExplained}
+use Rattle.fw_world.specs.Lanes.{Explained, LinkExplained, Times, times_of}
 use Rattle.fw_world.specs.Links.{LinkOf}
 use Rattle.fw_world.proofs.Links.Hears.{sent_in}
 use Rattle.fw_world.proofs.Links.InLanes.{ways_of}
@@ -29,7 +29,7 @@ routed_lane : (asker taker : ℕ) (lane : List EntryOf → LaneOf) (e : Explaine
 routed_lane asker taker lane e = subst IsRouted e.is (lane_routed asker taker e.steps)
 
 -- The first of two halves, between which all is explained.
-pub routed_half : {A B : Type 0} (now : ℕ) (a : HalfOf A) (b : HalfOf B) (ps : List Sent) → BothWays now a b ps → IsRoutedHalf a
+pub routed_half : {A B : Type 0} (now : Times) (a : HalfOf A) (b : HalfOf B) (ps : List Sent) → BothWays now a b ps → IsRoutedHalf a
 routed_half now a b ps h = record {
   asks = (routed_lane a.own b.own _ h.asks).asks;
   answers = subst (λ p. AnswersPeer p a.taker.kept) (sym h.peer) (routed_lane b.own a.own _ h.answers).answers;
@@ -122,11 +122,11 @@ pub agent_tick_to : (now : ℕ) (packages : List PackageText) (l : LinkOf) → L
 agent_tick_to now packages l e =
     packets_to l.device.own (half_ticks (session_core packages) true l.agent).sent
     (subst (λ p. AreTo p (half_ticks (session_core packages) true l.agent).sent) e.agent_peer
-    (tick_sends_to (session_core packages) l.agent (routed_half now l.agent l.device l.packets (ways_of now l e))))
+    (tick_sends_to (session_core packages) l.agent (routed_half (times_of now l) l.agent l.device l.packets (ways_of now l e))))
 
 pub agent_heard_to : (now : ℕ) (packages : List PackageText) (l : LinkOf) (works : Bool) (bytes : List ℕ) → LinkExplained now l
     → AllByRecursion (GoesTo l.device.own) (all_packets (sent_in (half_hears (session_core packages) works l.agent bytes)))
 agent_heard_to now packages l works bytes e =
     packets_to l.device.own (sent_in (half_hears (session_core packages) works l.agent bytes))
     (subst (λ p. AreTo p (sent_in (half_hears (session_core packages) works l.agent bytes))) e.agent_peer
-    (heard_sends_to (session_core packages) works l.agent bytes (routed_half now l.agent l.device l.packets (ways_of now l e))))
+    (heard_sends_to (session_core packages) works l.agent bytes (routed_half (times_of now l) l.agent l.device l.packets (ways_of now l e))))

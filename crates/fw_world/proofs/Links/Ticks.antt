@@ -1,23 +1,24 @@
 -- A tick of a half, in the lane in which it asks.
-use Rattle.std.proofs.Common.{◌≡◌, ◌<◌, ◌^◌, ◌-◌, ℕ, ◌+◌, ◌==◌, Bool, true, false, List, [], ◌∷◌, ◌++◌, nat_le, Option, Some, None, IfSome, is_some, refl, subst, arith, inl, inr}
+use Rattle.std.proofs.Common.{◌≡◌, ◌<◌, ◌&&◌, nat_lt, ◌^◌, ◌-◌, ℕ, ◌+◌, ◌==◌, Bool, true, false, List, [], ◌∷◌, ◌++◌, nat_le, Option, Some, None, IfSome, is_some, refl, subst, arith, inl, inr}
 use Rattle.std.proofs.lemmas.Bool.{cases_lt, le-leb, lt-leb, lt-ltb, ne_eqb}
 use Rattle.std.proofs.lemmas.List.{append-nil}
 use Rattle.mctp_reasm.specs.Pieces.{MessageOf}
 use Rattle.pldm_exch.specs.Caller.{Open, may_begin}
 use Rattle.pldm_exch.specs.Ends.{AskerOf}
-use Rattle.pldm_exch.specs.Sides.{AskerTick, asker_counts, taker_counts}
+use Rattle.pldm_exch.specs.Sides.{AskerTick, asker_counts, taker_counts, taker_tick}
 use Rattle.fwup_wire.specs.Commands.{IsSpoken, command_bytes, command_code}
 use Rattle.fwup_wire.specs.Values.{CommandOf}
+use Rattle.exch_lane.specs.Clocks.{may_beat}
 use Rattle.exch_lane.specs.Lanes.{EntryOf, LaneOf, Sent, StepOf}
 use Rattle.exch_lane.specs.Steps.{MayRun, MayTake, asker_ticks, lane_run, sendings, tick_begins}
 use Rattle.fw_node.specs.Halves.{CoreOf, HalfOf, Ticked, begins_if, begins_wish, called, half_ticks, hears_if, kept_if, still_wished, unwished_abandoned, unwished_for, with_caller}
-use Rattle.fw_world.specs.Lanes.{abandon_steps, begin_steps, called_steps, hearing_steps, lane_of, tick_steps, unless_wished, wish_steps}
+use Rattle.fw_world.specs.Lanes.{Times, later, abandon_steps, begin_steps, called_steps, hearing_steps, lane_of, tick_steps, unless_wished, wish_steps}
 use Rattle.fw_world.specs.Links.{posted}
 
 -- A lane goes on by these steps to where a half is after what it does.
-pub record Leads {A B : Type 0} (w : LaneOf) (ss : List StepOf) (now : ℕ) (a : Ticked A) (b : HalfOf B) (ps : List Sent) (es : List EntryOf) : Type 0 where
+pub record Leads {A B : Type 0} (w : LaneOf) (ss : List StepOf) (now : Times) (a : Ticked A) (b : HalfOf B) (ps : List Sent) (es : List EntryOf) : Type 0 where
   pub more : List EntryOf
-  pub leads : lane_run w ss ≡ lane_of now a.half b (posted now ps a.sent) (es ++ more)
+  pub leads : lane_run w ss ≡ lane_of now a.half b (posted now.now ps a.sent) (es ++ more)
   pub may : MayRun w ss
 
 pub posted_more : (now : ℕ) (ps : List Sent) (ms : List MessageOf) (m : MessageOf) → posted now ps (ms ++ m ∷ []) ≡ posted now ps ms ++ sendings now m
@@ -25,13 +26,13 @@ posted_more now ps [] m = refl
 posted_more now ps (n ∷ ms) m = posted_more now (ps ++ sendings now n) ms m
 
 -- what is wished begins
-begins : {A B : Type 0} (may : Bool) (now : ℕ) (a : HalfOf A) (b : HalfOf B) (c : CommandOf) (ms : List MessageOf) (ps : List Sent) (es : List EntryOf)
+begins : {A B : Type 0} (may : Bool) (now : Times) (a : HalfOf A) (b : HalfOf B) (c : CommandOf) (ms : List MessageOf) (ps : List Sent) (es : List EntryOf)
     → may_begin a.asker.caller ≡ may → (a.asker.deaf == 0) ≡ true → IsSpoken c
-    → Leads (lane_of now a b (posted now ps ms) es) (begin_steps may c) now (begins_if may a c ms) b ps es
+    → Leads (lane_of now a b (posted now.now ps ms) es) (begin_steps may c) now (begins_if may a c ms) b ps es
 begins true now a b c ms ps es begin hears fits = record {
   more = EntryOf.Asked (command_code c) (command_bytes c) ∷ [];
-  leads = rw (posted_more now ps ms _) refl;
-  may = (record { lawful = fits.writable; may = rw (hears, begin) refl; beats = tt }, tt);
+  leads = rw (posted_more now.now ps ms _) refl;
+  may = (record { lawful = fits.writable; may = rw (hears, begin) refl }, tt);
 }
 begins false now a b c ms ps es begin hears fits = record {
   more = [];
@@ -39,32 +40,32 @@ begins false now a b c ms ps es begin hears fits = record {
   may = tt;
 }
 
-wishes : {A B : Type 0} (wish : Option CommandOf) (now : ℕ) (a : HalfOf A) (b : HalfOf B) (ms : List MessageOf) (ps : List Sent) (es : List EntryOf)
+wishes : {A B : Type 0} (wish : Option CommandOf) (now : Times) (a : HalfOf A) (b : HalfOf B) (ms : List MessageOf) (ps : List Sent) (es : List EntryOf)
     → (a.asker.deaf == 0) ≡ true → IfSome wish IsSpoken
-    → Leads (lane_of now a b (posted now ps ms) es) (wish_steps wish a.asker.caller) now (begins_wish wish a ms) b ps es
+    → Leads (lane_of now a b (posted now.now ps ms) es) (wish_steps wish a.asker.caller) now (begins_wish wish a ms) b ps es
 wishes None now a b ms ps es hears fits = record { more = []; leads = rw (append-nil es) refl; may = tt }
 wishes (Some c) now a b ms ps es hears fits = begins (may_begin a.asker.caller) now a b c ms ps es refl hears fits
 
 -- a step before others
-first_step : {A B : Type 0} (w : LaneOf) (s : StepOf) (ss : List StepOf) (now : ℕ) (a : Ticked A) (b : HalfOf B) (ps : List Sent) (es : List EntryOf)
+first_step : {A B : Type 0} (w : LaneOf) (s : StepOf) (ss : List StepOf) (now : Times) (a : Ticked A) (b : HalfOf B) (ps : List Sent) (es : List EntryOf)
     → MayTake w s → Leads (lane_run w (s ∷ [])) ss now a b ps es → Leads w (s ∷ ss) now a b ps es
 first_step w s ss now a b ps es may l = record { more = l.more; leads = l.leads; may = (may, l.may) }
 
 -- what isn't wished is given up first
-abandons_unless : {A B : Type 0} (wished : Bool) (wish : Option CommandOf) (now : ℕ) (a : HalfOf A) (b : HalfOf B) (ms : List MessageOf) (ps : List Sent) (es : List EntryOf)
+abandons_unless : {A B : Type 0} (wished : Bool) (wish : Option CommandOf) (now : Times) (a : HalfOf A) (b : HalfOf B) (ms : List MessageOf) (ps : List Sent) (es : List EntryOf)
     → is_some a.asker.caller.asked ≡ true → (a.asker.deaf == 0) ≡ true → IfSome wish IsSpoken
-    → Leads (lane_of now a b (posted now ps ms) es) (unless_wished wished (wish_steps wish (kept_if wished a.asker.caller))) now
+    → Leads (lane_of now a b (posted now.now ps ms) es) (unless_wished wished (wish_steps wish (kept_if wished a.asker.caller))) now
     (begins_wish wish (with_caller a (kept_if wished a.asker.caller)) ms) b ps es
 abandons_unless true wish now a b ms ps es asked hears fits = wishes wish now a b ms ps es hears fits
 abandons_unless false wish now a b ms ps es asked hears fits =
-    first_step (lane_of now a b (posted now ps ms) es) StepOf.Abandon (wish_steps wish (kept_if false a.asker.caller)) now
+    first_step (lane_of now a b (posted now.now ps ms) es) StepOf.Abandon (wish_steps wish (kept_if false a.asker.caller)) now
     (begins_wish wish (with_caller a (kept_if false a.asker.caller)) ms) b ps es
-    (record { lawful = tt; may = rw asked refl; beats = tt })
+    (record { lawful = tt; may = rw asked refl })
     (wishes wish now (with_caller a (kept_if false a.asker.caller)) b ms ps es hears fits)
 
-abandons : {A B : Type 0} (asked : Option Open) (wish : Option CommandOf) (now : ℕ) (a : HalfOf A) (b : HalfOf B) (ms : List MessageOf) (ps : List Sent) (es : List EntryOf)
+abandons : {A B : Type 0} (asked : Option Open) (wish : Option CommandOf) (now : Times) (a : HalfOf A) (b : HalfOf B) (ms : List MessageOf) (ps : List Sent) (es : List EntryOf)
     → a.asker.caller.asked ≡ asked → (a.asker.deaf == 0) ≡ true → IfSome wish IsSpoken
-    → Leads (lane_of now a b (posted now ps ms) es) (abandon_steps wish asked (wish_steps wish (unwished_for wish a.asker.caller asked))) now
+    → Leads (lane_of now a b (posted now.now ps ms) es) (abandon_steps wish asked (wish_steps wish (unwished_for wish a.asker.caller asked))) now
     (begins_wish wish (with_caller a (unwished_for wish a.asker.caller asked)) ms) b ps es
 abandons None wish now a b ms ps es is hears fits = wishes wish now a b ms ps es hears fits
 abandons (Some o) wish now a b ms ps es is hears fits = abandons_unless (still_wished wish o) wish now a b ms ps es (rw is refl) hears fits
@@ -79,9 +80,9 @@ core_stays None h ms = refl
 core_stays (Some c) h ms = core_begun (may_begin h.asker.caller) h c ms
 
 -- the last parts of a tick, where the half hears
-hears : {A B : Type 0} (hearing : Bool) (f : CoreOf A) (now : ℕ) (a : HalfOf A) (b : HalfOf B) (ms : List MessageOf) (ps : List Sent) (es : List EntryOf)
+hears : {A B : Type 0} (hearing : Bool) (f : CoreOf A) (now : Times) (a : HalfOf A) (b : HalfOf B) (ms : List MessageOf) (ps : List Sent) (es : List EntryOf)
     → (a.asker.deaf == 0) ≡ hearing → (hearing ≡ true → IfSome (f.wish (hears_if hearing f a ms).half.core) IsSpoken)
-    → Leads (lane_of now a b (posted now ps ms) es) (hearing_steps hearing f a.core a.asker.caller) now (hears_if hearing f a ms) b ps es
+    → Leads (lane_of now a b (posted now.now ps ms) es) (hearing_steps hearing f a.core a.asker.caller) now (hears_if hearing f a ms) b ps es
 hears true f now a b ms ps es is fits =
     abandons a.asker.caller.asked (f.wish (f.ticked a.core)) now (record a { core = f.ticked a.core }) b ms ps es refl is
     (subst (λ x. IfSome (f.wish x) IsSpoken) (core_stays (f.wish (f.ticked a.core)) (with_caller (record a { core = f.ticked a.core }) (unwished_abandoned (f.wish (f.ticked a.core)) a.asker.caller)) ms) (fits refl))
@@ -152,18 +153,38 @@ deaf_before a e = elim (cases_lt 1 a.deaf) [
 ]
 
 -- after the lane's tick
-calls : {A B : Type 0} (f : CoreOf A) (row : AskerTick) (w : LaneOf) (now : ℕ) (a : HalfOf A) (b : HalfOf B) (ps : List Sent) (es : List EntryOf)
+calls : {A B : Type 0} (f : CoreOf A) (row : AskerTick) (w : LaneOf) (now : Times) (a : HalfOf A) (b : HalfOf B) (ps : List Sent) (es : List EntryOf)
     → w ≡ lane_of now a b ps es → (hears_then row ≡ true → IfSome (f.wish (called f a row).half.core) IsSpoken)
     → Leads (asker_ticks w row) (called_steps f a.core row) now (called f a row) b ps es
 calls f (AskerTick.Waits x) w now a b ps es is fits = rw is (hears (x.deaf == 0) f now (record a { asker = x }) b [] ps es refl fits)
 calls f (AskerTick.Resends x m) w now a b ps es is fits = rw is (hears (x.deaf == 0) f now (record a { asker = x }) b (m ∷ []) ps es refl fits)
 calls f (AskerTick.GivesUp x) w now a b ps es is fits = rw is (hears (x.deaf == 0) f now (record a { asker = x; core = f.silent a.core }) b [] ps es refl fits)
 
-pub tick_in_lane : {A B : Type 0} (f : CoreOf A) (g : CoreOf B) (now : ℕ) (a : HalfOf A) (b : HalfOf B) (ps : List Sent) (es : List EntryOf)
-    → now < 2 ^ 32 - 1 → (nat_le a.asker.deaf 1 ≡ true → IfSome (f.wish (half_ticks f true a).half.core) IsSpoken)
-    → Leads (lane_of now a b ps es) (tick_steps f true true a) (now + 1) (half_ticks f true a) (half_ticks g true b).half ps es
-tick_in_lane f g now a b ps es soon fits =
-    first_step (lane_of now a b ps es) (StepOf.Tick true true) (called_steps f a.core (asker_counts a.asker)) (now + 1) (half_ticks f true a) (half_ticks g true b).half ps es
-    (record { lawful = tt; may = rw (lt-ltb now (2 ^ 32 - 1) soon) refl; beats = (refl, refl) })
-    (calls f (asker_counts a.asker) (tick_begins (lane_of now a b ps es) true true) (now + 1) (record a { taker = taker_counts a.taker }) (half_ticks g true b).half ps es
-    (rw (taker_goes g b) refl) (λ e. fits (deaf_before a.asker e)))
+-- the other half, whether it counts the tick or not
+taker_ticks : {A : Type 0} (f : CoreOf A) (counts : Bool) (h : HalfOf A) → (half_ticks f counts h).half.taker ≡ taker_tick counts h.taker
+taker_ticks f true h = taker_goes f h
+taker_ticks f false h = refl
+
+-- the tick is allowed
+may_tick : (now : Times) (asker taker : Bool) → now.now < 2 ^ 32 - 1 → may_beat asker now.asker_since_miss ≡ true → may_beat taker now.taker_since_miss ≡ true
+    → (nat_lt now.now (2 ^ 32 - 1) && (may_beat asker now.asker_since_miss && may_beat taker now.taker_since_miss)) ≡ true
+may_tick now asker taker soon may allowed = rw (lt-ltb now.now (2 ^ 32 - 1) soon, may, allowed) refl
+
+pub tick_in_lane : {A B : Type 0} (f : CoreOf A) (g : CoreOf B) (asker taker : Bool) (now : Times) (a : HalfOf A) (b : HalfOf B) (ps : List Sent) (es : List EntryOf)
+    → now.now < 2 ^ 32 - 1 → may_beat asker now.asker_since_miss ≡ true → may_beat taker now.taker_since_miss ≡ true
+    → (asker ≡ true → nat_le a.asker.deaf 1 ≡ true → IfSome (f.wish (half_ticks f true a).half.core) IsSpoken)
+    → Leads (lane_of now a b ps es) (tick_steps f asker taker a) (later now asker taker) (half_ticks f asker a) (half_ticks g taker b).half ps es
+tick_in_lane f g true taker now a b ps es soon may allowed fits =
+    first_step (lane_of now a b ps es) (StepOf.Tick true taker) (called_steps f a.core (asker_counts a.asker)) (later now true taker) (half_ticks f true a) (half_ticks g taker b).half ps es
+    (record { lawful = tt; may = rw (may_tick now true taker soon may allowed) refl })
+    (calls f (asker_counts a.asker) (tick_begins (lane_of now a b ps es) true taker) (later now true taker) (record a { taker = taker_counts a.taker }) (half_ticks g taker b).half ps es
+    (rw (taker_ticks g taker b) refl) (λ e. fits refl (deaf_before a.asker e)))
+tick_in_lane f g false taker now a b ps es soon may allowed fits = record {
+  more = [];
+  leads = rw (append-nil es, taker_ticks g taker b) refl;
+  may = (record { lawful = tt; may = rw (may_tick now false taker soon may allowed) refl }, tt);
+}
+
+pub same_ticks : {A : Type 0} (f : CoreOf A) (counts : Bool) (h : HalfOf A) → IsBetween h.own h.peer (half_ticks f counts h).half
+same_ticks f true h = same_ticked f h
+same_ticks f false h = (refl, refl)

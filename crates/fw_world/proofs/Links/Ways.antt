@@ -8,7 +8,7 @@ use Rattle.exch_lane.specs.Laws.{IsCellOf, LaneIsACell, in_lane}
 use Rattle.exch_lane.specs.Steps.{MayRun, lane_run, sent_at}
 use Rattle.fw_node.specs.Halves.{HalfOf}
 use Rattle.fw_node.specs.Packets.{all_packets}
-use Rattle.fw_world.specs.Lanes.{Explained, is_of, lane_of, way_of}
+use Rattle.fw_world.specs.Lanes.{Explained, Times, is_of, lane_of, turned_times, way_of}
 use Rattle.fw_world.specs.LinkLaws.{GoesAlong}
 use Rattle.fw_world.specs.Links.{posted}
 use Rattle.fw_world.proofs.Links.Goes.{Goes, follows, goes_on}
@@ -20,13 +20,13 @@ abbrev pub IsOfEither : (now x y : ℕ) → Sent → Type 0
 IsOfEither now x y s = now ≤ s.date + 8 → (is_of x y s ≡ true) ⊎ (is_of y x s ≡ true)
 
 -- Both ways between two halves are explained.
-pub record BothWays {A B : Type 0} (now : ℕ) (a : HalfOf A) (b : HalfOf B) (ps : List Sent) : Type 0 where
+pub record BothWays {A B : Type 0} (now : Times) (a : HalfOf A) (b : HalfOf B) (ps : List Sent) : Type 0 where
   pub ends : AreEnds a.own b.own
   pub peer : a.peer ≡ b.own
   pub back : b.peer ≡ a.own
   pub asks : Explained a.own b.own (way_of now a b ps)
-  pub answers : Explained b.own a.own (way_of now b a ps)
-  pub packets : AllByRecursion (IsOfEither now a.own b.own) ps
+  pub answers : Explained b.own a.own (way_of (turned_times now) b a ps)
+  pub packets : AllByRecursion (IsOfEither now.now a.own b.own) ps
 
 pub ends_turned : (x y : ℕ) → AreEnds x y → AreEnds y x
 ends_turned x y e = record { asker = e.taker; taker = e.asker; differ = λ z. e.differ (sym z) }
@@ -35,14 +35,14 @@ pub either_turned : (now x y : ℕ) (s : Sent) → (is_of x y s ≡ true) ⊎ (i
 either_turned now x y s (inl e) = inr e
 either_turned now x y s (inr e) = inl e
 
-abbrev pub turned : {A B : Type 0} (now : ℕ) (a : HalfOf A) (b : HalfOf B) (ps : List Sent) → BothWays now a b ps → BothWays now b a ps
+abbrev pub turned : {A B : Type 0} (now : Times) (a : HalfOf A) (b : HalfOf B) (ps : List Sent) → BothWays now a b ps → BothWays (turned_times now) b a ps
 turned now a b ps h = record {
   ends = ends_turned a.own b.own h.ends;
   peer = h.back;
   back = h.peer;
   asks = h.answers;
   answers = h.asks;
-  packets = each_all (IsOfEither now a.own b.own) (IsOfEither now b.own a.own) ps h.packets (λ s k soon. either_turned now a.own b.own s (k soon));
+  packets = each_all (IsOfEither now.now a.own b.own) (IsOfEither now.now b.own a.own) ps h.packets (λ s k soon. either_turned now.now a.own b.own s (k soon));
 }
 
 -- the same two halves, still each other's peers
@@ -53,32 +53,32 @@ pub record AreSame {A B : Type 0} (a x : HalfOf A) (b y : HalfOf B) : Type 0 whe
   pub back : y.peer ≡ b.peer
 
 -- Both ways after steps of theirs: the halves and the packets are these, and both are explained again.
-pub record WaysGo {A B : Type 0} (now then : ℕ) (a x : HalfOf A) (b y : HalfOf B) (ps qs : List Sent) (asked answered : List StepOf) (before : BothWays now a b ps) : Type 0 where
+pub record WaysGo {A B : Type 0} (now then : Times) (a x : HalfOf A) (b y : HalfOf B) (ps qs : List Sent) (asked answered : List StepOf) (before : BothWays now a b ps) : Type 0 where
   pub same : AreSame a x b y
   pub explained : BothWays then x y qs
   pub asks : GoesAlong (way_of now a b ps) (way_of then x y qs) asked before.asks.run explained.asks.run
-  pub answers : GoesAlong (way_of now b a ps) (way_of then y x qs) answered before.answers.run explained.answers.run
+  pub answers : GoesAlong (way_of (turned_times now) b a ps) (way_of (turned_times then) y x qs) answered before.answers.run explained.answers.run
 
 -- What a way's steps come to, when what the half sends isn't sorted yet.
-pub record Comes {A B : Type 0} (now then : ℕ) (a x : HalfOf A) (b y : HalfOf B) (ps : List Sent) (ms : List MessageOf) (es : List EntryOf) (ss : List StepOf) : Type 0 where
+pub record Comes {A B : Type 0} (now then : Times) (a x : HalfOf A) (b y : HalfOf B) (ps : List Sent) (ms : List MessageOf) (es : List EntryOf) (ss : List StepOf) : Type 0 where
   pub may : MayRun (way_of now a b ps es) ss
   pub more : List EntryOf
-  pub leads : lane_run (way_of now a b ps es) ss ≡ lane_of then x y (posted then (filter (is_of a.own b.own) ps) ms) (es ++ more)
+  pub leads : lane_run (way_of now a b ps es) ss ≡ lane_of then x y (posted then.now (filter (is_of a.own b.own) ps) ms) (es ++ more)
 
 -- what is sent on a way is of this way
-sent_mine : {A B : Type 0} (law : LaneIsACell) (now then : ℕ) (a x : HalfOf A) (b y : HalfOf B) (ps : List Sent) (ms : List MessageOf) (ss : List StepOf)
+sent_mine : {A B : Type 0} (law : LaneIsACell) (now then : Times) (a x : HalfOf A) (b y : HalfOf B) (ps : List Sent) (ms : List MessageOf) (ss : List StepOf)
     (h : BothWays now a b ps) → AreSame a x b y → Comes now then a x b y ps ms h.asks.run.entries ss
-    → AllByRecursion (λ s. is_of a.own b.own s ≡ true) (map (sent_at then) (all_packets ms))
+    → AllByRecursion (λ s. is_of a.own b.own s ≡ true) (map (sent_at then.now) (all_packets ms))
 sent_mine law now then a x b y ps ms ss h same c =
     let f = follows law a.own b.own (way_of now a b ps) h.asks ss h.ends c.may in
-    let w = lane_of then x y (posted then (filter (is_of a.own b.own) ps) ms) (h.asks.run.entries ++ c.more) in
+    let w = lane_of then x y (posted then.now (filter (is_of a.own b.own) ps) ms) (h.asks.run.entries ++ c.more) in
     let cell : IsCellOf w f.run = subst (λ v. IsCellOf v f.run) c.leads f.cell in
-    let mine : AllByRecursion (λ s. in_lane x.own x.peer s.bytes ≡ true) (map (sent_at then) (all_packets ms)) =
-    sent_in_lane w then (filter (is_of a.own b.own) ps) ms (omega arith) refl cell.packets in
+    let mine : AllByRecursion (λ s. in_lane x.own x.peer s.bytes ≡ true) (map (sent_at then.now) (all_packets ms)) =
+    sent_in_lane w then.now (filter (is_of a.own b.own) ps) ms (omega arith) refl cell.packets in
     let own : x.own ≡ a.own = same.own in
     let peer : x.peer ≡ b.own = same.peer ∙ h.peer in
-    subst (λ e. AllByRecursion (λ s. in_lane a.own e s.bytes ≡ true) (map (sent_at then) (all_packets ms))) peer
-    (subst (λ e. AllByRecursion (λ s. in_lane e x.peer s.bytes ≡ true) (map (sent_at then) (all_packets ms))) own mine)
+    subst (λ e. AllByRecursion (λ s. in_lane a.own e s.bytes ≡ true) (map (sent_at then.now) (all_packets ms))) peer
+    (subst (λ e. AllByRecursion (λ s. in_lane e x.peer s.bytes ≡ true) (map (sent_at then.now) (all_packets ms))) own mine)
 
 -- and not of the other
 sent_theirs : (x y : ℕ) (ps : List Sent) → x ≢ y → AllByRecursion (λ s. is_of x y s ≡ true) ps → AllByRecursion (λ s. is_of y x s ≡ false) ps
@@ -130,8 +130,8 @@ explained_as same e = record {
 }
 
 -- One way goes on.
-way_goes : {A B : Type 0} (law : LaneIsACell) (now then : ℕ) (a x : HalfOf A) (b y : HalfOf B) (ps qs : List Sent) (ms : List MessageOf) (ss : List StepOf)
-    (h : BothWays now a b ps) → x.own ≡ a.own → y.own ≡ b.own → filter (is_of a.own b.own) qs ≡ posted then (filter (is_of a.own b.own) ps) ms
+way_goes : {A B : Type 0} (law : LaneIsACell) (now then : Times) (a x : HalfOf A) (b y : HalfOf B) (ps qs : List Sent) (ms : List MessageOf) (ss : List StepOf)
+    (h : BothWays now a b ps) → x.own ≡ a.own → y.own ≡ b.own → filter (is_of a.own b.own) qs ≡ posted then.now (filter (is_of a.own b.own) ps) ms
     → Comes now then a x b y ps ms h.asks.run.entries ss
     → Goes a.own b.own (way_of now a b ps) (way_of then x y qs) ss h.asks.run
 way_goes law now then a x b y ps qs ms ss h own other is c =
@@ -140,18 +140,18 @@ way_goes law now then a x b y ps qs ms ss h own other is c =
     (λ z. refl)
 
 -- Both ways go on.
-pub ways_go : {A B : Type 0} (law : LaneIsACell) (now then : ℕ) (a x : HalfOf A) (b y : HalfOf B) (ps : List Sent) (ms ns : List MessageOf) (asked answered : List StepOf)
-    (h : BothWays now a b ps) → now ≤ then → AreSame a x b y
-    → Comes now then a x b y ps ms h.asks.run.entries asked → Comes now then b y a x ps ns h.answers.run.entries answered
-    → WaysGo now then a x b y ps (posted then (posted then ps ms) ns) asked answered h
+pub ways_go : {A B : Type 0} (law : LaneIsACell) (now then : Times) (a x : HalfOf A) (b y : HalfOf B) (ps : List Sent) (ms ns : List MessageOf) (asked answered : List StepOf)
+    (h : BothWays now a b ps) → now.now ≤ then.now → AreSame a x b y
+    → Comes now then a x b y ps ms h.asks.run.entries asked → Comes (turned_times now) (turned_times then) b y a x ps ns h.answers.run.entries answered
+    → WaysGo now then a x b y ps (posted then.now (posted then.now ps ms) ns) asked answered h
 ways_go law now then a x b y ps ms ns asked answered h later same c d =
     let differ : a.own ≢ b.own = h.ends.differ in
     let mine = sent_mine law now then a x b y ps ms asked h same c in
-    let theirs = sent_mine law now then b y a x ps ns answered (turned now a b ps h) (record { own = same.other; peer = same.back; other = same.own; back = same.peer }) d in
-    let there = way_goes law now then a x b y ps (posted then (posted then ps ms) ns) ms asked h same.own same.other
-    (first_sorted then a.own b.own ps ms ns mine (sent_theirs b.own a.own (map (sent_at then) (all_packets ns)) (λ z. differ (sym z)) theirs)) c in
-    let back = way_goes law now then b y a x ps (posted then (posted then ps ms) ns) ns answered (turned now a b ps h) same.other same.own
-    (second_sorted then b.own a.own ps ms ns (sent_theirs a.own b.own (map (sent_at then) (all_packets ms)) differ mine) theirs) d in
+    let theirs = sent_mine law (turned_times now) (turned_times then) b y a x ps ns answered (turned now a b ps h) (record { own = same.other; peer = same.back; other = same.own; back = same.peer }) d in
+    let there = way_goes law now then a x b y ps (posted then.now (posted then.now ps ms) ns) ms asked h same.own same.other
+    (first_sorted then.now a.own b.own ps ms ns mine (sent_theirs b.own a.own (map (sent_at then.now) (all_packets ns)) (λ z. differ (sym z)) theirs)) c in
+    let back = way_goes law (turned_times now) (turned_times then) b y a x ps (posted then.now (posted then.now ps ms) ns) ns answered (turned now a b ps h) same.other same.own
+    (second_sorted then.now b.own a.own ps ms ns (sent_theirs a.own b.own (map (sent_at then.now) (all_packets ms)) differ mine) theirs) d in
     record {
       same = same;
       explained = record {
@@ -160,7 +160,7 @@ ways_go law now then a x b y ps ms ns asked answered h later same c d =
         back = same.back ∙ h.back ∙ sym same.own;
         asks = explained_as (new_same a.own b.own x.own y.own same.own same.other) there.explained;
         answers = explained_as (new_same b.own a.own y.own x.own same.other same.own) back.explained;
-        packets = either_as then a.own b.own x.own y.own (posted then (posted then ps ms) ns) same.own same.other (packets_after now then a.own b.own ps ms ns later h.packets mine theirs);
+        packets = either_as then.now a.own b.own x.own y.own (posted then.now (posted then.now ps ms) ns) same.own same.other (packets_after now.now then.now a.own b.own ps ms ns later h.packets mine theirs);
       };
       asks = there.goes;
       answers = back.goes;

@@ -92,7 +92,7 @@ quiet_notes works faults w s k = record {
 }
 
 -- Where all links take such a step, the history grows by what all of them note, which is nothing.
-pub all_note : (works : Bool) (faults : ℕ) (w : WorldOf) (s : Step) (step : LinkStep) (eids : List ℕ) (ls : List LinkOf) (ts : List LinkStepped) → IsQuiet s → IsUnnoted step
+pub all_note : (works : Bool) (faults : ℕ) (w : WorldOf) (s : Step) (step : LinkOf → LinkStep) (eids : List ℕ) (ls : List LinkOf) (ts : List LinkStepped) → IsQuiet s → ((l : LinkOf) → IsUnnoted (step l))
     → AllAfter w.packages w.now step ls ts → (world_after works faults w s).history ≡ w.history ++ notes_of eids ts
 all_note works faults w s step eids ls ts k quiet after =
     quiet_history works faults w s k ∙ sym (append-nil w.history)

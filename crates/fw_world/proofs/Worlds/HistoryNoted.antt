@@ -52,11 +52,11 @@ unnoted_step now packages l (LinkStep.Restart sides.Agent) k = refl
 unnoted_step now packages l (LinkStep.Restart sides.Device) k = refl
 
 -- Where all links take such a step, nothing is noted.
-pub all_unnoted : (now : ℕ) (packages : List PackageText) (s : LinkStep) (eids : List ℕ) (ls : List LinkOf) (ts : List LinkStepped) → IsUnnoted s → AllAfter packages now s ls ts
+pub all_unnoted : (now : ℕ) (packages : List PackageText) (s : LinkOf → LinkStep) (eids : List ℕ) (ls : List LinkOf) (ts : List LinkStepped) → ((l : LinkOf) → IsUnnoted (s l)) → AllAfter packages now s ls ts
     → notes_of eids ts ≡ []
 all_unnoted now packages s [] ls ts k after = refl
 all_unnoted now packages s (eid ∷ eids) ls [] k after = refl
 all_unnoted now packages s (eid ∷ eids) [] (t ∷ ts) k after = absurd after
 all_unnoted now packages s (eid ∷ eids) (l ∷ ls) (t ∷ ts) k after =
-    let none : t.noted ≡ [] = sym (taken_notes (link_after now packages l s) t after.0) ∙ unnoted_step now packages l s k in
+    let none : t.noted ≡ [] = sym (taken_notes (link_after now packages l (s l)) t after.0) ∙ unnoted_step now packages l (s l) (k l) in
     rw none (all_unnoted now packages s eids ls ts k after.1)

@@ -1,6 +1,7 @@
 -- How long the agent is deaf after a step, and each of its halves with it.
-use Rattle.std.proofs.Common.{◌≡◌, ◌∙◌, ◌==◌, ℕ, Bool, true, false, if◌then◌else◌, nat_le, List, [], ◌∷◌, Option, Some, None, refl, sym, ap}
+use Rattle.std.proofs.Common.{◌≡◌, ◌∙◌, ◌==◌, ◌-◌, ◌^◌, ◌&&◌, ℕ, nat_lt, Bool, true, false, if◌then◌else◌, nat_le, List, [], ◌∷◌, Option, Some, None, refl, sym, ap}
 use Rattle.mctp_reasm.specs.Pieces.{MessageOf}
+use Rattle.exch_lane.specs.Clocks.{may_beat}
 use Rattle.fwup_wire.specs.Values.{CommandOf}
 use Rattle.fd_core.specs.Steps.{Judged, device_verdict}
 use Rattle.fw_package.specs.Package.{PackageText}
@@ -84,14 +85,10 @@ hears_asker core works h bytes = rows_asker core works h (asker_row h.own h.peer
 
 -- for how long the agent is deaf after it
 abbrev pub deaf_then : LinkStep → ℕ → ℕ
-deaf_then (LinkStep.Tick agent device) deaf = deaf_after (nat_le deaf 1) deaf
+deaf_then (LinkStep.Tick true device) deaf = deaf_after (nat_le deaf 1) deaf
+deaf_then (LinkStep.Tick false device) deaf = deaf
 deaf_then (LinkStep.Restart sides.Agent) deaf = 40
 deaf_then s deaf = deaf
-
--- both nodes count a tick
-abbrev pub IsWhole : LinkStep → Type 0
-IsWhole (LinkStep.Tick agent device) = (agent ≡ true) × (device ≡ true)
-IsWhole s = Unit {0}
 
 -- what a link becomes
 became : (u t : LinkStepped) (d : ℕ) → Some u ≡ Some t → u.after.agent.asker.deaf ≡ d → t.after.agent.asker.deaf ≡ d
@@ -141,19 +138,20 @@ judged_deaf : (l : LinkOf) (o : Option Judged) (t : LinkStepped) → judges_on l
 judged_deaf l None t e = absurd (cc)
 judged_deaf l (Some j) t e = became _ t l.agent.asker.deaf e refl
 
-pub deaf_on_link : (now : ℕ) (packages : List PackageText) (l : LinkOf) (s : LinkStep) (t : LinkStepped) → IsWhole s → link_after now packages l s ≡ Some t
+pub deaf_on_link : (now : ℕ) (packages : List PackageText) (l : LinkOf) (s : LinkStep) (t : LinkStepped) → link_after now packages l s ≡ Some t
     → t.after.agent.asker.deaf ≡ deaf_then s l.agent.asker.deaf
-deaf_on_link now packages l (LinkStep.Deliver number to works) t whole e = comes_deaf now packages l to works (numbered l.packets number) t e
-deaf_on_link now packages l (LinkStep.Tick true device) t whole e =
-    became_if (nat_lt now (2 ^ 32 - 1)) (unnoted (link_ticks now packages l true device)) t _ e (ticked_asker (session_core packages) l.agent)
-deaf_on_link now packages l (LinkStep.Tick false device) t whole e = absurd (let no = whole.0 in cc)
-deaf_on_link now packages l (LinkStep.Start number) t whole e =
+deaf_on_link now packages l (LinkStep.Deliver number to works) t e = comes_deaf now packages l to works (numbered l.packets number) t e
+deaf_on_link now packages l (LinkStep.Tick true device) t e =
+    became_if (nat_lt now (2 ^ 32 - 1) && (may_beat true l.agent_since_miss && may_beat device l.device_since_miss)) (unnoted (link_ticks now packages l true device)) t _ e (ticked_asker (session_core packages) l.agent)
+deaf_on_link now packages l (LinkStep.Tick false device) t e =
+    became_if (nat_lt now (2 ^ 32 - 1) && (may_beat false l.agent_since_miss && may_beat device l.device_since_miss)) (unnoted (link_ticks now packages l false device)) t _ e refl
+deaf_on_link now packages l (LinkStep.Start number) t e =
     became_if (may_start packages l.agent.core.session number) (unnoted (record l { agent = starts packages l.agent number })) t l.agent.asker.deaf e refl
-deaf_on_link now packages l LinkStep.Cancel t whole e = became _ t l.agent.asker.deaf e refl
-deaf_on_link now packages l LinkStep.Activate t whole e = activated_deaf packages l (agent_activated l.agent.core.session) t e
-deaf_on_link now packages l (LinkStep.Judge verdict works) t whole e = judged_deaf l (device_verdict l.device.core.device verdict works) t e
-deaf_on_link now packages l (LinkStep.Restart sides.Agent) t whole e = became _ t 40 e refl
-deaf_on_link now packages l (LinkStep.Restart sides.Device) t whole e = became _ t l.agent.asker.deaf e refl
+deaf_on_link now packages l LinkStep.Cancel t e = became _ t l.agent.asker.deaf e refl
+deaf_on_link now packages l LinkStep.Activate t e = activated_deaf packages l (agent_activated l.agent.core.session) t e
+deaf_on_link now packages l (LinkStep.Judge verdict works) t e = judged_deaf l (device_verdict l.device.core.device verdict works) t e
+deaf_on_link now packages l (LinkStep.Restart sides.Agent) t e = became _ t 40 e refl
+deaf_on_link now packages l (LinkStep.Restart sides.Device) t e = became _ t l.agent.asker.deaf e refl
 
 -- A STEP OF THE WORLD
 

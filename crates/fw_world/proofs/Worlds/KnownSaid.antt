@@ -125,7 +125,7 @@ pub links_can_say : (works : Bool) (w : WorldOf) (s : Step) (eid : ℕ) (d : Lin
     → IfSome (link_step works w.agent.endpoint.eid s eid) (CanBeSaid w.packages d)
 links_can_say works w (steps.Deliver device number node) eid d k may said there =
     told_coming works w device number node eid d k there (known_if (is_device w device && is_node w node) (packet_fault w.now (numbered (packets_of w device) number)) may) said
-links_can_say works w steps.Tick eid d k may said there = (agent_speaks w eid d k there said.0, device_speaks w eid d there said.1)
+links_can_say works w steps.Tick eid d k may said there = (λ _. agent_speaks w eid d k there said.0, λ _. device_speaks w eid d there said.1)
 links_can_say works w (steps.Start device number) eid d k may said there = mine_said (device == eid) w d (LinkStep.Start number) tt
 links_can_say works w (steps.Cancel device) eid d k may said there = mine_said (device == eid) w d LinkStep.Cancel tt
 links_can_say works w (steps.Activate device) eid d k may said there = mine_said (device == eid) w d LinkStep.Activate tt

@@ -9,7 +9,6 @@ use Rattle.fw_world.specs.Links.{LinkOf, LinkStep, LinkStepped, delivers_on, hea
 use Rattle.fw_world.specs.declared.step.Step.{Step}
 use Rattle.fw_world.specs.declared.step.Step.TheVariants as steps
 use Rattle.fw_world.proofs.Links.Projected.{StepsTo, comes_as, link_step, restart_as, where_mine}
-use Rattle.fw_world.proofs.Worlds.KnownDeaf.{IsWhole}
 
 -- a packet that came was alive
 alive : (now : ℕ) (p : Sent) (o : Option LinkStepped) (t : LinkStepped) → (if nat_lt (p.date + 8) now then None else o) ≡ Some t → now ≤ p.date + 8
@@ -22,49 +21,15 @@ came : (now : ℕ) (packages : List PackageText) (l : LinkOf) (to : Side) (works
 came now packages l to works None t e = absurd (cc)
 came now packages l to works (Some p) t e = alive now p (hears_on now packages l to works p.bytes) t e
 
--- time went on
-in_time : (now last : ℕ) (u t : LinkStepped) → (if nat_lt now last then Some u else None) ≡ Some t → now < last
-in_time now last u t e = elim (cases_lt now last) [
-  | inl soon ↦ soon
-  | inr late ↦ let no : None ≡ Some t = rw (le-ltb now last late) at e in absurd (cc)
-]
-
 -- What a link does may happen.
-pub may_happen : (now : ℕ) (packages : List PackageText) (l : LinkOf) (s : LinkStep) (t : LinkStepped) → IsWhole s → link_after now packages l s ≡ Some t → MayHappen now packages l s
-may_happen now packages l (LinkStep.Deliver number to works) t whole e = came now packages l to works (numbered l.packets number) t e
-may_happen now packages l (LinkStep.Tick agent device) t whole e =
-    (whole.0, whole.1, in_time now (2 ^ 32 - 1) (unnoted (link_ticks now packages l agent device)) t e)
-may_happen now packages l (LinkStep.Start number) t whole e = ap is_some e
-may_happen now packages l LinkStep.Cancel t whole e = ap is_some e
-may_happen now packages l LinkStep.Activate t whole e = ap is_some e
-may_happen now packages l (LinkStep.Judge verdict works) t whole e = ap is_some e
-may_happen now packages l (LinkStep.Restart side) t whole e = ap is_some e
-
--- a tick is one of both nodes
-whole_mine : (mine : Bool) (s : LinkStep) → IsWhole s → IfSome (where_mine mine (Some s)) IsWhole
-whole_mine true s k = k
-whole_mine false s k = tt
-
-whole_coming : (works : Bool) (number : ℕ) (mine agent device : Bool) → IfSome (where_mine mine (comes_as works number agent device)) IsWhole
-whole_coming works number true true device = tt
-whole_coming works number true false true = tt
-whole_coming works number true false false = tt
-whole_coming works number false agent device = tt
-
-whole_restart : (agent device : Bool) → IfSome (restart_as agent device) IsWhole
-whole_restart true device = tt
-whole_restart false true = tt
-whole_restart false false = tt
-
-pub whole_step : (works : Bool) (agent : ℕ) (s : Step) (eid : ℕ) → IfSome (link_step works agent s eid) IsWhole
-whole_step works agent (steps.Deliver device number node) eid = whole_coming works number (device == eid) (node == agent) (node == eid)
-whole_step works agent steps.Tick eid = (refl, refl)
-whole_step works agent (steps.Start device number) eid = whole_mine (device == eid) (LinkStep.Start number) tt
-whole_step works agent (steps.Cancel device) eid = whole_mine (device == eid) LinkStep.Cancel tt
-whole_step works agent (steps.Activate device) eid = whole_mine (device == eid) LinkStep.Activate tt
-whole_step works agent (steps.Verdict device verdict) eid = whole_mine (device == eid) (LinkStep.Judge verdict works) tt
-whole_step works agent (steps.Restart node) eid = whole_restart (node == agent) (node == eid)
-whole_step works agent (steps.Sel bytes) eid = tt
+pub may_happen : (now : ℕ) (packages : List PackageText) (l : LinkOf) (s : LinkStep) (t : LinkStepped) → link_after now packages l s ≡ Some t → MayHappen now packages l s
+may_happen now packages l (LinkStep.Deliver number to works) t e = came now packages l to works (numbered l.packets number) t e
+may_happen now packages l (LinkStep.Tick agent device) t e = ap is_some e
+may_happen now packages l (LinkStep.Start number) t e = ap is_some e
+may_happen now packages l LinkStep.Cancel t e = ap is_some e
+may_happen now packages l LinkStep.Activate t e = ap is_some e
+may_happen now packages l (LinkStep.Judge verdict works) t e = ap is_some e
+may_happen now packages l (LinkStep.Restart side) t e = ap is_some e
 
 -- where a link went
 pub record GoneTo (now : ℕ) (packages : List PackageText) (l : LinkOf) (s : LinkStep) (after : Option LinkOf) : Type 0 where

@@ -51,7 +51,7 @@ node_new : (agent : ℕ) (n : DeviceNodeOf) → IsNewNode agent n → IsNewHalf 
 node_new agent n k = subst (λ (m : DeviceNodeOf). IsNewHalf m.half) (sym k.is) (record { asker = refl; taker = refl })
 
 abbrev link_for : ℕ → DeviceNodeOf → LinkOf
-link_for agent n = record { agent = new_half agent n.endpoint.eid; device = n.half; packets = [] }
+link_for agent n = record { agent = new_half agent n.endpoint.eid; device = n.half; packets = []; agent_since_miss = 8; device_since_miss = 8 }
 
 new_link : (agent : ℕ) (n : DeviceNodeOf) → IsEid agent → IsNewNode agent n → agent ≢ n.endpoint.eid → IsNewLink (link_for agent n)
 new_link agent n eid k far = record {
@@ -61,6 +61,8 @@ new_link agent n eid k far = record {
   agent = record { asker = refl; taker = refl };
   device = node_new agent n k;
   none = refl;
+  agent_misses = refl;
+  device_misses = refl;
 }
 
 opening_by : (agent : ℕ) (n m : DeviceNodeOf) → n ≡ m → m.half.core.device.phase ≡ Phase.Idle → All IsUnapplied m.half.core.device.rows → IsOpeningNode (opening_node (link_for agent n))

@@ -22,8 +22,8 @@ use Rattle.fw_world.proofs.Links.Listed.{link_by_place, links_of}
 use Rattle.fw_world.proofs.Links.Places.{SameDevices, all_links_become, one_link_becomes}
 use Rattle.fw_world.proofs.Links.Projected.{StepsTo, link_step}
 use Rattle.fw_world.proofs.Links.Projection.{link_at}
-use Rattle.fw_world.proofs.Worlds.KnownDeaf.{DeafAs, IsWhole, deaf_on_link, deaf_then}
-use Rattle.fw_world.proofs.Worlds.KnownSteps.{gone_to, may_happen, whole_step}
+use Rattle.fw_world.proofs.Worlds.KnownDeaf.{DeafAs, deaf_on_link, deaf_then}
+use Rattle.fw_world.proofs.Worlds.KnownSteps.{gone_to, may_happen}
 
 -- the world of messages with which a world of packets begins
 abbrev pub messages_of : WorldOf → MessageWorld
@@ -108,19 +108,19 @@ one_after : (o : Option LinkStepped) (t u : LinkStepped) → o ≡ Some t → o 
 one_after o t u e f = cc
 
 own_by : LinksAreLanes → (w v : WorldOf) (eid : ℕ) (l m : LinkOf) (o : Option LinkStep) (after : Option LinkOf) → v.agent.endpoint.eid ≡ w.agent.endpoint.eid → IsOwnLink w eid l → LinkExplained w.now l
-    → IfSome o IsWhole → IfSome o (CanBeSaid w.packages l) → DeafAs o w.agent.deaf v.agent.deaf → StepsTo w.now w.packages l o after → after ≡ Some m → IsOwnLink v eid m
-own_by lanes w v eid l m None after agent own explained whole said deaf goes e =
+    → IfSome o (CanBeSaid w.packages l) → DeafAs o w.agent.deaf v.agent.deaf → StepsTo w.now w.packages l o after → after ≡ Some m → IsOwnLink v eid m
+own_by lanes w v eid l m None after agent own explained said deaf goes e =
     let same : l ≡ m = (let both : Some l ≡ Some m = sym goes ∙ e in cc) in
     subst (IsOwnLink v eid) same (record { agent = own.agent ∙ sym agent; device = own.device; asking = own.asking ∙ sym deaf })
-own_by lanes w v eid l m (Some s) after agent own explained whole said deaf goes e =
+own_by lanes w v eid l m (Some s) after agent own explained said deaf goes e =
     let g = gone_to w.now w.packages l s after goes in
-    let on = lanes w.now w.packages l s explained (may_happen w.now w.packages l s g.stepped whole g.goes) said in
+    let on = lanes w.now w.packages l s explained (may_happen w.now w.packages l s g.stepped g.goes) said in
     let same : g.stepped.after ≡ m = (let both : Some g.stepped.after ≡ Some m = sym g.is ∙ e in cc) in
     let stepped : on.stepped ≡ g.stepped = one_after (link_after w.now w.packages l s) on.stepped g.stepped on.after g.goes in
     subst (IsOwnLink v eid) same (record {
       agent = ap (λ t. t.after.agent.own) (sym stepped) ∙ on.agent_own ∙ own.agent ∙ sym agent;
       device = ap (λ t. t.after.device.own) (sym stepped) ∙ on.device_own ∙ own.device;
-      asking = deaf_on_link w.now w.packages l s g.stepped whole g.goes ∙ ap (deaf_then s) own.asking ∙ sym deaf;
+      asking = deaf_on_link w.now w.packages l s g.stepped g.goes ∙ ap (deaf_then s) own.asking ∙ sym deaf;
     })
 
 own_of : LinksAreLanes → (works : Bool) (s : Step) (w v : WorldOf) (i eid : ℕ) (m : LinkOf) (o : Option LinkOf) → KnownLinks w → AreOwn w → Follows works s w v
@@ -131,7 +131,7 @@ own_of lanes works s w v i eid m (Some l) k own f e there some is =
     let after : link_at v eid ≡ Some m =
     sym (link_by_place v i eid (f.peers ∙ k.halves ∙ sym f.eids) (subst AreDifferent (sym f.eids) k.apart.1) (ap (λ ks. slice_get ks i) f.eids ∙ e)) ∙ is in
     own_by lanes w v eid l m (link_step works w.agent.endpoint.eid s eid) (link_at v eid) f.agent (own i eid l e there) (k.links i eid l e there).explained
-    (whole_step works w.agent.endpoint.eid s eid) (f.said eid l before) (f.deaf eid) (f.goes eid l before) after
+    (f.said eid l before) (f.deaf eid) (f.goes eid l before) after
 
 -- The links keep their identifiers, and the agent's halves its count.
 own_after : LinksAreLanes → (works : Bool) (s : Step) (w v : WorldOf) → KnownLinks w → AreOwn w → Follows works s w v → AreOwn v
@@ -215,10 +215,9 @@ pub stand_one : LinksAreLanes → LinksAreMessages → (opening w v : WorldOf) (
 stand_one lanes messages opening w v works s own l step k f time is mine soon alone others =
     let known = known_links opening w k in
     let at = site_stood w own (site_for w.sites own) refl (linked_site _ (site_for w.sites own) l is) in
-    let whole : IsWhole step = subst (λ o. IfSome o IsWhole) mine (whole_step works w.agent.endpoint.eid s own) in
     let said : CanBeSaid w.packages l step = subst (λ o. IfSome o (CanBeSaid w.packages l)) mine (f.said own l is) in
     let g = gone_to w.now w.packages l step (link_at v own) (subst (λ o. StepsTo w.now w.packages l o (link_at v own)) mine (f.goes own l is)) in
-    let may : MayHappen w.now w.packages l step = may_happen w.now w.packages l step g.stepped whole g.goes in
+    let may : MayHappen w.now w.packages l step = may_happen w.now w.packages l step g.stepped g.goes in
     let links = one_link_becomes w v at.place own l g.stepped.after (same_devices works s w v known f) at.at is g.is (λ eid far. link_stays works s w v eid known f (others eid far)) in
     let m = one_moves lanes messages w.now k.messages (links_of w) at.place l step g.stepped own k.stands
     (link_by_place w at.place own k.halves k.apart.1 at.at ∙ is) (ap (λ ks. slice_get ks at.place) k.eids ∙ at.at) soon alone

@@ -1,5 +1,5 @@
 -- A world that stands for one over whole messages stays one whatever step it takes.
-use Rattle.std.proofs.Common.{◌≡◌, ◌≢◌, ◌∙◌, ◌+◌, ◌-◌, ◌^◌, ◌==◌, ℕ, Bool, true, false, if◌then◌else◌, nat_lt, List, [], ◌∷◌, Option, Some, None, inl, inr, refl, sym, ap, subst}
+use Rattle.std.proofs.Common.{◌≡◌, ◌&&◌, ◌≢◌, ◌∙◌, ◌+◌, ◌-◌, ◌^◌, ◌==◌, ℕ, Bool, true, false, if◌then◌else◌, nat_lt, List, [], ◌∷◌, Option, Some, None, inl, inr, refl, sym, ap, subst}
 use Rattle.std.proofs.lemmas.Bool.{eq-eqb, ne_eqb}
 use Rattle.std.proofs.lemmas.Bool.Decides.{eqb_tells}
 use Rattle.exch_lane.specs.Lanes.{Sent, numbered}
@@ -185,7 +185,7 @@ stand_restarts lanes messages opening w v works node k f time noted = elim (eqb_
 ]
 
 -- Time goes on.
-tick_goes : (now : ℕ) (packages : List PackageText) (soon : Bool) (l : LinkOf) → soon ≡ true → (if soon then Some (unnoted (link_ticks now packages l true true)) else None) ≡ Some (unnoted (link_ticks now packages l true true))
+tick_goes : (now : ℕ) (packages : List PackageText) (soon : Bool) (l : LinkOf) → soon ≡ true → (if soon && true then Some (unnoted (link_ticks now packages l true true)) else None) ≡ Some (unnoted (link_ticks now packages l true true))
 tick_goes now packages soon l e = rw e refl
 
 ticks_may : (w : WorldOf) (fault : StepFault) → (if nat_lt w.now (2 ^ 32 - 1) then None else Some fault) ≡ None → nat_lt w.now (2 ^ 32 - 1) ≡ true
@@ -195,8 +195,8 @@ stand_by : LinksAreLanes → LinksAreMessages → (opening w : WorldOf) (works :
 stand_by lanes messages opening w works faults (steps.Deliver device number node) k may f =
     stand_comes lanes messages opening w (world_after works faults w (steps.Deliver device number node)) works device number node k f (delivered_moment works faults w node (numbered (packets_of w device) number)).now
 stand_by lanes messages opening w works faults steps.Tick k may f =
-    stand_all lanes messages opening w (world_after works faults w steps.Tick) works steps.Tick (LinkStep.Tick true true) (λ l. link_ticks w.now w.packages l true true) tt k f refl (λ eid. refl)
-    (λ l. tick_goes w.now w.packages (nat_lt w.now (2 ^ 32 - 1)) l (ticks_may w _ may)) refl
+    stand_all lanes messages (w.now + 1) opening w (world_after works faults w steps.Tick) works steps.Tick (λ l. LinkStep.Tick true true) (λ l. link_ticks w.now w.packages l true true) (λ l. tt) (λ l. refl) k f refl
+    (λ eid l e. refl) (λ eid l e. tick_goes w.now w.packages (nat_lt w.now (2 ^ 32 - 1)) l (ticks_may w _ may)) refl
 stand_by lanes messages opening w works faults (steps.Start device number) k may f =
     stand_mine lanes messages opening w (world_after works faults w (steps.Start device number)) works (steps.Start device number) device (LinkStep.Start number) k f refl (λ eid. refl) refl tt
 stand_by lanes messages opening w works faults (steps.Cancel device) k may f =
