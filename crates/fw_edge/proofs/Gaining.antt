@@ -82,7 +82,7 @@ device_gains : (works : Bool) (faults : ℕ) (w : WorldOf) (bytes : List ℕ) (p
     → NoneFell (packet_counts w.sites) (packet_counts (at_device works faults w bytes place x).sites)
 device_gains works faults w bytes (Some i) (Some x) is =
     put_gains w.sites i x
-    (record { node = node_becomes x.node faults (device_hears works x.node bytes).tid (device_hears works x.node bytes).half; packets = x.packets ++ sent_now w.now (all_packets (device_hears works x.node bytes).sent) })
+    (record x { node = node_becomes x.node faults (device_hears works x.node bytes).tid (device_hears works x.node bytes).half; packets = x.packets ++ sent_now w.now (all_packets (device_hears works x.node bytes).sent) })
     is (more_sent x.packets (sent_now w.now (all_packets (device_hears works x.node bytes).sent)))
 device_gains works faults w bytes (Some i) None is = fell_none (packet_counts w.sites)
 device_gains works faults w bytes None x is = fell_none (packet_counts w.sites)

@@ -107,12 +107,13 @@ application_noted old new verdict before after staged capacity images is k h who
     rw is (applied_noted old new before after staged capacity images (subst (λ v. Judges old v new) is k) h whole at fits worked copy noted)
 
 -- a verdict that counts, at a device with its packets
-pub judged_here : (old new : DeviceNodeOf) (packets : List Sent) (verdict : Verdict) → JudgesIt old verdict new → new.tid ≡ old.tid → new.endpoint ≡ old.endpoint
-    → Judges (record { node = old; packets = packets }) verdict (record { node = new; packets = packets })
-judged_here old new packets verdict k tid endpoint = record {
+pub judged_here : (old new : DeviceNodeOf) (since : ℕ) (packets : List Sent) (verdict : Verdict) → JudgesIt old verdict new → new.tid ≡ old.tid → new.endpoint ≡ old.endpoint
+    → Judges (record { node = old; since_miss = since; packets = packets }) verdict (record { node = new; since_miss = since; packets = packets })
+judged_here old new since packets verdict k tid endpoint = record {
   works = k.works;
   counts = k.counts;
   node = rw (sym tid, sym endpoint, sym k.half) refl;
+  since_miss = refl;
   packets = refl;
   worked = k.worked;
   failed = k.failed;

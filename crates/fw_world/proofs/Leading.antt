@@ -1,5 +1,6 @@
 -- Each step of the world's code leads on as its definition says.
-use Rattle.std.proofs.Common.{◌≡◌, ◌∙◌, ◌++◌, ◌==◌, ◌<◌, ◌≤◌, IfSome, ℕ, zero, suc, [], ◌∷◌, Bool, true, false, is_some, length, List, map, slice_get, slice_set, Option, Some, None, ap, arith, inl, inr, refl, subst, sym}
+use Rattle.std.proofs.Common.{◌≡◌, ◌∙◌, ◌++◌, ◌==◌, ◌<◌, ◌≤◌, IfSome, ℕ, zero, suc, [], ◌∷◌, Bool, true, false, is_some, length, List, map, nat_le, nat_lt, slice_get, slice_set, Option, Some, None, ap, arith, inl, inr, refl, subst, sym}
+use Rattle.std.proofs.lemmas.Bool.{le-leb, lt-ltb}
 use Rattle.std.proofs.lemmas.Bool.Decides.{eqb_tells}
 use Rattle.std.specs.List.{AllByRecursion}
 use Rattle.std.specs.Option.{option_map}
@@ -8,15 +9,17 @@ use Rattle.exch_lane.specs.Lanes.{Sent, numbered}
 use Rattle.fd_core.specs.Banks.{Rose}
 use Rattle.fd_core.specs.Steps.{applied_by}
 use Rattle.fd_core.specs.declared.states.Verdict.{Verdict}
+use Rattle.fw_package.specs.Package.{PackageText}
+use Rattle.ua_core.specs.Session.{SessionOf}
 use Rattle.fw_message.specs.History.{EntryOf}
 use Rattle.fw_message.specs.Worlds.{NotedOf, noted_of}
-use Rattle.fw_node.specs.Agents.{HalfMaySpeak, agent_restarts, cancels, hearer, ready_for, starts}
+use Rattle.fw_node.specs.Agents.{AgentOf, HalfMaySpeak, activates, agent_becomes, agent_restarts, cancels, hearer, ready_for, starts}
 use Rattle.fw_node.specs.Cores.{session_core}
 use Rattle.fw_node.specs.Halves.{half_hears}
 use Rattle.fw_node.specs.Nodes.{IsTold, device_hears, device_judges}
 use Rattle.fw_node.specs.Packets.{all_packets}
 use Rattle.fw_world.specs.Deliveries.{ComesTo, IsJudged}
-use Rattle.fw_world.specs.Replays.{CanBeSaidBy, IsToldBy, IsToldTo, Leads, SiteSpeaks, faults_before, faults_of, may_step}
+use Rattle.fw_world.specs.Replays.{CanBeSaidBy, IsToldBy, IsToldTo, Leads, SiteSpeaks, faults_before, faults_of, has_session, is_package, may_step, ready_fault, start_fault}
 use Rattle.fw_world.specs.Worlds.{SiteOf, WorldOf, activated_at, activates_on, asks_log, at_agent, at_device, calls, comes, delivers, judges, node_becomes, packets_of, place_of, sent_now, site_at, site_for, site_restarts, ticks, world_after}
 use Rattle.fw_world.specs.declared.step.Step.{Step}
 use Rattle.fw_world.specs.declared.step.Step.TheVariants as steps
@@ -40,11 +43,33 @@ tick_leads w v may after agent sites =
 pub start_leads : (w v : WorldOf) (device number : ℕ) → may_step w (steps.Start device number) ≡ None → v ≡ calls w device (λ h. starts w.packages h number) → Leads w (steps.Start device number) v
 start_leads w v device number may after = leads w v (steps.Start device number) may after tt
 
+-- a start may be where its package is there and the session is free
+pub may_start_there : (packages : List PackageText) (number : ℕ) (free : Option Bool) → (number ≡ 0 → ⊥) → number ≤ length packages → free ≡ Some true
+    → start_fault (is_package packages number) free ≡ None
+may_start_there packages number free some there is = rw is (
+    let least : nat_lt 0 number ≡ true = lt-ltb 0 number (omega (arith, some)) in
+    let most : nat_le number (length packages) ≡ true = le-leb number (length packages) there in
+    rw (least, most) refl)
+
 pub cancel_leads : (w v : WorldOf) (device : ℕ) → may_step w (steps.Cancel device) ≡ None → v ≡ calls w device (cancels w.packages) → Leads w (steps.Cancel device) v
 cancel_leads w v device may after = leads w v (steps.Cancel device) may after tt
 
 pub activate_leads : (w v : WorldOf) (device : ℕ) → may_step w (steps.Activate device) ≡ None → v ≡ activates_on w device (ready_for w.agent device) → Leads w (steps.Activate device) v
 activate_leads w v device may after = leads w v (steps.Activate device) may after tt
+
+-- a session that was ready is there, and the agent is the one after its call
+activated_so : (w v : WorldOf) (device : ℕ) (n : AgentOf) (o : Option SessionOf) → v ≡ record w { agent = n }
+    → option_map (λ s. agent_becomes w.agent w.now device (λ h. activates w.packages h s)) o ≡ Some n → (ready_fault o ≡ None) × (v ≡ activates_on w device o)
+activated_so w v device n None is e = absurd (cc)
+activated_so w v device n (Some s) is e =
+    let same : n ≡ agent_becomes w.agent w.now device (λ h. activates w.packages h s) = cc in
+    (refl, is ∙ ap (λ a. record w { agent = a }) same)
+
+pub activated_leads : (w v : WorldOf) (device : ℕ) (n : AgentOf) → has_session w device ≡ true → v ≡ record w { agent = n }
+    → option_map (λ s. agent_becomes w.agent w.now device (λ h. activates w.packages h s)) (ready_for w.agent device) ≡ Some n → Leads w (steps.Activate device) v
+activated_leads w v device n there is e =
+    let done = activated_so w v device n (ready_for w.agent device) is e in
+    activate_leads w v device (rw there done.0) done.1
 
 pub agent_restart_leads : (w v : WorldOf) (node : ℕ) → node ≡ w.agent.endpoint.eid → v ≡ record w { agent = agent_restarts w.packages w.agent } → Leads w (steps.Restart node) v
 agent_restart_leads w v node is after =
@@ -96,14 +121,15 @@ comes_there : (w v : WorldOf) (node : ℕ) (bytes : List ℕ) (k : ComesTo w nod
 comes_there w v node bytes k =
     let h = k.heard.heard.heard in
     becomes w v
-    (slice_set w.sites k.place (record {
+    (slice_set w.sites k.place (record k.heard.site {
       node = node_becomes k.heard.site.node k.heard.became.node.faults (device_hears h.works k.heard.site.node bytes).tid (device_hears h.works k.heard.site.node bytes).half;
       packets = k.heard.site.packets ++ sent_now w.now (all_packets (device_hears h.works k.heard.site.node bytes).sent);
     }))
     (w.history ++ map (λ p. noted_of k.heard.site.node.endpoint.eid (EntryOf.Activated p)) (activated_at h.works k.heard.site.node bytes))
     k.rest
-    (k.heard.put ∙ ap (λ n. slice_set w.sites k.place (record { node = n; packets = k.heard.became.packets })) h.node
-    ∙ ap (λ ps. slice_set w.sites k.place (record { node = node_becomes k.heard.site.node k.heard.became.node.faults (device_hears h.works k.heard.site.node bytes).tid (device_hears h.works k.heard.site.node bytes).half; packets = ps })) h.packets)
+    (k.heard.put ∙ ap (λ n. slice_set w.sites k.place (record { node = n; since_miss = k.heard.became.since_miss; packets = k.heard.became.packets })) h.node
+    ∙ ap (λ ps. slice_set w.sites k.place (record { node = node_becomes k.heard.site.node k.heard.became.node.faults (device_hears h.works k.heard.site.node bytes).tid (device_hears h.works k.heard.site.node bytes).half; since_miss = k.heard.became.since_miss; packets = ps })) h.packets
+    ∙ ap (λ n. slice_set w.sites k.place (record { node = node_becomes k.heard.site.node k.heard.became.node.faults (device_hears h.works k.heard.site.node bytes).tid (device_hears h.works k.heard.site.node bytes).half; since_miss = n; packets = k.heard.site.packets ++ sent_now w.now (all_packets (device_hears h.works k.heard.site.node bytes).sent) })) h.since_miss)
     k.heard.heard.history
     ∙ sym (ap (at_device h.works k.heard.became.node.faults w bytes (place_of w.sites node)) (site_there w node k.place k.heard.site k.at k.heard.there)
     ∙ ap (λ p. at_device h.works k.heard.became.node.faults w bytes p (Some k.heard.site)) k.at)
@@ -134,8 +160,9 @@ judged_there w v device verdict k =
     (slice_set w.sites k.place (record k.judged.site { node = node_becomes k.judged.site.node k.judged.became.node.faults k.judged.site.node.tid (device_judges j.works k.judged.site.node verdict) }))
     (w.history ++ map (λ p. noted_of k.judged.site.node.endpoint.eid (EntryOf.Applied p)) (applied_by k.judged.site.node.half.core.device verdict j.works))
     k.rest
-    (k.judged.put ∙ ap (λ n. slice_set w.sites k.place (record { node = n; packets = k.judged.became.packets })) j.node
-    ∙ ap (λ ps. slice_set w.sites k.place (record { node = node_becomes k.judged.site.node k.judged.became.node.faults k.judged.site.node.tid (device_judges j.works k.judged.site.node verdict); packets = ps })) j.packets)
+    (k.judged.put ∙ ap (λ n. slice_set w.sites k.place (record { node = n; since_miss = k.judged.became.since_miss; packets = k.judged.became.packets })) j.node
+    ∙ ap (λ ps. slice_set w.sites k.place (record { node = node_becomes k.judged.site.node k.judged.became.node.faults k.judged.site.node.tid (device_judges j.works k.judged.site.node verdict); since_miss = k.judged.became.since_miss; packets = ps })) j.packets
+    ∙ ap (λ n. slice_set w.sites k.place (record { node = node_becomes k.judged.site.node k.judged.became.node.faults k.judged.site.node.tid (device_judges j.works k.judged.site.node verdict); since_miss = n; packets = k.judged.site.packets })) j.since_miss)
     k.judged.judged.history
     ∙ sym (ap (judges j.works k.judged.became.node.faults w verdict (place_of w.sites device)) (site_there w device k.place k.judged.site k.at k.judged.there)
     ∙ ap (λ p. judges j.works k.judged.became.node.faults w verdict p (Some k.judged.site)) k.at)

@@ -1,5 +1,5 @@
 -- Packets that can't come any more.
-use Rattle.std.specs.Prelude.{ℕ, zero, suc, ◌<◌, ◌+◌, List, [], ◌∷◌}
+use Rattle.std.specs.Prelude.{ℕ, zero, suc, ◌<◌, List, [], ◌∷◌}
 use Rattle.exch_lane.specs.Lanes.{Sent, lives_until}
 
 -- a packet can't come any more

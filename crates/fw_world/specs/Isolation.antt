@@ -21,6 +21,8 @@ pub record SharedOf : Type 0 where
   pub node : DeviceNodeOf
   pub half : HalfOf TimedOf
   pub deaf : ℕ
+  pub agent_since_miss : ℕ
+  pub device_since_miss : ℕ
   pub packets : List Sent
   pub history : List EntryOf
 
@@ -37,6 +39,8 @@ shared_by w device (Some h) (Some x) =
       node = uncounted x.node;
       half = h;
       deaf = w.agent.deaf;
+      agent_since_miss = w.since_miss;
+      device_since_miss = x.since_miss;
       packets = x.packets;
       history = history_of device w.history;
     })

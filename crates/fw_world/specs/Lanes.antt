@@ -1,6 +1,6 @@
 -- The two lanes of a link: down, in which the agent asks, and up, in which the device asks; and what a step of the link is for
 -- each of them.
-use Rattle.std.specs.Prelude.{◌≡◌, ◌⊎◌, ◌≤◌, ℕ, ◌+◌, ◌==◌, Bool, true, false, List, [], ◌∷◌, length, take, Option, Some, None}
+use Rattle.std.specs.Prelude.{◌≡◌, ◌⊎◌, ℕ, ◌+◌, ◌==◌, Bool, true, false, List, [], ◌∷◌, length, take, Option, Some, None}
 use Rattle.std.specs.List.{AllByRecursion, filter}
 use Rattle.pldm_base.specs.declared.header.PldmHead.{PldmHead}
 use Rattle.fwup_wire.specs.Answers.{answer_read}

@@ -1,5 +1,5 @@
 -- A link's step is steps of its two lanes, each of which may be taken, so that the cell of each lane goes along.
-use Rattle.std.specs.Prelude.{◌≡◌, ◌≤◌, ◌<◌, ◌+◌, ◌-◌, ◌^◌, ℕ, Bool, true, List, nat_le, Some, IfSome, IsSomeAnd, is_some}
+use Rattle.std.specs.Prelude.{◌≡◌, ℕ, Bool, true, List, nat_le, Some, IfSome, IsSomeAnd, is_some}
 use Rattle.fwup_wire.specs.Commands.{IsSpoken}
 use Rattle.exch_lane.specs.Cells.{CellRun, cells_along}
 use Rattle.exch_lane.specs.Lanes.{EntryOf, LaneOf, Lives, StepOf, numbered}

@@ -171,7 +171,7 @@ pub record AreNewNodes (agent : ℕ) (nodes : List DeviceNodeOf) : Type 0 where
 
 -- a device's node to which nothing was sent
 abbrev pub new_site : DeviceNodeOf → SiteOf
-new_site n = record { node = n; packets = [] }
+new_site n = record { node = n; since_miss = 8; packets = [] }
 
 -- the world of these nodes before its first step
 abbrev pub new_world : Endpoint → List DeviceNodeOf → List PackageText → WorldOf
@@ -180,6 +180,7 @@ new_world agent nodes packages =
       packages = packages;
       now = 0;
       agent = new_agent agent (map (λ n. n.endpoint.eid) nodes);
+      since_miss = 8;
       sites = map new_site nodes;
       answer = None;
       history = [];

@@ -24,6 +24,7 @@ pub record RoomyOf : Type 0 where
 pub record Hears (now : ℕ) (old : SiteOf) (bytes : List ℕ) (new : SiteOf) : Type 0 where
   pub works : Bool
   pub node : new.node ≡ node_becomes old.node new.node.faults (device_hears works old.node bytes).tid (device_hears works old.node bytes).half
+  pub since_miss : new.since_miss ≡ old.since_miss
   pub packets : new.packets ≡ old.packets ++ sent_now now (all_packets (device_hears works old.node bytes).sent)
   pub worked : works ≡ true → new.node.faults ≡ old.node.faults
   pub failed : works ≡ false → Rose old.node.faults new.node.faults
@@ -39,6 +40,7 @@ pub record Judges (old : SiteOf) (verdict : Verdict) (new : SiteOf) : Type 0 whe
   pub works : Bool
   pub counts : is_some (device_verdict old.node.half.core.device verdict works) ≡ true
   pub node : new.node ≡ node_becomes old.node new.node.faults old.node.tid (device_judges works old.node verdict)
+  pub since_miss : new.since_miss ≡ old.since_miss
   pub packets : new.packets ≡ old.packets
   pub worked : works ≡ true → new.node.faults ≡ old.node.faults
   pub failed : works ≡ false → Rose old.node.faults new.node.faults

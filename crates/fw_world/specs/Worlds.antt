@@ -4,6 +4,7 @@ use Rattle.std.specs.Prelude.{ℕ, ◌+◌, ◌==◌, ◌∷◌, ◌++◌, [], B
 use Rattle.mctp_wire.specs.Packet as wire
 use Rattle.mctp_wire.specs.declared.fault.WireFault.{WireFault}
 use Rattle.mctp_wire.specs.declared.layout.Head.{Head}
+use Rattle.exch_lane.specs.Clocks.{since_after}
 use Rattle.exch_lane.specs.Lanes.{Sent, numbered}
 use Rattle.exch_lane.specs.Steps.{sent_at}
 use Rattle.fw_package.specs.Package.{PackageText}
@@ -26,16 +27,20 @@ use Rattle.fw_node.specs.Packets.{all_packets}
 use Rattle.fw_world.specs.declared.step.Step.{Step}
 use Rattle.fw_world.specs.declared.step.Step.TheVariants as steps
 
--- a device's node, and every packet that was sent between it and the agent, dated, in the order of sending
+-- a device's node, how many ticks it counted since it last missed one, and every packet that was sent between it and the agent,
+-- dated, in the order of sending
 pub record SiteOf : Type 0 where
   pub node : DeviceNodeOf
+  pub since_miss : ℕ
   pub packets : List Sent
 
--- The world: the packages, the units of time that have passed, the nodes, the last answer of the event log, and what happened.
+-- The world: the packages, the units of time that have passed, the nodes, how many ticks the agent counted since it last missed one, the
+-- last answer of the event log, and what happened.
 pub record WorldOf : Type 0 where
   pub packages : List PackageText
   pub now : ℕ
   pub agent : AgentOf
+  pub since_miss : ℕ
   pub sites : List SiteOf
   pub answer : Option (List ℕ)
   pub history : List NotedOf
@@ -122,7 +127,7 @@ node_becomes n faults tid half = record n { half = half; tid = tid; faults = fau
 abbrev pub at_device : Bool → (faults : ℕ) → WorldOf → List ℕ → Option ℕ → Option SiteOf → WorldOf
 at_device works faults w bytes (Some place) (Some x) =
     record w {
-      sites = slice_set w.sites place (record {
+      sites = slice_set w.sites place (record x {
         node = node_becomes x.node faults (device_hears works x.node bytes).tid (device_hears works x.node bytes).half;
         packets = x.packets ++ sent_now w.now (all_packets (device_hears works x.node bytes).sent);
       });
@@ -154,6 +159,7 @@ abbrev pub site_ticks : (now : ℕ) → SiteOf → SiteOf
 site_ticks now x =
     record {
       node = record x.node { half = (half_ticks device_core true x.node.half).half };
+      since_miss = since_after true x.since_miss;
       packets = x.packets ++ sent_now now (all_packets (half_ticks device_core true x.node.half).sent);
     }
 
@@ -162,6 +168,7 @@ ticks w =
     record w {
       now = w.now + 1;
       agent = agent_ticks w.packages (w.now + 1) w.agent;
+      since_miss = since_after true w.since_miss;
       sites = map (site_ticks (w.now + 1)) (posts (w.now + 1) w.sites (agent_tick_sends w.packages w.agent));
     }
 

@@ -134,7 +134,7 @@ heard_node works faults now bytes x k =
 -- the half of a device's node is that of its link
 half_of_site : (w : WorldOf) (eid : ℕ) (l : LinkOf) (x : SiteOf) → link_at w eid ≡ Some l → site_for w.sites eid ≡ Some x → x.node.half ≡ l.device
 half_of_site w eid l x is site =
-    let both : IsSomeAnd (site_for w.sites eid) (λ y. (y.node.half ≡ l.device) × (y.packets ≡ l.packets)) = link_site (half_for w.agent eid) (site_for w.sites eid) l is in
+    let both : IsSomeAnd (site_for w.sites eid) (λ y. (y.node.half ≡ l.device) × (y.packets ≡ l.packets)) = link_site _ (half_for w.agent eid) (site_for w.sites eid) l is in
     let here : (x.node.half ≡ l.device) × (x.packets ≡ l.packets) = subst (λ o. IsSomeAnd o (λ y. (y.node.half ≡ l.device) × (y.packets ≡ l.packets))) site both in
     here.0
 

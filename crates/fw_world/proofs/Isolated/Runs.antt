@@ -202,13 +202,15 @@ runs_well law lanes messages opening w v ss eid p k i run fine = elim (runs_or_f
 
 -- what is shared, by its link, and the other way round
 abbrev seen_of : SharedOf → SeenOf
-seen_of q = record { link = record { agent = q.half; device = q.node.half; packets = q.packets; agent_since_miss = 8; device_since_miss = 8 }; endpoint = q.node.endpoint; tid = q.node.tid; entries = q.history }
+seen_of q = record { link = record { agent = q.half; device = q.node.half; packets = q.packets; agent_since_miss = q.agent_since_miss; device_since_miss = q.device_since_miss }; endpoint = q.node.endpoint; tid = q.node.tid; entries = q.history }
 
 abbrev shared_of : SeenOf → SharedOf
 shared_of p = record {
   node = record { endpoint = p.endpoint; tid = p.tid; half = p.link.device; faults = 0 };
   half = p.link.agent;
   deaf = p.link.agent.asker.deaf;
+  agent_since_miss = p.link.agent_since_miss;
+  device_since_miss = p.link.device_since_miss;
   packets = p.link.packets;
   history = p.entries;
 }
@@ -217,10 +219,10 @@ sees : (w : WorldOf) (eid : ℕ) (o : Option (HalfOf TimedOf)) (s : Option SiteO
 sees w eid None s q half site e = absurd (cc)
 sees w eid (Some h) None q half site e = absurd (cc)
 sees w eid (Some h) (Some x) q half site e =
-    let same : ◌≡◌ {A = SharedOf} (record { node = record x.node { faults = 0 }; half = h; deaf = w.agent.deaf; packets = x.packets; history = history_of eid w.history }) q = cc in
+    let same : ◌≡◌ {A = SharedOf} (record { node = record x.node { faults = 0 }; half = h; deaf = w.agent.deaf; agent_since_miss = w.since_miss; device_since_miss = x.since_miss; packets = x.packets; history = history_of eid w.history }) q = cc in
     record {
-      link = ap (λ a. link_from a (site_for w.sites eid)) half ∙ ap (link_from (Some h)) site
-          ∙ ap (λ z. Some (record { agent = z.half; device = z.node.half; packets = z.packets; agent_since_miss = 8; device_since_miss = 8 })) same;
+      link = ap (λ a. link_from w.since_miss a (site_for w.sites eid)) half ∙ ap (link_from w.since_miss (Some h)) site
+          ∙ ap (λ z. Some (record { agent = z.half; device = z.node.half; packets = z.packets; agent_since_miss = z.agent_since_miss; device_since_miss = z.device_since_miss })) same;
       site = x;
       there = site;
       endpoint = ap (λ z. z.node.endpoint) same;
@@ -228,19 +230,21 @@ sees w eid (Some h) (Some x) q half site e =
       entries = ap (λ z. z.history) same;
     }
 
-shares_by : (w : WorldOf) (eid : ℕ) (o : Option (HalfOf TimedOf)) (s : Option SiteOf) (p : SeenOf) (x : SiteOf) → link_from o s ≡ Some p.link → s ≡ Some x → x.node.endpoint ≡ p.endpoint
+shares_by : (w : WorldOf) (eid : ℕ) (o : Option (HalfOf TimedOf)) (s : Option SiteOf) (p : SeenOf) (x : SiteOf) → link_from w.since_miss o s ≡ Some p.link → s ≡ Some x → x.node.endpoint ≡ p.endpoint
     → x.node.tid ≡ p.tid → history_of eid w.history ≡ p.entries → p.link.agent.asker.deaf ≡ w.agent.deaf → shared_by w eid o s ≡ Some (shared_of p)
 shares_by w eid None s p x link site endpoint tid entries deaf = absurd (cc)
 shares_by w eid (Some h) None p x link site endpoint tid entries deaf = absurd (cc)
 shares_by w eid (Some h) (Some y) p x link site endpoint tid entries deaf =
     let same : y ≡ x = cc in
-    let is : ◌≡◌ {A = LinkOf} (record { agent = h; device = y.node.half; packets = y.packets; agent_since_miss = 8; device_since_miss = 8 }) p.link = cc in
+    let is : ◌≡◌ {A = LinkOf} (record { agent = h; device = y.node.half; packets = y.packets; agent_since_miss = w.since_miss; device_since_miss = y.since_miss }) p.link = cc in
     let device : y.node.half ≡ p.link.device = ap (λ z. z.device) is in
     let agent : h ≡ p.link.agent = ap (λ z. z.agent) is in
     let packets : y.packets ≡ p.link.packets = ap (λ z. z.packets) is in
+    let agent_misses : w.since_miss ≡ p.link.agent_since_miss = ap (λ z. z.agent_since_miss) is in
+    let device_misses : y.since_miss ≡ p.link.device_since_miss = ap (λ z. z.device_since_miss) is in
     let point : y.node.endpoint ≡ p.endpoint = ap (λ z. z.node.endpoint) same ∙ endpoint in
     let terminus : y.node.tid ≡ p.tid = ap (λ z. z.node.tid) same ∙ tid in
-    rw (device, packets, point, terminus, entries, sym deaf, agent) refl
+    rw (agent_misses, device_misses, device, packets, point, terminus, entries, sym deaf, agent) refl
 
 shares : (opening w : WorldOf) (eid : ℕ) (p : SeenOf) → Stand opening w → IsSeen w eid p → shared_with w eid ≡ Some (shared_of p)
 shares opening w eid p k i =
@@ -248,12 +252,12 @@ shares opening w eid p k i =
     shares_by w eid (half_for w.agent eid) (site_for w.sites eid) p i.site i.link i.there i.endpoint i.tid i.entries known.asking
 
 -- nothing is shared where there is no such device
-unshared : (w : WorldOf) (eid : ℕ) (o : Option (HalfOf TimedOf)) (s : Option SiteOf) → shared_by w eid o s ≡ None → link_from o s ≡ None
+unshared : (w : WorldOf) (eid : ℕ) (o : Option (HalfOf TimedOf)) (s : Option SiteOf) → shared_by w eid o s ≡ None → link_from w.since_miss o s ≡ None
 unshared w eid None s e = refl
 unshared w eid (Some h) None e = refl
 unshared w eid (Some h) (Some x) e = absurd (cc)
 
-unlinked : (w : WorldOf) (eid : ℕ) (o : Option (HalfOf TimedOf)) (s : Option SiteOf) → link_from o s ≡ None → shared_by w eid o s ≡ None
+unlinked : (w : WorldOf) (eid : ℕ) (o : Option (HalfOf TimedOf)) (s : Option SiteOf) → link_from w.since_miss o s ≡ None → shared_by w eid o s ≡ None
 unlinked w eid None s e = refl
 unlinked w eid (Some h) None e = refl
 unlinked w eid (Some h) (Some x) e = absurd (cc)

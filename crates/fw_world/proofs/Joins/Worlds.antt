@@ -1,5 +1,5 @@
 -- How links and messages begin together, and what is promised wherever they went.
-use Rattle.std.proofs.Common.{◌≡◌, ◌∙◌, ◌^◌, ◌-◌, nat_lt, ℕ, Bool, true, false, if◌then◌else◌, List, [], ◌∷◌, ◌++◌, map, Some, None, IfSome, refl, sym, ap, subst}
+use Rattle.std.proofs.Common.{◌≡◌, ◌∙◌, ℕ, Bool, true, false, if◌then◌else◌, List, [], ◌∷◌, ◌++◌, map, Some, None, IfSome, refl, sym, ap, subst}
 use Rattle.std.specs.List.{AllByRecursion}
 use Rattle.exch_lane.specs.Lanes.{AreEnds}
 use Rattle.exch_lane.specs.Laws.{LaneIsACell}
@@ -9,7 +9,7 @@ use Rattle.fw_message.specs.WorldLaws.{IsOpeningWorld, IsSafeWorld, WorldsAreSaf
 use Rattle.fw_message.specs.Worlds.{NodeOf, NotedOf, WorldOf, WorldStepOf, world_along}
 use Rattle.fw_message.specs.declared.side.Side.TheVariants as sides
 use Rattle.fw_message.proofs.Safety.Worlds.{along_append}
-use Rattle.fw_world.specs.Links.{LinkOf, LinkStep, LinkStepped, link_ticks, unnoted}
+use Rattle.fw_world.specs.Links.{LinkOf, LinkStep, LinkStepped, unnoted}
 use Rattle.fw_world.specs.Replays.{AreDifferent}
 use Rattle.fw_world.proofs.Joins.Each.{AllAfter, AllStand, eid_of, notes_of}
 use Rattle.fw_world.proofs.Joins.Links.{pair_at}

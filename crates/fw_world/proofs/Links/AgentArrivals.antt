@@ -28,7 +28,7 @@ use Rattle.fw_world.proofs.Links.Sorted.{posted_behind}
 
 -- The agent drops a packet where it is deaf, or where the packet comes from no device.
 unmoved_at : (w : WorldOf) (bytes : List ℕ) (eid : ℕ) → agent_hears w.packages w.agent bytes w.now ≡ agent_unmoved w.agent → link_at (at_agent w bytes) eid ≡ link_at w eid
-unmoved_at w bytes eid e = ap (λ n. link_from (half_for n.agent eid) (site_for (posts w.now w.sites (all_packets n.sent)) eid)) e
+unmoved_at w bytes eid e = ap (λ n. link_from w.since_miss (half_for n.agent eid) (site_for (posts w.now w.sites (all_packets n.sent)) eid)) e
 
 pub deaf_agent_at : (w : WorldOf) (bytes : List ℕ) (eid : ℕ) → w.agent.deaf ≢ 0 → link_at (at_agent w bytes) eid ≡ link_at w eid
 deaf_agent_at w bytes eid deaf = unmoved_at w bytes eid (rw (ne_eqb w.agent.deaf 0 deaf) refl)
@@ -79,36 +79,36 @@ heard_on_agent packages now bytes l = record l {
 }
 
 heard_link : (w : WorldOf) (bytes : List ℕ) (h : HalfOf TimedOf) (s : Option SiteOf) → IsPassed (half_hears (session_core w.packages) true h bytes)
-    → link_from (Some (heard_half w bytes h)) (option_map (with_packets w.now (all_packets (sent_in (half_hears (session_core w.packages) true h bytes)))) s)
-    ≡ option_map (heard_on_agent w.packages w.now bytes) (link_from (Some h) s)
+    → link_from w.since_miss (Some (heard_half w bytes h)) (option_map (with_packets w.now (all_packets (sent_in (half_hears (session_core w.packages) true h bytes)))) s)
+    ≡ option_map (heard_on_agent w.packages w.now bytes) (link_from w.since_miss (Some h) s)
 heard_link w bytes h None k = refl
 heard_link w bytes h (Some x) k =
     let heard = half_hears (session_core w.packages) true h bytes in
-    ap (λ a. Some (record { agent = a; device = x.node.half; packets = x.packets ++ sent_now w.now (all_packets (sent_in heard)); agent_since_miss = 8; device_since_miss = 8 }))
+    ap (λ a. Some (record { agent = a; device = x.node.half; packets = x.packets ++ sent_now w.now (all_packets (sent_in heard)); agent_since_miss = w.since_miss; device_since_miss = x.since_miss }))
     (finished_half roles.Agent w.agent.endpoint w.agent.tid heard k)
-    ∙ ap (λ ps. Some (record { agent = half_in heard; device = x.node.half; packets = ps; agent_since_miss = 8; device_since_miss = 8 })) (sym (posted_behind w.now x.packets (sent_in heard)))
+    ∙ ap (λ ps. Some (record { agent = half_in heard; device = x.node.half; packets = ps; agent_since_miss = w.since_miss; device_since_miss = x.since_miss })) (sym (posted_behind w.now x.packets (sent_in heard)))
 
 heard_links : (w : WorldOf) (bytes : List ℕ) (source eid : ℕ) (h : HalfOf TimedOf) (o : Option (HalfOf TimedOf)) (s : Option SiteOf)
     → (source ≡ eid → o ≡ Some h) → IsPassed (half_hears (session_core w.packages) true h bytes)
     → AllByRecursion (GoesTo source) (all_packets (sent_in (half_hears (session_core w.packages) true h bytes)))
-    → link_from (if source == eid then option_map (heard_half w bytes) o else o)
+    → link_from w.since_miss (if source == eid then option_map (heard_half w bytes) o else o)
     (option_map (with_packets w.now (filter (is_to eid) (all_packets (sent_in (half_hears (session_core w.packages) true h bytes))))) s)
-    ≡ (if source == eid then option_map (heard_on_agent w.packages w.now bytes) (link_from o s) else link_from o s)
+    ≡ (if source == eid then option_map (heard_on_agent w.packages w.now bytes) (link_from w.since_miss o s) else link_from w.since_miss o s)
 heard_links w bytes source eid h o s mine k home = elim (eqb_tells source eid) [
   | inl same ↦
       let sent = all_packets (sent_in (half_hears (session_core w.packages) true h bytes)) in
       let here : o ≡ Some h = mine same.1 in
       let all : filter (is_to eid) sent ≡ sent = all_mine eid sent (subst (λ d. AllByRecursion (GoesTo d) sent) same.1 home) in
       rw same.0
-      (ap (λ x. link_from (option_map (heard_half w bytes) x) (option_map (with_packets w.now (filter (is_to eid) sent)) s)) here
-      ∙ ap (λ ps. link_from (Some (heard_half w bytes h)) (option_map (with_packets w.now ps) s)) all
+      (ap (λ x. link_from w.since_miss (option_map (heard_half w bytes) x) (option_map (with_packets w.now (filter (is_to eid) sent)) s)) here
+      ∙ ap (λ ps. link_from w.since_miss (Some (heard_half w bytes h)) (option_map (with_packets w.now ps) s)) all
       ∙ heard_link w bytes h s k
-      ∙ ap (λ x. option_map (heard_on_agent w.packages w.now bytes) (link_from x s)) (sym here))
+      ∙ ap (λ x. option_map (heard_on_agent w.packages w.now bytes) (link_from w.since_miss x s)) (sym here))
   | inr other ↦
       let sent = all_packets (sent_in (half_hears (session_core w.packages) true h bytes)) in
       let none : filter (is_to eid) sent ≡ [] = none_mine eid source sent other.1 home in
       rw other.0
-      (ap (λ ps. link_from o (option_map (with_packets w.now ps) s)) none ∙ ap (link_from o) (sym (none_behind w.now s)))
+      (ap (λ ps. link_from w.since_miss o (option_map (with_packets w.now ps) s)) none ∙ ap (link_from w.since_miss o) (sym (none_behind w.now s)))
 ]
 
 -- A packet from a device that comes to a hearing agent, and goes through the device's half, comes on the device's link, and on
@@ -126,9 +126,9 @@ agent_hears_at w bytes p h eid hears reads there k home =
     let sites : site_for (posts w.now w.sites (all_packets (hears_at w.packages w.agent bytes w.now place half).sent)) eid
     ≡ option_map (with_packets w.now (filter (is_to eid) (all_packets (sent_in heard)))) (site_for w.sites eid) =
     ap (λ ms. site_for (posts w.now w.sites (all_packets ms)) eid) sent ∙ posts_at w.now (all_packets (sent_in heard)) w.sites eid in
-    ap (λ n. link_from (half_for n.agent eid) (site_for (posts w.now w.sites (all_packets n.sent)) eid)) (heard_from w bytes p hears reads)
-    ∙ ap (λ s. link_from (half_for (hears_at w.packages w.agent bytes w.now place half).agent eid) s) sites
-    ∙ ap (λ hs. link_from (half_at hs (half_place hs eid)) (option_map (with_packets w.now (filter (is_to eid) (all_packets (sent_in heard)))) (site_for w.sites eid))) (hears_put w bytes place half)
-    ∙ ap (λ o. link_from o (option_map (with_packets w.now (filter (is_to eid) (all_packets (sent_in heard)))) (site_for w.sites eid)))
+    ap (λ n. link_from w.since_miss (half_for n.agent eid) (site_for (posts w.now w.sites (all_packets n.sent)) eid)) (heard_from w bytes p hears reads)
+    ∙ ap (λ s. link_from w.since_miss (half_for (hears_at w.packages w.agent bytes w.now place half).agent eid) s) sites
+    ∙ ap (λ hs. link_from w.since_miss (half_at hs (half_place hs eid)) (option_map (with_packets w.now (filter (is_to eid) (all_packets (sent_in heard)))) (site_for w.sites eid))) (hears_put w bytes place half)
+    ∙ ap (λ o. link_from w.since_miss o (option_map (with_packets w.now (filter (is_to eid) (all_packets (sent_in heard)))) (site_for w.sites eid)))
     (half_put (heard_half w bytes) (heard_half_peer w bytes) w.agent.halves p.0.source eid)
     ∙ heard_links w bytes p.0.source eid h (half_for w.agent eid) (site_for w.sites eid) (λ e. ap (half_for w.agent) (sym e) ∙ there) k home

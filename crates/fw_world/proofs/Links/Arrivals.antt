@@ -67,7 +67,7 @@ rows_peer core works h (AskerRow.Learns replies caller heard) answers = refl
 
 -- A packet at a device.
 abbrev pub heard_site : Bool → (faults now : ℕ) → List ℕ → SiteOf → SiteOf
-heard_site works faults now bytes x = record {
+heard_site works faults now bytes x = record x {
   node = node_becomes x.node faults (device_hears works x.node bytes).tid (device_hears works x.node bytes).half;
   packets = x.packets ++ sent_now now (all_packets (device_hears works x.node bytes).sent);
 }
@@ -89,23 +89,28 @@ device_agent works faults w bytes None s = refl
 device_agent works faults w bytes (Some p) None = refl
 device_agent works faults w bytes (Some p) (Some x) = refl
 
-heard_device : (works : Bool) (faults now : ℕ) (bytes : List ℕ) (o : Option (HalfOf TimedOf)) (s : Option SiteOf)
-    → IfSome (link_from o s) (λ l. IsPassed (half_hears device_core works l.device bytes))
-    → link_from o (option_map (heard_site works faults now bytes) s) ≡ option_map (heard_on_device works now bytes) (link_from o s)
-heard_device works faults now bytes None s k = refl
-heard_device works faults now bytes (Some h) None k = refl
-heard_device works faults now bytes (Some h) (Some x) k =
+device_since : (works : Bool) (faults : ℕ) (w : WorldOf) (bytes : List ℕ) (o : Option ℕ) (s : Option SiteOf) → (at_device works faults w bytes o s).since_miss ≡ w.since_miss
+device_since works faults w bytes None s = refl
+device_since works faults w bytes (Some p) None = refl
+device_since works faults w bytes (Some p) (Some x) = refl
+
+heard_device : (since : ℕ) (works : Bool) (faults now : ℕ) (bytes : List ℕ) (o : Option (HalfOf TimedOf)) (s : Option SiteOf)
+    → IfSome (link_from since o s) (λ l. IsPassed (half_hears device_core works l.device bytes))
+    → link_from since o (option_map (heard_site works faults now bytes) s) ≡ option_map (heard_on_device works now bytes) (link_from since o s)
+heard_device since works faults now bytes None s k = refl
+heard_device since works faults now bytes (Some h) None k = refl
+heard_device since works faults now bytes (Some h) (Some x) k =
     let heard = half_hears device_core works x.node.half bytes in
-    ap (λ d. Some (record { agent = h; device = d; packets = x.packets ++ sent_now now (all_packets (device_hears works x.node bytes).sent); agent_since_miss = 8; device_since_miss = 8 }))
+    ap (λ d. Some (record { agent = h; device = d; packets = x.packets ++ sent_now now (all_packets (device_hears works x.node bytes).sent); agent_since_miss = since; device_since_miss = x.since_miss }))
     (finished_half roles.Device x.node.endpoint x.node.tid heard k)
-    ∙ ap (λ ps. Some (record { agent = h; device = half_in heard; packets = ps; agent_since_miss = 8; device_since_miss = 8 }))
+    ∙ ap (λ ps. Some (record { agent = h; device = half_in heard; packets = ps; agent_since_miss = since; device_since_miss = x.since_miss }))
     (ap (λ ms. x.packets ++ sent_now now (all_packets ms)) (finished_sent roles.Device x.node.endpoint x.node.tid heard k) ∙ sym (posted_behind now x.packets (sent_in heard)))
 
-heard_device_if : (here : Bool) (works : Bool) (faults now : ℕ) (bytes : List ℕ) (o : Option (HalfOf TimedOf)) (s : Option SiteOf)
-    → (here ≡ true → IfSome (link_from o s) (λ l. IsPassed (half_hears device_core works l.device bytes)))
-    → link_from o (if here then option_map (heard_site works faults now bytes) s else s) ≡ (if here then option_map (heard_on_device works now bytes) (link_from o s) else link_from o s)
-heard_device_if true works faults now bytes o s k = heard_device works faults now bytes o s (k refl)
-heard_device_if false works faults now bytes o s k = refl
+heard_device_if : (since : ℕ) (here : Bool) (works : Bool) (faults now : ℕ) (bytes : List ℕ) (o : Option (HalfOf TimedOf)) (s : Option SiteOf)
+    → (here ≡ true → IfSome (link_from since o s) (λ l. IsPassed (half_hears device_core works l.device bytes)))
+    → link_from since o (if here then option_map (heard_site works faults now bytes) s else s) ≡ (if here then option_map (heard_on_device works now bytes) (link_from since o s) else link_from since o s)
+heard_device_if since true works faults now bytes o s k = heard_device _ works faults now bytes o s (k refl)
+heard_device_if since false works faults now bytes o s k = refl
 
 -- A packet that comes to a device, and goes through its half, comes on the device's link, and on no other.
 pub device_hears_at : (works : Bool) (faults : ℕ) (w : WorldOf) (bytes : List ℕ) (node eid : ℕ)
@@ -113,8 +118,10 @@ pub device_hears_at : (works : Bool) (faults : ℕ) (w : WorldOf) (bytes : List 
     → link_at (at_device works faults w bytes (place_of w.sites node) (site_for w.sites node)) eid
     ≡ (if node == eid then option_map (heard_on_device works w.now bytes) (link_at w eid) else link_at w eid)
 device_hears_at works faults w bytes node eid k =
-    ap (λ n. link_from (half_for n eid) (site_for (at_device works faults w bytes (place_of w.sites node) (site_for w.sites node)).sites eid))
+    ap (λ k. link_from k (half_for (at_device works faults w bytes (place_of w.sites node) (site_for w.sites node)).agent eid) (site_for (at_device works faults w bytes (place_of w.sites node) (site_for w.sites node)).sites eid))
+    (device_since works faults w bytes (place_of w.sites node) (site_for w.sites node))
+    ∙ ap (λ n. link_from w.since_miss (half_for n eid) (site_for (at_device works faults w bytes (place_of w.sites node) (site_for w.sites node)).sites eid))
     (device_agent works faults w bytes (place_of w.sites node) (site_for w.sites node))
-    ∙ ap (λ xs. link_from (half_for w.agent eid) (site_for xs eid)) (device_put works faults w bytes (place_of w.sites node) (site_for w.sites node))
-    ∙ ap (link_from (half_for w.agent eid)) (site_put (heard_site works faults w.now bytes) (λ x. refl) w.sites node eid)
-    ∙ heard_device_if (node == eid) works faults w.now bytes (half_for w.agent eid) (site_for w.sites eid) k
+    ∙ ap (λ xs. link_from w.since_miss (half_for w.agent eid) (site_for xs eid)) (device_put works faults w bytes (place_of w.sites node) (site_for w.sites node))
+    ∙ ap (link_from w.since_miss (half_for w.agent eid)) (site_put (heard_site works faults w.now bytes) (λ x. refl) w.sites node eid)
+    ∙ heard_device_if _ (node == eid) works faults w.now bytes (half_for w.agent eid) (site_for w.sites eid) k

@@ -93,7 +93,7 @@ link_packets None l k = absurd k
 link_packets (Some x) l k = k.1
 
 pub packets_on : (w : WorldOf) (eid : ℕ) (l : LinkOf) → link_at w eid ≡ Some l → packets_of w eid ≡ l.packets
-packets_on w eid l is = link_packets (site_for w.sites eid) l (link_site (half_for w.agent eid) (site_for w.sites eid) l is)
+packets_on w eid l is = link_packets (site_for w.sites eid) l (link_site _ (half_for w.agent eid) (site_for w.sites eid) l is)
 
 -- The agent: whoever sent the packet, and even where the agent is deaf, it comes on the device's link alone.
 on_its_link : (w : WorldOf) (packages : List PackageText) (bytes : List ℕ) (device eid : ℕ) (d : LinkOf) → link_at w device ≡ Some d
@@ -119,7 +119,7 @@ from_end w bytes device eid d p k there own hears reads passed (inl away) =
     (λ q e. let same : p ≡ q = (let both : Ok p ≡ Ok q = sym reads ∙ e in cc) in subst (λ x. x.0.dest ≢ d.agent.own) same far))
 from_end w bytes device eid d p k there own hears reads passed (inr home) =
     let source : p.0.source ≡ device = home.0 ∙ k.device in
-    let half : half_for w.agent p.0.source ≡ Some d.agent = ap (half_for w.agent) source ∙ link_half (half_for w.agent device) (site_for w.sites device) d there in
+    let half : half_for w.agent p.0.source ≡ Some d.agent = ap (half_for w.agent) source ∙ link_half _ (half_for w.agent device) (site_for w.sites device) d there in
     let goes = subst (λ e. AllByRecursion (GoesTo e) (all_packets (sent_in (half_hears (session_core w.packages) true d.agent bytes)))) (sym home.0) (agent_heard_to w.now w.packages d true bytes k.explained) in
     subst (λ e. link_at (at_agent w bytes) eid ≡ (if e == eid then option_map (heard_on_agent w.packages w.now bytes) (link_at w eid) else link_at w eid)) source
     (agent_hears_at w bytes p d.agent eid hears reads half passed goes)

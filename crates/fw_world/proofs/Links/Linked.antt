@@ -58,25 +58,25 @@ own_none w (Some h) k e =
     absurd (fact_at (λ y. w.agent.endpoint.eid ≢ y) (eids_of w) at.place w.agent.endpoint.eid (every (λ y. w.agent.endpoint.eid ≢ y) (eids_of w) k.apart.0)
     (ap (λ ks. slice_get ks at.place) (sym k.halves) ∙ at.at) refl)
 
-both_there : (P : HalfOf TimedOf → Type 0) (Q : SiteOf → Type 0) (o : Option (HalfOf TimedOf)) (s : Option SiteOf) → IsSomeAnd o P → IsSomeAnd s Q → is_some (link_from o s) ≡ true
-both_there P Q None s p q = absurd p
-both_there P Q (Some h) None p q = absurd q
-both_there P Q (Some h) (Some x) p q = refl
+both_there : (since : ℕ) (P : HalfOf TimedOf → Type 0) (Q : SiteOf → Type 0) (o : Option (HalfOf TimedOf)) (s : Option SiteOf) → IsSomeAnd o P → IsSomeAnd s Q → is_some (link_from since o s) ≡ true
+both_there since P Q None s p q = absurd p
+both_there since P Q (Some h) None p q = absurd q
+both_there since P Q (Some h) (Some x) p q = refl
 
 pub link_there : (w : WorldOf) (i eid : ℕ) → KnownLinks w → slice_get (eids_of w) i ≡ Some eid → is_some (slice_get (links_of w) i) ≡ true
 link_there w i eid k e =
-    ap is_some (link_in_place w.agent.halves w.sites i)
-    ∙ both_there (λ h. half_peer h ≡ eid) (λ x. site_eid x ≡ eid) (slice_get w.agent.halves i) (slice_get w.sites i)
+    ap is_some (link_in_place _ w.agent.halves w.sites i)
+    ∙ both_there _ (λ h. half_peer h ≡ eid) (λ x. site_eid x ≡ eid) (slice_get w.agent.halves i) (slice_get w.sites i)
     (get_map half_peer w.agent.halves i eid (ap (λ ks. slice_get ks i) k.halves ∙ e)) (get_map site_eid w.sites i eid e)
 
-pub linked_site : (o : Option (HalfOf TimedOf)) (s : Option SiteOf) (l : LinkOf) → link_from o s ≡ Some l → is_some s ≡ true
-linked_site None s l e = absurd (cc)
-linked_site (Some h) None l e = absurd (cc)
-linked_site (Some h) (Some x) l e = refl
+pub linked_site : (since : ℕ) (o : Option (HalfOf TimedOf)) (s : Option SiteOf) (l : LinkOf) → link_from since o s ≡ Some l → is_some s ≡ true
+linked_site since None s l e = absurd (cc)
+linked_site since (Some h) None l e = absurd (cc)
+linked_site since (Some h) (Some x) l e = refl
 
 known_link : (w : WorldOf) (eid : ℕ) (l : LinkOf) → KnownLinks w → link_at w eid ≡ Some l → IsLinkOf w eid l
 known_link w eid l k e =
-    let at = site_stood w eid (site_for w.sites eid) refl (linked_site (half_for w.agent eid) (site_for w.sites eid) l e) in
+    let at = site_stood w eid (site_for w.sites eid) refl (linked_site _ (half_for w.agent eid) (site_for w.sites eid) l e) in
     k.links at.place eid l at.at (link_by_place w at.place eid k.halves k.apart.1 at.at ∙ e)
 
 known_some : (w : WorldOf) (eid : ℕ) → KnownLinks w → is_some (site_for w.sites eid) ≡ true → is_some (link_at w eid) ≡ true
@@ -100,9 +100,9 @@ half_by : (w : WorldOf) (i eid : ℕ) (h : HalfOf TimedOf) (s : Option SiteOf) �
     → IsSomeAnd s (λ x. site_eid x ≡ eid) → IsHalfOf w.agent.deaf h
 half_by w i eid h None k e half site some = absurd some
 half_by w i eid h (Some x) k e half site some =
-    let l : LinkOf = record { agent = h; device = x.node.half; packets = x.packets; agent_since_miss = 8; device_since_miss = 8 } in
+    let l : LinkOf = record { agent = h; device = x.node.half; packets = x.packets; agent_since_miss = w.since_miss; device_since_miss = x.since_miss } in
     half_of_link w eid h l refl
-    (k.links i eid l e (link_in_place w.agent.halves w.sites i ∙ ap (λ o. link_from o (slice_get w.sites i)) half ∙ ap (link_from (Some h)) site))
+    (k.links i eid l e (link_in_place _ w.agent.halves w.sites i ∙ ap (λ o. link_from w.since_miss o (slice_get w.sites i)) half ∙ ap (link_from w.since_miss (Some h)) site))
 
 half_known : (w : WorldOf) (i : ℕ) (h : HalfOf TimedOf) → KnownLinks w → slice_get w.agent.halves i ≡ Some h → IsHalfOf w.agent.deaf h
 half_known w i h k e =

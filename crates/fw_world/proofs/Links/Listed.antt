@@ -44,32 +44,32 @@ pub first_by_place : {A : Type 0} (key : A → ℕ) (xs : List A) (i eid : ℕ) 
 first_by_place key xs i eid apart e = placed_by key xs i eid (slice_get xs i) apart refl (get_map key xs i eid e)
 
 -- the links
-abbrev pub links_in : List (HalfOf TimedOf) → List SiteOf → List LinkOf
-links_in [] xs = []
-links_in (h ∷ hs) [] = []
-links_in (h ∷ hs) (x ∷ xs) = record { agent = h; device = x.node.half; packets = x.packets; agent_since_miss = 8; device_since_miss = 8 } ∷ links_in hs xs
+abbrev pub links_in : (since : ℕ) → List (HalfOf TimedOf) → List SiteOf → List LinkOf
+links_in since [] xs = []
+links_in since (h ∷ hs) [] = []
+links_in since (h ∷ hs) (x ∷ xs) = record { agent = h; device = x.node.half; packets = x.packets; agent_since_miss = since; device_since_miss = x.since_miss } ∷ links_in since hs xs
 
 abbrev pub links_of : WorldOf → List LinkOf
-links_of w = links_in w.agent.halves w.sites
+links_of w = links_in w.since_miss w.agent.halves w.sites
 
-pub no_link : (o : Option (HalfOf TimedOf)) → None ≡ link_from o None
-no_link None = refl
-no_link (Some h) = refl
+pub no_link : (since : ℕ) (o : Option (HalfOf TimedOf)) → None ≡ link_from since o None
+no_link since None = refl
+no_link since (Some h) = refl
 
-pub link_in_place : (hs : List (HalfOf TimedOf)) (xs : List SiteOf) (i : ℕ) → slice_get (links_in hs xs) i ≡ link_from (slice_get hs i) (slice_get xs i)
-link_in_place [] xs i = refl
-link_in_place (h ∷ hs) [] i = no_link (slice_get (h ∷ hs) i)
-link_in_place (h ∷ hs) (x ∷ xs) zero = refl
-link_in_place (h ∷ hs) (x ∷ xs) (suc i) = link_in_place hs xs i
+pub link_in_place : (since : ℕ) (hs : List (HalfOf TimedOf)) (xs : List SiteOf) (i : ℕ) → slice_get (links_in since hs xs) i ≡ link_from since (slice_get hs i) (slice_get xs i)
+link_in_place since [] xs i = refl
+link_in_place since (h ∷ hs) [] i = no_link _ (slice_get (h ∷ hs) i)
+link_in_place since (h ∷ hs) (x ∷ xs) zero = refl
+link_in_place since (h ∷ hs) (x ∷ xs) (suc i) = link_in_place _ hs xs i
 
 -- The link in a place is that of the device there.
 pub link_by_place : (w : WorldOf) (i eid : ℕ) → map half_peer w.agent.halves ≡ map site_eid w.sites → AreDifferent (map site_eid w.sites)
     → slice_get (map site_eid w.sites) i ≡ Some eid → slice_get (links_of w) i ≡ link_at w eid
 link_by_place w i eid same apart there =
-    link_in_place w.agent.halves w.sites i
-    ∙ ap (λ o. link_from o (slice_get w.sites i))
+    link_in_place _ w.agent.halves w.sites i
+    ∙ ap (λ o. link_from w.since_miss o (slice_get w.sites i))
     (first_by_place half_peer w.agent.halves i eid (subst AreDifferent (sym same) apart) (ap (λ ks. slice_get ks i) same ∙ there) ∙ sym (half_is_first w.agent.halves eid))
-    ∙ ap (link_from _) (first_by_place site_eid w.sites i eid apart there ∙ sym (site_is_first w.sites eid))
+    ∙ ap (link_from w.since_miss _) (first_by_place site_eid w.sites i eid apart there ∙ sym (site_is_first w.sites eid))
 
 -- two lists with the same in each place
 pub same_places : {A : Type 0} (xs ys : List A) → ((i : ℕ) → slice_get xs i ≡ slice_get ys i) → xs ≡ ys

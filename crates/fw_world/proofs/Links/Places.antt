@@ -43,7 +43,7 @@ none_mapped f (x ∷ xs) (suc i) e = none_mapped f xs i e
 -- where no device stands there is no link
 pub past_links : (w : WorldOf) (i : ℕ) → slice_get (eids_of w) i ≡ None → slice_get (links_of w) i ≡ None
 past_links w i e =
-    link_in_place w.agent.halves w.sites i ∙ ap (link_from (slice_get w.agent.halves i)) (none_mapped site_eid w.sites i e) ∙ sym (no_link (slice_get w.agent.halves i))
+    link_in_place _ w.agent.halves w.sites i ∙ ap (link_from w.since_miss (slice_get w.agent.halves i)) (none_mapped site_eid w.sites i e) ∙ sym (no_link _ (slice_get w.agent.halves i))
 
 -- A world with the devices of another, which are all different.
 pub record SameDevices (w v : WorldOf) : Type 0 where

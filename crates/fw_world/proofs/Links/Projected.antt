@@ -57,16 +57,16 @@ StepsTo now packages l None after = after ≡ Some l
 StepsTo now packages l (Some s) after = IsSomeAnd (link_after now packages l s) (λ t. after ≡ Some t.after)
 
 -- the halves of a link
-pub link_half : (o : Option (HalfOf TimedOf)) (s : Option SiteOf) (l : LinkOf) → link_from o s ≡ Some l → o ≡ Some l.agent
-link_half None s l e = absurd (cc)
-link_half (Some h) None l e = absurd (cc)
-link_half (Some h) (Some x) l e = let is : ◌≡◌ {A = LinkOf} (record { agent = h; device = x.node.half; packets = x.packets; agent_since_miss = 8; device_since_miss = 8 }) l = cc in ap (λ z. Some z.agent) is
+pub link_half : (since : ℕ) (o : Option (HalfOf TimedOf)) (s : Option SiteOf) (l : LinkOf) → link_from since o s ≡ Some l → o ≡ Some l.agent
+link_half since None s l e = absurd (cc)
+link_half since (Some h) None l e = absurd (cc)
+link_half since (Some h) (Some x) l e = let is : ◌≡◌ {A = LinkOf} (record { agent = h; device = x.node.half; packets = x.packets; agent_since_miss = since; device_since_miss = x.since_miss }) l = cc in ap (λ z. Some z.agent) is
 
-pub link_site : (o : Option (HalfOf TimedOf)) (s : Option SiteOf) (l : LinkOf) → link_from o s ≡ Some l → IsSomeAnd s (λ x. (x.node.half ≡ l.device) × (x.packets ≡ l.packets))
-link_site None s l e = absurd (cc)
-link_site (Some h) None l e = absurd (cc)
-link_site (Some h) (Some x) l e =
-    let is : ◌≡◌ {A = LinkOf} (record { agent = h; device = x.node.half; packets = x.packets; agent_since_miss = 8; device_since_miss = 8 }) l = cc in (ap (λ z. z.device) is, ap (λ z. z.packets) is)
+pub link_site : (since : ℕ) (o : Option (HalfOf TimedOf)) (s : Option SiteOf) (l : LinkOf) → link_from since o s ≡ Some l → IsSomeAnd s (λ x. (x.node.half ≡ l.device) × (x.packets ≡ l.packets))
+link_site since None s l e = absurd (cc)
+link_site since (Some h) None l e = absurd (cc)
+link_site since (Some h) (Some x) l e =
+    let is : ◌≡◌ {A = LinkOf} (record { agent = h; device = x.node.half; packets = x.packets; agent_since_miss = since; device_since_miss = x.since_miss }) l = cc in (ap (λ z. z.device) is, ap (λ z. z.packets) is)
 
 -- where a link is led
 pub leads_to : (o : Option LinkStepped) (g : LinkOf → LinkOf) (y : Option LinkOf) (l : LinkOf) → y ≡ Some (g l) → IsSomeAnd o (λ t. g l ≡ t.after) → IsSomeAnd o (λ t. y ≡ Some t.after)
@@ -108,7 +108,7 @@ both_true a b h k = rw (h, k) refl
 
 -- the agent's half of a link
 half_there : (w : WorldOf) (device eid : ℕ) (l : LinkOf) → (device == eid) ≡ true → link_at w eid ≡ Some l → half_for w.agent device ≡ Some l.agent
-half_there w device eid l e is = ap (half_for w.agent) (eqb-true device eid e) ∙ link_half (half_for w.agent eid) (site_for w.sites eid) l is
+half_there w device eid l e is = ap (half_for w.agent) (eqb-true device eid e) ∙ link_half _ (half_for w.agent eid) (site_for w.sites eid) l is
 
 free_there : (w : WorldOf) (device eid : ℕ) (l : LinkOf) → (device == eid) ≡ true → link_at w eid ≡ Some l → free_for w.agent device ≡ Some true → is_free l.agent.core.session ≡ true
 free_there w device eid l e is free =
@@ -188,7 +188,7 @@ verdict_there : (w : WorldOf) (device eid : ℕ) (l : LinkOf) (verdict : Verdict
 verdict_there w device eid l verdict works e is may =
     verdict_counts l.device.core.device l.device.core.device.phase verdict works
     (verdict_found verdict (site_for w.sites eid) l (subst (λ d. verdict_fault verdict (site_for w.sites d) ≡ None) (eqb-true device eid e) may)
-    (link_site (half_for w.agent eid) (site_for w.sites eid) l is))
+    (link_site _ (half_for w.agent eid) (site_for w.sites eid) l is))
 
 pub verdict_projects : (works : Bool) (faults : ℕ) (w : WorldOf) (device eid : ℕ) (verdict : Verdict) (l : LinkOf) → verdict_fault verdict (site_for w.sites device) ≡ None → link_at w eid ≡ Some l
     → StepsTo w.now w.packages l (where_mine (device == eid) (Some (LinkStep.Judge verdict works)))

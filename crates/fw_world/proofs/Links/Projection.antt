@@ -2,6 +2,7 @@
 use Rattle.std.proofs.Common.{◌≡◌, ◌∙◌, ◌+◌, ◌==◌, ℕ, Bool, true, false, if◌then◌else◌, List, ◌++◌, Option, Some, None, refl, sym, ap}
 use Rattle.std.specs.List.{AllByRecursion}
 use Rattle.std.specs.Option.{option_map}
+use Rattle.exch_lane.specs.Clocks.{since_after}
 use Rattle.fw_package.specs.Package.{PackageText}
 use Rattle.ua_core.specs.Session.{TimedOf}
 use Rattle.fd_core.specs.Steps.{verdict_after}
@@ -19,36 +20,36 @@ use Rattle.fw_world.proofs.Links.Posting.{posts_at, site_changed, site_put, with
 use Rattle.fw_world.proofs.Links.Sorted.{posted_behind}
 
 -- the link of a device: the agent's half for it, and the device's half with their packets
-abbrev pub link_from : Option (HalfOf TimedOf) → Option SiteOf → Option LinkOf
-link_from None x = None
-link_from (Some h) None = None
-link_from (Some h) (Some x) = Some (record { agent = h; device = x.node.half; packets = x.packets; agent_since_miss = 8; device_since_miss = 8 })
+abbrev pub link_from : (since : ℕ) → Option (HalfOf TimedOf) → Option SiteOf → Option LinkOf
+link_from since None x = None
+link_from since (Some h) None = None
+link_from since (Some h) (Some x) = Some (record { agent = h; device = x.node.half; packets = x.packets; agent_since_miss = since; device_since_miss = x.since_miss })
 
 abbrev pub link_at : WorldOf → ℕ → Option LinkOf
-link_at w eid = link_from (half_for w.agent eid) (site_for w.sites eid)
+link_at w eid = link_from w.since_miss (half_for w.agent eid) (site_for w.sites eid)
 
 -- a tick
-tick_link : (packages : List PackageText) (now : ℕ) (h : HalfOf TimedOf) (x : SiteOf)
+tick_link : (since : ℕ) (packages : List PackageText) (now : ℕ) (h : HalfOf TimedOf) (x : SiteOf)
     → ◌≡◌ {A = LinkOf}
     (record {
       agent = half_after_tick packages h;
       device = (half_ticks device_core true x.node.half).half;
       packets = (x.packets ++ sent_now (now + 1) (ticked_packets packages h)) ++ sent_now (now + 1) (all_packets (half_ticks device_core true x.node.half).sent);
-      agent_since_miss = 8;
-      device_since_miss = 8;
+      agent_since_miss = since_after true since;
+      device_since_miss = since_after true x.since_miss;
     })
-    (link_ticks now packages (record { agent = h; device = x.node.half; packets = x.packets; agent_since_miss = 8; device_since_miss = 8 }) true true)
-tick_link packages now h x =
-    ap (λ ps. record { agent = half_after_tick packages h; device = (half_ticks device_core true x.node.half).half; packets = ps; agent_since_miss = 8; device_since_miss = 8 })
+    (link_ticks now packages (record { agent = h; device = x.node.half; packets = x.packets; agent_since_miss = since; device_since_miss = x.since_miss }) true true)
+tick_link since packages now h x =
+    ap (λ ps. record { agent = half_after_tick packages h; device = (half_ticks device_core true x.node.half).half; packets = ps; agent_since_miss = since_after true since; device_since_miss = since_after true x.since_miss })
     (sym (posted_behind (now + 1) (posted (now + 1) x.packets (half_ticks (session_core packages) true h).sent) (half_ticks device_core true x.node.half).sent
     ∙ ap (λ ps. ps ++ sent_now (now + 1) (all_packets (half_ticks device_core true x.node.half).sent)) (posted_behind (now + 1) x.packets (half_ticks (session_core packages) true h).sent)))
 
-tick_links : (packages : List PackageText) (now : ℕ) (o : Option (HalfOf TimedOf)) (s : Option SiteOf)
-    → link_from (option_map (half_after_tick packages) o) (option_map (site_ticks (now + 1)) (option_map (with_packets (now + 1) (sent_for (ticked_packets packages) o)) s))
-    ≡ option_map (λ l. link_ticks now packages l true true) (link_from o s)
-tick_links packages now None s = refl
-tick_links packages now (Some h) None = refl
-tick_links packages now (Some h) (Some x) = ap Some (tick_link packages now h x)
+tick_links : (since : ℕ) (packages : List PackageText) (now : ℕ) (o : Option (HalfOf TimedOf)) (s : Option SiteOf)
+    → link_from (since_after true since) (option_map (half_after_tick packages) o) (option_map (site_ticks (now + 1)) (option_map (with_packets (now + 1) (sent_for (ticked_packets packages) o)) s))
+    ≡ option_map (λ l. link_ticks now packages l true true) (link_from since o s)
+tick_links since packages now None s = refl
+tick_links since packages now (Some h) None = refl
+tick_links since packages now (Some h) (Some x) = ap Some (tick_link since packages now h x)
 
 pub tick_at : (w : WorldOf) (eid : ℕ) → AllByRecursion (IsHalfOf w.agent.deaf) w.agent.halves → AreApart w.agent.halves
     → link_at (ticks w) eid ≡ option_map (λ l. link_ticks w.now w.packages l true true) (link_at w eid)
@@ -58,23 +59,23 @@ tick_at w eid k apart =
     site_changed (site_ticks (w.now + 1)) (λ x. refl) _ eid
     ∙ ap (option_map (site_ticks (w.now + 1))) (posts_at (w.now + 1) sends w.sites eid)
     ∙ ap (λ ps. option_map (site_ticks (w.now + 1)) (option_map (with_packets (w.now + 1) ps) (site_for w.sites eid))) (agent_tick_sends_at w.packages w.agent eid k apart) in
-    ap (λ o. link_from o (site_for (ticks w).sites eid)) (agent_ticks_at w.packages (w.now + 1) w.agent eid k)
-    ∙ ap (link_from (option_map (half_after_tick w.packages) (half_for w.agent eid))) sites
-    ∙ tick_links w.packages w.now (half_for w.agent eid) (site_for w.sites eid)
+    ap (λ o. link_from (since_after true w.since_miss) o (site_for (ticks w).sites eid)) (agent_ticks_at w.packages (w.now + 1) w.agent eid k)
+    ∙ ap (link_from (since_after true w.since_miss) (option_map (half_after_tick w.packages) (half_for w.agent eid))) sites
+    ∙ tick_links _ w.packages w.now (half_for w.agent eid) (site_for w.sites eid)
 
 -- What changes the agent's half, or the device and its packets, on a link.
 abbrev pub on_agent : (HalfOf TimedOf → HalfOf TimedOf) → LinkOf → LinkOf
 on_agent g l = record l { agent = g l.agent }
 
-agent_link : (g : HalfOf TimedOf → HalfOf TimedOf) (o : Option (HalfOf TimedOf)) (s : Option SiteOf) → link_from (option_map g o) s ≡ option_map (on_agent g) (link_from o s)
-agent_link g None s = refl
-agent_link g (Some h) None = refl
-agent_link g (Some h) (Some x) = refl
+agent_link : (since : ℕ) (g : HalfOf TimedOf → HalfOf TimedOf) (o : Option (HalfOf TimedOf)) (s : Option SiteOf) → link_from since (option_map g o) s ≡ option_map (on_agent g) (link_from since o s)
+agent_link since g None s = refl
+agent_link since g (Some h) None = refl
+agent_link since g (Some h) (Some x) = refl
 
-agent_link_if : (here : Bool) (g : HalfOf TimedOf → HalfOf TimedOf) (o : Option (HalfOf TimedOf)) (s : Option SiteOf)
-    → link_from (if here then option_map g o else o) s ≡ (if here then option_map (on_agent g) (link_from o s) else link_from o s)
-agent_link_if true g o s = agent_link g o s
-agent_link_if false g o s = refl
+agent_link_if : (since : ℕ) (here : Bool) (g : HalfOf TimedOf → HalfOf TimedOf) (o : Option (HalfOf TimedOf)) (s : Option SiteOf)
+    → link_from since (if here then option_map g o else o) s ≡ (if here then option_map (on_agent g) (link_from since o s) else link_from since o s)
+agent_link_if since true g o s = agent_link _ g o s
+agent_link_if since false g o s = refl
 
 pub becomes_put : (n : AgentOf) (now : ℕ) (g : HalfOf TimedOf → HalfOf TimedOf) (o : Option ℕ) (s : Option (HalfOf TimedOf)) → (becomes_at n now g o s).halves ≡ put_at g n.halves o s
 becomes_put n now g None s = refl
@@ -85,34 +86,34 @@ becomes_put n now g (Some p) (Some h) = refl
 pub call_at : (w : WorldOf) (device eid : ℕ) (g : HalfOf TimedOf → HalfOf TimedOf) → ((h : HalfOf TimedOf) → (g h).peer ≡ h.peer)
     → link_at (calls w device g) eid ≡ (if device == eid then option_map (on_agent g) (link_at w eid) else link_at w eid)
 call_at w device eid g same =
-    ap (λ hs. link_from (half_at hs (half_place hs eid)) (site_for w.sites eid)) (becomes_put w.agent w.now g (half_place w.agent.halves device) (half_for w.agent device))
-    ∙ ap (λ o. link_from o (site_for w.sites eid)) (half_put g same w.agent.halves device eid)
-    ∙ agent_link_if (device == eid) g (half_for w.agent eid) (site_for w.sites eid)
+    ap (λ hs. link_from w.since_miss (half_at hs (half_place hs eid)) (site_for w.sites eid)) (becomes_put w.agent w.now g (half_place w.agent.halves device) (half_for w.agent device))
+    ∙ ap (λ o. link_from w.since_miss o (site_for w.sites eid)) (half_put g same w.agent.halves device eid)
+    ∙ agent_link_if _ (device == eid) g (half_for w.agent eid) (site_for w.sites eid)
 
 -- A restart of the agent is one of all links.
 pub agent_restart_at : (w : WorldOf) (eid : ℕ)
     → link_at (record w { agent = agent_restarts w.packages w.agent }) eid ≡ option_map (on_agent (half_restarts (session_core w.packages))) (link_at w eid)
 agent_restart_at w eid =
-    ap (λ o. link_from o (site_for w.sites eid)) (half_changed (half_restarts (session_core w.packages)) (λ h. refl) w.agent.halves eid)
-    ∙ agent_link (half_restarts (session_core w.packages)) (half_for w.agent eid) (site_for w.sites eid)
+    ap (λ o. link_from w.since_miss o (site_for w.sites eid)) (half_changed (half_restarts (session_core w.packages)) (λ h. refl) w.agent.halves eid)
+    ∙ agent_link _ (half_restarts (session_core w.packages)) (half_for w.agent eid) (site_for w.sites eid)
 
 -- what changes a device
 abbrev pub on_device : (HalfOf TimedDevice → HalfOf TimedDevice) → LinkOf → LinkOf
 on_device g l = record l { device = g l.device }
 
 abbrev pub ActsOn : (SiteOf → SiteOf) → (HalfOf TimedDevice → HalfOf TimedDevice) → Type 0
-ActsOn f g = (x : SiteOf) → ((f x).node.half ≡ g x.node.half) × ((f x).packets ≡ x.packets)
+ActsOn f g = (x : SiteOf) → ((f x).node.half ≡ g x.node.half) × ((f x).packets ≡ x.packets) × ((f x).since_miss ≡ x.since_miss)
 
-device_link : (f : SiteOf → SiteOf) (g : HalfOf TimedDevice → HalfOf TimedDevice) → ActsOn f g → (o : Option (HalfOf TimedOf)) (s : Option SiteOf)
-    → link_from o (option_map f s) ≡ option_map (on_device g) (link_from o s)
-device_link f g acts None s = refl
-device_link f g acts (Some h) None = refl
-device_link f g acts (Some h) (Some x) = rw ((acts x).0, (acts x).1) refl
+device_link : (since : ℕ) (f : SiteOf → SiteOf) (g : HalfOf TimedDevice → HalfOf TimedDevice) → ActsOn f g → (o : Option (HalfOf TimedOf)) (s : Option SiteOf)
+    → link_from since o (option_map f s) ≡ option_map (on_device g) (link_from since o s)
+device_link since f g acts None s = refl
+device_link since f g acts (Some h) None = refl
+device_link since f g acts (Some h) (Some x) = rw ((acts x).0, (acts x).1, (acts x).2) refl
 
-device_link_if : (here : Bool) (f : SiteOf → SiteOf) (g : HalfOf TimedDevice → HalfOf TimedDevice) → ActsOn f g → (o : Option (HalfOf TimedOf)) (s : Option SiteOf)
-    → link_from o (if here then option_map f s else s) ≡ (if here then option_map (on_device g) (link_from o s) else link_from o s)
-device_link_if true f g acts o s = device_link f g acts o s
-device_link_if false f g acts o s = refl
+device_link_if : (since : ℕ) (here : Bool) (f : SiteOf → SiteOf) (g : HalfOf TimedDevice → HalfOf TimedDevice) → ActsOn f g → (o : Option (HalfOf TimedOf)) (s : Option SiteOf)
+    → link_from since o (if here then option_map f s else s) ≡ (if here then option_map (on_device g) (link_from since o s) else link_from since o s)
+device_link_if since true f g acts o s = device_link _ f g acts o s
+device_link_if since false f g acts o s = refl
 
 pub restarts_put : (xs : List SiteOf) (o : Option ℕ) (s : Option SiteOf) → site_restarts xs o s ≡ put_at (λ x. record x { node = device_restarts x.node }) xs o s
 restarts_put xs None s = refl
@@ -124,9 +125,9 @@ pub device_restart_at : (w : WorldOf) (node eid : ℕ)
     → link_at (record w { sites = site_restarts w.sites (place_of w.sites node) (site_for w.sites node) }) eid
     ≡ (if node == eid then option_map (on_device (half_restarts device_core)) (link_at w eid) else link_at w eid)
 device_restart_at w node eid =
-    ap (λ xs. link_from (half_for w.agent eid) (site_for xs eid)) (restarts_put w.sites (place_of w.sites node) (site_for w.sites node))
-    ∙ ap (link_from (half_for w.agent eid)) (site_put (λ x. record x { node = device_restarts x.node }) (λ x. refl) w.sites node eid)
-    ∙ device_link_if (node == eid) (λ x. record x { node = device_restarts x.node }) (half_restarts device_core) (λ x. (refl, refl)) (half_for w.agent eid) (site_for w.sites eid)
+    ap (λ xs. link_from w.since_miss (half_for w.agent eid) (site_for xs eid)) (restarts_put w.sites (place_of w.sites node) (site_for w.sites node))
+    ∙ ap (link_from w.since_miss (half_for w.agent eid)) (site_put (λ x. record x { node = device_restarts x.node }) (λ x. refl) w.sites node eid)
+    ∙ device_link_if _ (node == eid) (λ x. record x { node = device_restarts x.node }) (half_restarts device_core) (λ x. (refl, refl, refl)) (half_for w.agent eid) (site_for w.sites eid)
 
 -- a verdict on what a device has written
 abbrev pub judged_by : Verdict → Bool → HalfOf TimedDevice → HalfOf TimedDevice
@@ -146,13 +147,20 @@ judges_agent works faults w verdict None s = refl
 judges_agent works faults w verdict (Some p) None = refl
 judges_agent works faults w verdict (Some p) (Some x) = refl
 
+judges_since : (works : Bool) (faults : ℕ) (w : WorldOf) (verdict : Verdict) (o : Option ℕ) (s : Option SiteOf) → (judges works faults w verdict o s).since_miss ≡ w.since_miss
+judges_since works faults w verdict None s = refl
+judges_since works faults w verdict (Some p) None = refl
+judges_since works faults w verdict (Some p) (Some x) = refl
+
 -- A verdict is one of the device's link.
 pub verdict_at : (works : Bool) (faults : ℕ) (w : WorldOf) (device eid : ℕ) (verdict : Verdict)
     → link_at (judges works faults w verdict (place_of w.sites device) (site_for w.sites device)) eid
     ≡ (if device == eid then option_map (on_device (judged_by verdict works)) (link_at w eid) else link_at w eid)
 verdict_at works faults w device eid verdict =
-    ap (λ n. link_from (half_for n eid) (site_for (judges works faults w verdict (place_of w.sites device) (site_for w.sites device)).sites eid))
+    ap (λ k. link_from k (half_for (judges works faults w verdict (place_of w.sites device) (site_for w.sites device)).agent eid) (site_for (judges works faults w verdict (place_of w.sites device) (site_for w.sites device)).sites eid))
+    (judges_since works faults w verdict (place_of w.sites device) (site_for w.sites device))
+    ∙ ap (λ n. link_from w.since_miss (half_for n eid) (site_for (judges works faults w verdict (place_of w.sites device) (site_for w.sites device)).sites eid))
     (judges_agent works faults w verdict (place_of w.sites device) (site_for w.sites device))
-    ∙ ap (λ xs. link_from (half_for w.agent eid) (site_for xs eid)) (judges_put works faults w verdict (place_of w.sites device) (site_for w.sites device))
-    ∙ ap (link_from (half_for w.agent eid)) (site_put (judged_site works faults verdict) (λ x. refl) w.sites device eid)
-    ∙ device_link_if (device == eid) (judged_site works faults verdict) (judged_by verdict works) (λ x. (refl, refl)) (half_for w.agent eid) (site_for w.sites eid)
+    ∙ ap (λ xs. link_from w.since_miss (half_for w.agent eid) (site_for xs eid)) (judges_put works faults w verdict (place_of w.sites device) (site_for w.sites device))
+    ∙ ap (link_from w.since_miss (half_for w.agent eid)) (site_put (judged_site works faults verdict) (λ x. refl) w.sites device eid)
+    ∙ device_link_if _ (device == eid) (judged_site works faults verdict) (judged_by verdict works) (λ x. (refl, refl, refl)) (half_for w.agent eid) (site_for w.sites eid)

@@ -27,36 +27,36 @@ use Rattle.fw_world.proofs.Worlds.SafeOpening.{halves_for, links_for, opening_ei
 use Rattle.fw_world.proofs.Worlds.SafeStands.{Stand, messages_of}
 
 -- what stands for the links has their devices and sessions
-same_devices : (packages : List PackageText) (now : ℕ) (hs : List (HalfOf TimedOf)) (xs : List SiteOf) (ns : List NodeOf) → map half_peer hs ≡ map site_eid xs
-    → AllStand packages now (links_in hs xs) ns → map (λ n. n.pair.device) ns ≡ map (λ x. x.node.half.core.device) xs
-same_devices packages now [] [] [] same k = refl
-same_devices packages now (h ∷ hs) (x ∷ xs) (n ∷ ns) same k =
+same_devices : (since : ℕ) (packages : List PackageText) (now : ℕ) (hs : List (HalfOf TimedOf)) (xs : List SiteOf) (ns : List NodeOf) → map half_peer hs ≡ map site_eid xs
+    → AllStand packages now (links_in since hs xs) ns → map (λ n. n.pair.device) ns ≡ map (λ x. x.node.half.core.device) xs
+same_devices since packages now [] [] [] same k = refl
+same_devices since packages now (h ∷ hs) (x ∷ xs) (n ∷ ns) same k =
     let rest : map half_peer hs ≡ map site_eid xs = cc in
-    rw (k.0.joined.device, same_devices packages now hs xs ns rest k.1) refl
-same_devices packages now [] (x ∷ xs) ns same k = absurd (cc)
-same_devices packages now (h ∷ hs) [] ns same k = absurd (cc)
-same_devices packages now [] [] (n ∷ ns) same k = absurd k
-same_devices packages now (h ∷ hs) (x ∷ xs) [] same k = absurd k
+    rw (k.0.joined.device, same_devices _ packages now hs xs ns rest k.1) refl
+same_devices since packages now [] (x ∷ xs) ns same k = absurd (cc)
+same_devices since packages now (h ∷ hs) [] ns same k = absurd (cc)
+same_devices since packages now [] [] (n ∷ ns) same k = absurd k
+same_devices since packages now (h ∷ hs) (x ∷ xs) [] same k = absurd k
 
-same_sessions : (packages : List PackageText) (now : ℕ) (hs : List (HalfOf TimedOf)) (xs : List SiteOf) (ns : List NodeOf) → map half_peer hs ≡ map site_eid xs
-    → AllStand packages now (links_in hs xs) ns → map (λ n. n.pair.session) ns ≡ map (λ h. h.core.session) hs
-same_sessions packages now [] [] [] same k = refl
-same_sessions packages now (h ∷ hs) (x ∷ xs) (n ∷ ns) same k =
+same_sessions : (since : ℕ) (packages : List PackageText) (now : ℕ) (hs : List (HalfOf TimedOf)) (xs : List SiteOf) (ns : List NodeOf) → map half_peer hs ≡ map site_eid xs
+    → AllStand packages now (links_in since hs xs) ns → map (λ n. n.pair.session) ns ≡ map (λ h. h.core.session) hs
+same_sessions since packages now [] [] [] same k = refl
+same_sessions since packages now (h ∷ hs) (x ∷ xs) (n ∷ ns) same k =
     let rest : map half_peer hs ≡ map site_eid xs = cc in
-    rw (k.0.joined.session, same_sessions packages now hs xs ns rest k.1) refl
-same_sessions packages now [] (x ∷ xs) ns same k = absurd (cc)
-same_sessions packages now (h ∷ hs) [] ns same k = absurd (cc)
-same_sessions packages now [] [] (n ∷ ns) same k = absurd k
-same_sessions packages now (h ∷ hs) (x ∷ xs) [] same k = absurd k
+    rw (k.0.joined.session, same_sessions _ packages now hs xs ns rest k.1) refl
+same_sessions since packages now [] (x ∷ xs) ns same k = absurd (cc)
+same_sessions since packages now (h ∷ hs) [] ns same k = absurd (cc)
+same_sessions since packages now [] [] (n ∷ ns) same k = absurd k
+same_sessions since packages now (h ∷ hs) (x ∷ xs) [] same k = absurd k
 
 same_world : (opening w : WorldOf) → (k : Stand opening w) → IsSameWorld w k.messages
 same_world opening w k = record {
   packages = k.packages;
   agent = k.agent;
   eids = k.eids;
-  devices = same_devices k.messages.packages w.now w.agent.halves w.sites k.messages.nodes k.halves k.stands.stand;
+  devices = same_devices _ k.messages.packages w.now w.agent.halves w.sites k.messages.nodes k.halves k.stands.stand;
   peers = k.eids ∙ sym k.halves;
-  sessions = same_sessions k.messages.packages w.now w.agent.halves w.sites k.messages.nodes k.halves k.stands.stand;
+  sessions = same_sessions _ k.messages.packages w.now w.agent.halves w.sites k.messages.nodes k.halves k.stands.stand;
   history = k.history;
 }
 

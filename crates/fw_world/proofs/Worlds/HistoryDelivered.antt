@@ -54,7 +54,7 @@ from_end w bytes device d p k there own hears reads (inl away) =
     (λ q e. let same : p ≡ q = (let both : Ok p ≡ Ok q = sym reads ∙ e in cc) in subst (λ x. x.0.dest ≢ d.agent.own) same far))))
 from_end w bytes device d p k there own hears reads (inr home) =
     let source : p.0.source ≡ device = home.0 ∙ k.device in
-    device_records w bytes p d hears reads (ap (half_for w.agent) source ∙ link_half (half_for w.agent device) (site_for w.sites device) d there)
+    device_records w bytes p d hears reads (ap (half_for w.agent) source ∙ link_half _ (half_for w.agent device) (site_for w.sites device) d there)
     ∙ ap (λ eid. map (noted_of eid) (noted_in (agent_heard w.now w.packages d (half_hears (session_core w.packages) true d.agent bytes)))) source
 
 agent_notes : (w : WorldOf) (bytes : List ℕ) (device : ℕ) (d : LinkOf) → IsLinkOf w device d → link_at w device ≡ Some d → half_for w.agent w.agent.endpoint.eid ≡ None
@@ -79,7 +79,7 @@ device_by works faults w bytes node (Some x) l is k = device_activates works fau
 pub linked_activates : (works : Bool) (faults : ℕ) (w : WorldOf) (bytes : List ℕ) (node : ℕ) (l : LinkOf) → link_at w node ≡ Some l
     → (at_device works faults w bytes (place_of w.sites node) (site_for w.sites node)).history ≡ w.history ++ map (noted_of node) (activates_of works bytes l.device)
 linked_activates works faults w bytes node l is =
-    device_by works faults w bytes node (site_for w.sites node) l refl (link_site (half_for w.agent node) (site_for w.sites node) l is)
+    device_by works faults w bytes node (site_for w.sites node) l refl (link_site _ (half_for w.agent node) (site_for w.sites node) l is)
 
 -- The link to which a packet comes notes what it adds.
 comes_noting : (works : Bool) (faults : ℕ) (w : WorldOf) (device number node : ℕ) (d : LinkOf) (p : Sent) (s : LinkStep) → AreLinked w → link_at w device ≡ Some d

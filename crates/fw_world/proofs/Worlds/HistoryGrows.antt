@@ -147,7 +147,7 @@ verdict_taken works faults w verdict device eid l step is e = elim (eqb_tells de
       let both : Some (LinkStep.Judge verdict works) ≡ Some step = sym (ap (λ b. where_mine b (Some (LinkStep.Judge verdict works))) mine.0) ∙ e in
       let same : LinkStep.Judge verdict works ≡ step = cc in
       verdict_by works faults w verdict device (site_for w.sites device) l refl
-      (link_site (half_for w.agent device) (site_for w.sites device) l (ap (link_at w) mine.1 ∙ is))
+      (link_site _ (half_for w.agent device) (site_for w.sites device) l (ap (link_at w) mine.1 ∙ is))
       ∙ ap (λ d. w.history ++ map (noted_of d) (noted_in (judges_on l (device_verdict l.device.core.device verdict works)))) mine.1
       ∙ ap (λ x. w.history ++ map (noted_of eid) (noted_in (link_after w.now w.packages l x))) same
   | inr other ↦

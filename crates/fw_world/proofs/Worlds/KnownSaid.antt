@@ -43,7 +43,7 @@ told_from w device d bytes k there g told (inr home) =
     let half : hearer w.agent bytes ≡ Some d.agent =
     ap (λ r. half_at w.agent.halves (place_heard w.agent.halves r)) g.reads
     ∙ ap (half_for w.agent) (home.0 ∙ k.device)
-    ∙ link_half (half_for w.agent device) (site_for w.sites device) d there in
+    ∙ link_half _ (half_for w.agent device) (site_for w.sites device) d there in
     subst (λ o. IfSome o (λ h. IsTold (half_hears (session_core w.packages) true h bytes))) half told
 
 told_agent : (works : Bool) (w : WorldOf) (device number node : ℕ) (d : LinkOf) (q : Option Sent) → IsLinkOf w device d → link_at w device ≡ Some d → numbered d.packets number ≡ q → packet_fault w.now q ≡ None
@@ -63,7 +63,7 @@ told_device : (works : Bool) (w : WorldOf) (node : ℕ) (d : LinkOf) (q : Option
     → (node == w.agent.endpoint.eid) ≡ false → IsToldBy works w node q → IfSome q (λ p. IsToldOn w.packages d sides.Device works p.bytes)
 told_device works w node d None there other told = tt
 told_device works w node d (Some p) there other told =
-    told_site works p.bytes d (site_for w.sites node) (link_site (half_for w.agent node) (site_for w.sites node) d there) (subst (λ b. IsToldTo b works w node p.bytes) other told)
+    told_site works p.bytes d (site_for w.sites node) (link_site _ (half_for w.agent node) (site_for w.sites node) d there) (subst (λ b. IsToldTo b works w node p.bytes) other told)
 
 -- at either end
 told_end : (works : Bool) (w : WorldOf) (device number node : ℕ) (d : LinkOf) → IsLinkOf w device d → link_at w device ≡ Some d → packet_fault w.now (numbered d.packets number) ≡ None
@@ -96,7 +96,7 @@ agent_speaks w eid d k there said = λ soon.
     let deaf : w.agent.deaf ≤ 1 = leb-true w.agent.deaf 1 (subst (λ n. nat_le n 1 ≡ true) ((k.links eid d there).asking) soon) in
     let after : half_for (agent_ticks w.packages (w.now + 1) w.agent) eid ≡ Some (half_after_tick w.packages d.agent) =
     agent_ticks_at w.packages (w.now + 1) w.agent eid k.halves
-    ∙ ap (option_map (half_after_tick w.packages)) (link_half (half_for w.agent eid) (site_for w.sites eid) d there) in
+    ∙ ap (option_map (half_after_tick w.packages)) (link_half _ (half_for w.agent eid) (site_for w.sites eid) d there) in
     subst (λ o. IfSome o (HalfMaySpeak w.packages)) (sym (half_is_first (agent_ticks w.packages (w.now + 1) w.agent).halves eid) ∙ after)
     (first_fact half_peer (HalfMaySpeak w.packages) (agent_ticks w.packages (w.now + 1) w.agent).halves eid (said deaf))
 
@@ -106,7 +106,7 @@ site_speaks d (Some x) k said = subst (λ h. Speaks device_core h) k.0 (λ soon.
 
 device_speaks : (w : WorldOf) (eid : ℕ) (d : LinkOf) → link_at w eid ≡ Some d → AllByRecursion SiteSpeaks w.sites → Speaks device_core d.device
 device_speaks w eid d there said =
-    site_speaks d (site_for w.sites eid) (link_site (half_for w.agent eid) (site_for w.sites eid) d there)
+    site_speaks d (site_for w.sites eid) (link_site _ (half_for w.agent eid) (site_for w.sites eid) d there)
     (subst (λ o. IfSome o SiteSpeaks) (sym (site_is_first w.sites eid)) (first_fact site_eid SiteSpeaks w.sites eid said))
 
 -- ANY STEP

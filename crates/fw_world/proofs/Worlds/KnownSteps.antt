@@ -1,14 +1,12 @@
 -- What is known of the links' steps that a step of the world is.
-use Rattle.std.proofs.Common.{◌≡◌, ◌≤◌, ◌<◌, ◌+◌, ◌-◌, ◌^◌, ◌==◌, ℕ, Bool, true, false, if◌then◌else◌, is_some, nat_lt, List, Option, Some, None, IfSome, IsSomeAnd, inl, inr, refl, ap}
-use Rattle.std.proofs.lemmas.Bool.{cases_lt, le-ltb, lt-ltb}
+use Rattle.std.proofs.Common.{◌≡◌, ◌≤◌, ◌+◌, ℕ, Bool, if◌then◌else◌, is_some, nat_lt, List, Option, Some, None, IsSomeAnd, inl, inr, refl, ap}
+use Rattle.std.proofs.lemmas.Bool.{cases_lt, lt-ltb}
 use Rattle.exch_lane.specs.Lanes.{Sent, numbered}
 use Rattle.fw_package.specs.Package.{PackageText}
 use Rattle.fw_message.specs.declared.side.Side.{Side}
 use Rattle.fw_world.specs.LinkLaws.{MayHappen}
-use Rattle.fw_world.specs.Links.{LinkOf, LinkStep, LinkStepped, delivers_on, hears_on, link_after, link_ticks, unnoted}
-use Rattle.fw_world.specs.declared.step.Step.{Step}
-use Rattle.fw_world.specs.declared.step.Step.TheVariants as steps
-use Rattle.fw_world.proofs.Links.Projected.{StepsTo, comes_as, link_step, restart_as, where_mine}
+use Rattle.fw_world.specs.Links.{LinkOf, LinkStep, LinkStepped, delivers_on, hears_on, link_after}
+use Rattle.fw_world.proofs.Links.Projected.{StepsTo}
 
 -- a packet that came was alive
 alive : (now : ℕ) (p : Sent) (o : Option LinkStepped) (t : LinkStepped) → (if nat_lt (p.date + 8) now then None else o) ≡ Some t → now ≤ p.date + 8

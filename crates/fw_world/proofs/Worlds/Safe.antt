@@ -44,10 +44,10 @@ stand_along law lanes messages opening w v (s ∷ ss) k run = stand_along law la
 abbrev pub pair_of : LinkOf → PairOf
 pair_of l = pair_at l None None
 
-pub pair_linked : (o : Option (HalfOf TimedOf)) (s : Option SiteOf) → pair_with o s ≡ option_map pair_of (link_from o s)
-pair_linked None s = refl
-pair_linked (Some h) None = refl
-pair_linked (Some h) (Some x) = refl
+pub pair_linked : (since : ℕ) (o : Option (HalfOf TimedOf)) (s : Option SiteOf) → pair_with o s ≡ option_map pair_of (link_from since o s)
+pair_linked since None s = refl
+pair_linked since (Some h) None = refl
+pair_linked since (Some h) (Some x) = refl
 
 node_first : (ns : List NodeOf) (eid : ℕ) → node_at ns eid ≡ first_of eid_of ns eid
 node_first [] eid = refl
@@ -88,7 +88,7 @@ safe_by : (opening w : WorldOf) (eid : ℕ) (o : Option LinkOf) → IsOpeningWor
     → link_at opening eid ≡ o → SafeAt opening w eid (option_map pair_of o) (option_map pair_of (link_at w eid))
 safe_by opening w eid None is begins k safe e = tt
 safe_by opening w eid (Some first) is begins k safe e =
-    let at = site_stood opening eid (site_for opening.sites eid) refl (linked_site _ (site_for opening.sites eid) first e) in
+    let at = site_stood opening eid (site_for opening.sites eid) refl (linked_site _ _ (site_for opening.sites eid) first e) in
     let there : slice_get (eids_of w) at.place ≡ Some eid = ap (λ ks. slice_get ks at.place) k.devices ∙ at.at in
     let eids = opening_eids opening is in
     subst (λ o. SafeAt opening w eid (Some (pair_of first)) (option_map pair_of o)) (link_by_place w at.place eid k.halves k.apart.1 there)
@@ -98,8 +98,8 @@ safe_by opening w eid (Some first) is begins k safe e =
 
 is_safe : (opening w : WorldOf) → IsOpeningWorld opening → Stand opening opening → (k : Stand opening w) → AreSafeMessages (messages_of opening) k.messages → IsSafeWorld opening w
 is_safe opening w is begins k safe = λ eid.
-    subst (λ o. SafeAt opening w eid o (pair_for w eid)) (sym (pair_linked (half_for opening.agent eid) (site_for opening.sites eid)))
-    (subst (SafeAt opening w eid (option_map pair_of (link_at opening eid))) (sym (pair_linked (half_for w.agent eid) (site_for w.sites eid)))
+    subst (λ o. SafeAt opening w eid o (pair_for w eid)) (sym (pair_linked _ (half_for opening.agent eid) (site_for opening.sites eid)))
+    (subst (SafeAt opening w eid (option_map pair_of (link_at opening eid))) (sym (pair_linked _ (half_for w.agent eid) (site_for w.sites eid)))
     (safe_by opening w eid (link_at opening eid) is begins k safe refl))
 
 -- Every world to which steps lead from one as it is made is safe.

@@ -37,7 +37,7 @@ abbrev pub sites_for : List DeviceNodeOf → List SiteOf
 sites_for nodes = map new_site nodes
 
 abbrev pub links_for : ℕ → List DeviceNodeOf → List LinkOf
-links_for agent nodes = links_in (halves_for agent nodes) (sites_for nodes)
+links_for agent nodes = links_in 8 (halves_for agent nodes) (sites_for nodes)
 
 -- ONE NODE
 

@@ -143,7 +143,7 @@ own_after lanes works s w v k own f = λ i eid m e is.
 absent_by : (w v : WorldOf) (eid : ℕ) (o : Option LinkOf) → KnownLinks w → eids_of v ≡ eids_of w → link_at w eid ≡ None → link_at v eid ≡ o → o ≡ None
 absent_by w v eid None k same none e = refl
 absent_by w v eid (Some l) k same none e =
-    let at = site_stood v eid (site_for v.sites eid) refl (linked_site _ (site_for v.sites eid) l e) in
+    let at = site_stood v eid (site_for v.sites eid) refl (linked_site _ _ (site_for v.sites eid) l e) in
     let there : slice_get (eids_of w) at.place ≡ Some eid = ap (λ ks. slice_get ks at.place) (sym same) ∙ at.at in
     let some = link_there w at.place eid k there in
     let no : false ≡ true = sym (ap is_some (link_by_place w at.place eid k.halves k.apart.1 there ∙ none)) ∙ some in
@@ -214,7 +214,7 @@ pub stand_one : LinksAreLanes → LinksAreMessages → (opening w v : WorldOf) (
     → ((eid : ℕ) → eid ≢ own → link_step works w.agent.endpoint.eid s eid ≡ None) → Stand opening v
 stand_one lanes messages opening w v works s own l step k f time is mine soon alone others =
     let known = known_links opening w k in
-    let at = site_stood w own (site_for w.sites own) refl (linked_site _ (site_for w.sites own) l is) in
+    let at = site_stood w own (site_for w.sites own) refl (linked_site _ _ (site_for w.sites own) l is) in
     let said : CanBeSaid w.packages l step = subst (λ o. IfSome o (CanBeSaid w.packages l)) mine (f.said own l is) in
     let g = gone_to w.now w.packages l step (link_at v own) (subst (λ o. StepsTo w.now w.packages l o (link_at v own)) mine (f.goes own l is)) in
     let may : MayHappen w.now w.packages l step = may_happen w.now w.packages l step g.stepped g.goes in

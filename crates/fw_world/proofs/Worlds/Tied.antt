@@ -59,8 +59,8 @@ absent_link (Some l) e = absurd (cc)
 
 absent_pair : (opening w : WorldOf) (eid : ℕ) → Stand opening opening → Stand opening w → pair_for opening eid ≡ None → pair_for w eid ≡ None
 absent_pair opening w eid begins k none =
-    let first : link_at opening eid ≡ None = absent_link (link_at opening eid) (sym (pair_linked (half_for opening.agent eid) (site_for opening.sites eid)) ∙ none) in
-    pair_linked (half_for w.agent eid) (site_for w.sites eid)
+    let first : link_at opening eid ≡ None = absent_link (link_at opening eid) (sym (pair_linked _ (half_for opening.agent eid) (site_for opening.sites eid)) ∙ none) in
+    pair_linked _ (half_for w.agent eid) (site_for w.sites eid)
     ∙ ap (option_map pair_of) (stays_absent opening w eid (known_links opening opening begins) k.devices first)
 
 pub runs_join : RunsJoin

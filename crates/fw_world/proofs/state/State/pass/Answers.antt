@@ -1,4 +1,4 @@
-use Rattle.std.proofs.Common.{◌∙◌, ap, subst}
+use Rattle.std.proofs.Common.{◌∙◌, ap, subst, sym}
 use Rattle.std.proofs.lemmas.List.{with_items_is}
 use Rattle.std.specs.Vec.{with_items}
 use Rattle.std.specs.List.{AllByRecursion}
@@ -16,3 +16,6 @@ returns-clause-sites g c =
     subst (AllByRecursion SiteSpeaks) (c.make_room.ensures.same ∙ ap sites_of c.as_mut_slice.ensures.value ∙ ap (λ w. w.sites) c.self.view_is)
     (speak_before c.args.time (sites_of c.make_room.new.sites) c.on_tick.new.outbox
     (subst (AllByRecursion SiteSpeaks) posted (rw second at c.tick_all.ensures.spoken)))
+
+pub returns-clause-agent : goal.returns-clause-agent
+returns-clause-agent g c = rw (sym c.self.view_is) c.on_tick.ensures.spoken
