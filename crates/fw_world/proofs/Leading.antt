@@ -13,13 +13,13 @@ use Rattle.fw_package.specs.Package.{PackageText}
 use Rattle.ua_core.specs.Session.{SessionOf}
 use Rattle.fw_message.specs.History.{EntryOf}
 use Rattle.fw_message.specs.Worlds.{NotedOf, noted_of}
-use Rattle.fw_node.specs.Agents.{AgentOf, HalfMaySpeak, activates, agent_becomes, agent_restarts, cancels, hearer, ready_for, starts}
+use Rattle.fw_node.specs.Agents.{AgentOf, activates, agent_becomes, agent_restarts, cancels, hearer, ready_for, starts}
 use Rattle.fw_node.specs.Cores.{session_core}
 use Rattle.fw_node.specs.Halves.{half_hears}
 use Rattle.fw_node.specs.Nodes.{IsTold, device_hears, device_judges}
 use Rattle.fw_node.specs.Packets.{all_packets}
 use Rattle.fw_world.specs.Deliveries.{ComesTo, IsJudged}
-use Rattle.fw_world.specs.Replays.{CanBeSaidBy, IsToldBy, IsToldTo, Leads, SiteSpeaks, faults_before, faults_of, has_session, is_package, may_step, ready_fault, start_fault}
+use Rattle.fw_world.specs.Replays.{AgentSpeaksIn, CanBeSaidBy, IsToldBy, IsToldTo, Leads, SiteSpeaksIn, faults_before, faults_of, has_session, is_package, may_step, ready_fault, start_fault, tick_fault}
 use Rattle.fw_world.specs.Worlds.{SiteOf, WorldOf, activated_at, activates_on, asks_log, at_agent, at_device, calls, comes, delivers, judges, node_becomes, packets_of, place_of, sent_now, site_at, site_for, site_restarts, ticks, world_after}
 use Rattle.fw_world.specs.declared.step.Step.{Step}
 use Rattle.fw_world.specs.declared.step.Step.TheVariants as steps
@@ -35,10 +35,12 @@ differs a b e = elim (eqb_tells a b) [ inl same ↦ absurd (e same.1) | inr othe
 leads : (w v : WorldOf) (s : Step) → may_step w s ≡ None → v ≡ world_after true (faults_before w s) w s → CanBeSaidBy true w s → Leads w s v
 leads w v s may after said = record { may = may; works = true; faults = faults_before w s; after = after; worked = λ e. refl; failed = λ e. absurd (cc); said = said }
 
-pub tick_leads : (w v : WorldOf) → may_step w steps.Tick ≡ None → v ≡ ticks w
-    → (w.agent.deaf ≤ 1 → AllByRecursion (HalfMaySpeak w.packages) v.agent.halves) → AllByRecursion SiteSpeaks w.sites → Leads w steps.Tick v
-tick_leads w v may after agent sites =
-    leads w v steps.Tick may after (λ soon. subst (λ x. AllByRecursion (HalfMaySpeak w.packages) x.agent.halves) after (agent soon), sites)
+pub tick_goes : {known soon may : Bool} → known ≡ true → soon ≡ true → may ≡ true → tick_fault known soon may ≡ None
+tick_goes e f g = rw (e, f, g) refl
+
+pub tick_leads : (w v : WorldOf) (missed : ArrayVec ℕ 17 (Unit {0})) → may_step w (steps.Tick missed) ≡ None → v ≡ ticks missed.items w
+    → AgentSpeaksIn missed.items w → AllByRecursion (SiteSpeaksIn missed.items) w.sites → Leads w (steps.Tick missed) v
+tick_leads w v missed may after agent sites = leads w v (steps.Tick missed) may after (agent, sites)
 
 pub start_leads : (w v : WorldOf) (device number : ℕ) → may_step w (steps.Start device number) ≡ None → v ≡ calls w device (λ h. starts w.packages h number) → Leads w (steps.Start device number) v
 start_leads w v device number may after = leads w v (steps.Start device number) may after tt

@@ -14,4 +14,5 @@ mod Recording
 mod Rooms
 mod Running
 mod Ticking
+mod Timely
 mod Worlds

@@ -2,6 +2,7 @@
 pub mod AgentArrivals
 pub mod AgentTicks
 pub mod Arrivals
+pub mod Beats
 pub mod Comings
 pub mod Delivered
 pub mod Firsts

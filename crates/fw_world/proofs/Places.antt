@@ -2,10 +2,10 @@
 use Rattle.std.proofs.Common.{◌≡◌, ◌≤◌, ◌<◌, ◌+◌, ◌∙◌, ℕ, zero, suc, List, [], ◌∷◌, ◌++◌, drop, get_or, length, map, slice_get, slice_set, take, true, Option, Some, None, refl, sym, ap, subst, arith}
 use Rattle.std.proofs.lemmas.List.{drop-set-lt, map-set, take_more}
 use Rattle.std.specs.List.{AllByRecursion}
-use Rattle.fw_world.specs.Replays.{SiteSpeaks}
+use Rattle.fw_world.specs.Replays.{SiteSpeaksIn}
 use Rattle.exch_lane.specs.Steps.{sent_at}
 use Rattle.fw_world.specs.Sites.{HaveRoom, RoomyOf, sites_of}
-use Rattle.fw_world.specs.Worlds.{SiteOf, place_for, place_of, post, post_at, posts, site_at, site_for, site_restarts}
+use Rattle.fw_world.specs.Worlds.{SiteOf, counts, place_for, place_of, post, post_at, posts, site_at, site_for, site_restarts}
 use Rattle.fw_node.specs.Cores.{device_core}
 use Rattle.fw_node.specs.Halves.{half_ticks}
 use Rattle.fw_node.specs.Nodes.{MaySpeak, device_restarts}
@@ -91,9 +91,10 @@ all_more : {X : Type 0} (P : X → Type 0) (xs : List X) (x : X) → AllByRecurs
 all_more P [] x h new = (new, tt)
 all_more P (y ∷ xs) x h new = (h.0, all_more P xs x h.1 new)
 
-pub spoken_more : (xs : List SiteOf) (i : ℕ) (x : SiteOf) → i < length xs → x ≡ get_or xs i x → AllByRecursion SiteSpeaks (take i xs) → SiteSpeaks x → AllByRecursion SiteSpeaks (take (i + 1) xs)
-spoken_more xs i x lt is h new =
-    subst (AllByRecursion SiteSpeaks) (sym (take_more xs i x lt)) (all_more SiteSpeaks (take i xs) (get_or xs i x) h (subst SiteSpeaks is new))
+pub spoken_more : (missed : List ℕ) (xs : List SiteOf) (i : ℕ) (x : SiteOf) → i < length xs → x ≡ get_or xs i x → AllByRecursion (SiteSpeaksIn missed) (take i xs) → SiteSpeaksIn missed x
+    → AllByRecursion (SiteSpeaksIn missed) (take (i + 1) xs)
+spoken_more missed xs i x lt is h new =
+    subst (AllByRecursion (SiteSpeaksIn missed)) (sym (take_more xs i x lt)) (all_more (SiteSpeaksIn missed) (take i xs) (get_or xs i x) h (subst (SiteSpeaksIn missed) is new))
 
 -- packets change no node
 same_nodes : (xs : List SiteOf) (i : ℕ) (x y : SiteOf) → slice_get xs i ≡ Some x → y.node ≡ x.node → map (λ s. s.node) (slice_set xs i y) ≡ map (λ s. s.node) xs
@@ -110,13 +111,13 @@ pub posts_nodes : (now : ℕ) (xs : List SiteOf) (packets : List (List ℕ)) →
 posts_nodes now xs [] = refl
 posts_nodes now xs (p ∷ packets) = posts_nodes now (post now xs p) packets ∙ posted_at now xs p (place_for xs p) (site_at xs (place_for xs p)) refl
 
-speak_as : (xs ys : List SiteOf) → map (λ s. s.node) ys ≡ map (λ s. s.node) xs → AllByRecursion SiteSpeaks ys → AllByRecursion SiteSpeaks xs
-speak_as [] ys e h = tt
-speak_as (x ∷ xs) [] e h = absurd (cc)
-speak_as (x ∷ xs) (y ∷ ys) e h =
+speak_as : (missed : List ℕ) (xs ys : List SiteOf) → map (λ s. s.node) ys ≡ map (λ s. s.node) xs → AllByRecursion (SiteSpeaksIn missed) ys → AllByRecursion (SiteSpeaksIn missed) xs
+speak_as missed [] ys e h = tt
+speak_as missed (x ∷ xs) [] e h = absurd (cc)
+speak_as missed (x ∷ xs) (y ∷ ys) e h =
     let here : y.node ≡ x.node = cc in
     let rest : map (λ s. s.node) ys ≡ map (λ s. s.node) xs = cc in
-    (subst (λ n. n.half.asker.deaf ≤ 1 → MaySpeak device_core (half_ticks device_core true n.half).half.core) here h.0, speak_as xs ys rest h.1)
+    (subst (λ n. counts missed n.endpoint.eid ≡ true → n.half.asker.deaf ≤ 1 → MaySpeak device_core (half_ticks device_core true n.half).half.core) here h.0, speak_as missed xs ys rest h.1)
 
-pub speak_before : (now : ℕ) (xs : List SiteOf) (packets : List (List ℕ)) → AllByRecursion SiteSpeaks (posts now xs packets) → AllByRecursion SiteSpeaks xs
-speak_before now xs packets h = speak_as xs (posts now xs packets) (posts_nodes now xs packets) h
+pub speak_before : (missed : List ℕ) (now : ℕ) (xs : List SiteOf) (packets : List (List ℕ)) → AllByRecursion (SiteSpeaksIn missed) (posts now xs packets) → AllByRecursion (SiteSpeaksIn missed) xs
+speak_before missed now xs packets h = speak_as missed xs (posts now xs packets) (posts_nodes now xs packets) h

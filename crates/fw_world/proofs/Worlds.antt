@@ -1,5 +1,6 @@
 -- Why a run of the packet world is one over whole messages, and so keeps what these keep.
 pub mod AsMessages
+pub mod Clocks
 pub mod Grown
 pub mod HistoryAgent
 pub mod HistoryDelivered

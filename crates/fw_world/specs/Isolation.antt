@@ -1,5 +1,5 @@
 -- Isolation: what is between the agent and one device depends on no other device.
-use Rattle.std.specs.Prelude.{ℕ, ◌≡◌, ◌≢◌, ◌≤◌, ◌-◌, ◌^◌, ◌==◌, ◌&&◌, ◌||◌, Bool, true, false, List, Option, Some, None}
+use Rattle.std.specs.Prelude.{ℕ, ◌≡◌, ◌≢◌, ◌≤◌, ◌-◌, ◌^◌, ◌==◌, ◌&&◌, ◌||◌, Bool, true, false, List, map, Option, Some, None}
 use Rattle.std.specs.List.{filter}
 use Rattle.exch_lane.specs.Lanes.{Sent}
 use Rattle.ua_core.specs.Session.{TimedOf}
@@ -9,7 +9,7 @@ use Rattle.fw_node.specs.Agents.{half_for}
 use Rattle.fw_node.specs.Halves.{HalfOf}
 use Rattle.fw_node.specs.Nodes.{DeviceNodeOf}
 use Rattle.fw_world.specs.Replays.{IsOpeningWorld, Run, faults_of}
-use Rattle.fw_world.specs.Worlds.{SiteOf, WorldOf, site_for}
+use Rattle.fw_world.specs.Worlds.{SiteOf, WorldOf, counts, site_for}
 use Rattle.fw_world.specs.declared.step.Step.{Step}
 use Rattle.fw_world.specs.declared.step.Step.TheVariants as steps
 
@@ -59,7 +59,7 @@ pub record AgreeIn (device : ℕ) (w v : WorldOf) : Type 0 where
 -- for this device; a verdict on what it has written; and a restart of it or of the agent.
 abbrev pub concerns : (agent device : ℕ) → Step → Bool
 concerns agent device (steps.Deliver d number node) = (d == device) && ((node == agent) || (node == device))
-concerns agent device steps.Tick = true
+concerns agent device (steps.Tick missed) = true
 concerns agent device (steps.Start d number) = d == device
 concerns agent device (steps.Cancel d) = d == device
 concerns agent device (steps.Activate d) = d == device
@@ -67,9 +67,18 @@ concerns agent device (steps.Verdict d verdict) = d == device
 concerns agent device (steps.Restart node) = (node == agent) || (node == device)
 concerns agent device (steps.Sel bytes) = false
 
--- those of a schedule, in order
-abbrev pub steps_of : WorldOf → (device : ℕ) → List Step → List Step
-steps_of w device ss = filter (concerns w.agent.endpoint.eid device) ss
+-- What of it matters to the device: of a tick whether the agent and the device count it, of any other step all.
+pub data ConcernOf : Type 0 where
+  Passes : (agent device : Bool) → ConcernOf
+  Takes : (step : Step) → ConcernOf
+
+abbrev pub concern_of : (agent device : ℕ) → Step → ConcernOf
+concern_of agent device (steps.Tick missed) = ConcernOf.Passes (counts missed.items agent) (counts missed.items device)
+concern_of agent device s = ConcernOf.Takes s
+
+-- that of the steps of a schedule that concern it, in order
+abbrev pub steps_of : WorldOf → (device : ℕ) → List Step → List ConcernOf
+steps_of w device ss = map (concern_of w.agent.endpoint.eid device) (filter (concerns w.agent.endpoint.eid device) ss)
 
 -- a device's bank's count of failures
 abbrev pub faults_at : WorldOf → (device : ℕ) → ℕ
@@ -88,7 +97,7 @@ pub record IsReached (w : WorldOf) : Type 0 where
   pub opens : IsOpeningWorld opening
   pub run : Run opening before w
 
--- Two runs, each from wherever steps led: from worlds that agree in a device, with the same steps that concern it, and where
+-- Two runs, each from wherever steps led: from worlds that agree in a device, where the same of their steps matters to it, and where
 -- no call of its bank failed, they lead to worlds that agree in it.
 abbrev pub DevicesAreIsolated : Type 0
 DevicesAreIsolated =

@@ -1,7 +1,8 @@
 -- Replays: which steps may be taken, and runs of the packet world.
 use Rattle.std.specs.Prelude.{ℕ, ◌≡◌, ◌≢◌, ◌≤◌, ◌⊎◌, ◌+◌, ◌-◌, ◌^◌, ◌==◌, ◌&&◌, ◌||◌, ◌∷◌, [], Bool, true, false, if◌then◌else◌, nat_lt, nat_le, IfSome, is_some, List, length, map, Option, Some, None}
-use Rattle.std.specs.List.{All, AllByRecursion}
+use Rattle.std.specs.List.{All, AllByRecursion, list_all}
 use Rattle.mctp_ctl.specs.declared.answers.Endpoint.{Endpoint}
+use Rattle.exch_lane.specs.Clocks.{may_beat}
 use Rattle.exch_lane.specs.Lanes.{IsEid, Sent, lives_until, numbered}
 use Rattle.fw_package.specs.Package.{PackageText}
 use Rattle.fd_core.specs.Banks.{Rose}
@@ -15,7 +16,7 @@ use Rattle.fw_node.specs.Agents.{HalfMaySpeak, agent_ticks, free_for, half_for, 
 use Rattle.fw_node.specs.Cores.{device_core, session_core}
 use Rattle.fw_node.specs.Halves.{half_hears, half_ticks}
 use Rattle.fw_node.specs.Nodes.{DeviceNodeOf, IsTold, MaySpeak, new_device_node}
-use Rattle.fw_world.specs.Worlds.{SiteOf, WorldOf, packets_of, site_for, world_after}
+use Rattle.fw_world.specs.Worlds.{SiteOf, WorldOf, counts, packets_of, site_for, world_after}
 use Rattle.fw_world.specs.declared.step.Refusal.TheVariants as refusals
 use Rattle.fw_world.specs.declared.step.Step.{Step}
 use Rattle.fw_world.specs.declared.step.Step.TheVariants as steps
@@ -63,11 +64,25 @@ verdict_fault verdict None = Some faults.NoSuchNode
 verdict_fault verdict (Some x) =
     if is_some (device_verdict x.node.half.core.device verdict true) then None else Some (faults.Refused refusals.NotNow)
 
+-- A node misses a tick only where it has counted eight since the last that it missed.
+abbrev pub may_site_beat : (missed : List ℕ) → SiteOf → Bool
+may_site_beat missed x = may_beat (counts missed x.node.endpoint.eid) x.since_miss
+
+abbrev pub may_all_beat : (missed : List ℕ) → WorldOf → Bool
+may_all_beat missed w = may_beat (counts missed w.agent.endpoint.eid) w.since_miss && list_all (may_site_beat missed) w.sites
+
+-- where those that miss a tick are known, the clock isn't at its end, and each of them may miss it
+abbrev pub tick_fault : (known soon may : Bool) → Option StepFault
+tick_fault false soon may = Some faults.NoSuchNode
+tick_fault true false may = Some (faults.Refused refusals.ClockEnd)
+tick_fault true true false = Some (faults.Refused refusals.ClockSlow)
+tick_fault true true true = None
+
 -- Why a step may not be taken; None where it may.
 abbrev pub may_step : WorldOf → Step → Option StepFault
 may_step w (steps.Deliver device number node) =
     where_known (is_device w device && is_node w node) (packet_fault w.now (numbered (packets_of w device) number))
-may_step w steps.Tick = if nat_lt w.now (2 ^ 32 - 1) then None else Some (faults.Refused refusals.ClockEnd)
+may_step w (steps.Tick missed) = tick_fault (list_all (is_node w) missed.items) (nat_lt w.now (2 ^ 32 - 1)) (may_all_beat missed.items w)
 may_step w (steps.Start device number) = start_fault (is_package w.packages number) (free_for w.agent device)
 may_step w (steps.Cancel device) = where_known (has_session w device) None
 may_step w (steps.Activate device) = where_known (has_session w device) (ready_fault (ready_for w.agent device))
@@ -78,7 +93,7 @@ may_step w (steps.Sel bytes) = None
 -- a step that adds packets, entries of the history or records of a session needs memory for them
 abbrev pub needs_memory : Step → Bool
 needs_memory (steps.Deliver device number node) = true
-needs_memory steps.Tick = true
+needs_memory (steps.Tick missed) = true
 needs_memory (steps.Start device number) = true
 needs_memory (steps.Verdict device verdict) = true
 needs_memory s = false
@@ -91,7 +106,7 @@ faults_of (Some x) = x.node.faults
 -- the node of a step
 abbrev pub node_of : Step → ℕ
 node_of (steps.Deliver device number node) = node
-node_of steps.Tick = 0
+node_of (steps.Tick missed) = 0
 node_of (steps.Start device number) = device
 node_of (steps.Cancel device) = device
 node_of (steps.Activate device) = device
@@ -115,11 +130,17 @@ IsToldBy works w node (Some p) = IsToldTo (node == w.agent.endpoint.eid) works w
 abbrev pub SiteSpeaks : SiteOf → Type 0
 SiteSpeaks x = x.node.half.asker.deaf ≤ 1 → MaySpeak device_core (half_ticks device_core true x.node.half).half.core
 
+abbrev pub SiteSpeaksIn : (missed : List ℕ) → SiteOf → Type 0
+SiteSpeaksIn missed x = counts missed x.node.endpoint.eid ≡ true → SiteSpeaks x
+
+abbrev pub AgentSpeaksIn : (missed : List ℕ) → WorldOf → Type 0
+AgentSpeaksIn missed w =
+    counts missed w.agent.endpoint.eid ≡ true → w.agent.deaf ≤ 1
+    → AllByRecursion (HalfMaySpeak w.packages) (agent_ticks w.packages (w.now + 1) w.agent).halves
+
 abbrev pub CanBeSaidBy : (works : Bool) → WorldOf → Step → Type 0
 CanBeSaidBy works w (steps.Deliver device number node) = IsToldBy works w node (numbered (packets_of w device) number)
-CanBeSaidBy works w steps.Tick =
-    (w.agent.deaf ≤ 1 → AllByRecursion (HalfMaySpeak w.packages) (agent_ticks w.packages (w.now + 1) w.agent).halves)
-    × AllByRecursion SiteSpeaks w.sites
+CanBeSaidBy works w (steps.Tick missed) = AgentSpeaksIn missed.items w × AllByRecursion (SiteSpeaksIn missed.items) w.sites
 CanBeSaidBy works w s = Unit {0}
 
 -- A step leads from one world to another: it may be taken, and a call of a bank fails only where that bank's count of

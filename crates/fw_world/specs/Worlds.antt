@@ -1,6 +1,7 @@
 -- The packet world: an agent, its devices, every packet that was ever sent between them, and what happened. What a step makes
 -- of it is what the step's node makes of it. A packet stays after it came, so that it may come again, later, or never.
-use Rattle.std.specs.Prelude.{ℕ, ◌+◌, ◌==◌, ◌∷◌, ◌++◌, [], Bool, true, if◌then◌else◌, List, length, map, option_to_list, slice_get, slice_set, Option, Some, None, Result, Ok, Err}
+use Rattle.std.specs.Prelude.{ℕ, ◌+◌, ◌==◌, ◌∷◌, ◌++◌, [], Bool, true, false, not, if◌then◌else◌, List, length, map, option_to_list, slice_get, slice_set, Option, Some, None, Result, Ok, Err}
+use Rattle.std.specs.List.{list_any}
 use Rattle.mctp_wire.specs.Packet as wire
 use Rattle.mctp_wire.specs.declared.fault.WireFault.{WireFault}
 use Rattle.mctp_wire.specs.declared.layout.Head.{Head}
@@ -154,7 +155,11 @@ packets_at (Some x) = x.packets
 abbrev pub packets_of : WorldOf → ℕ → List Sent
 packets_of w device = packets_at (site_for w.sites device)
 
--- A tick: the time rises, the agent ticks, and then the devices in their order; what they send is dated with the new time.
+-- A node counts a tick, unless it is one of these.
+abbrev pub counts : (missed : List ℕ) → (eid : ℕ) → Bool
+counts missed eid = not (list_any (λ m. m == eid) missed)
+
+-- A node that counts a tick does its parts; what it sends is dated with the new time. One that misses it does nothing.
 abbrev pub site_ticks : (now : ℕ) → SiteOf → SiteOf
 site_ticks now x =
     record {
@@ -163,14 +168,33 @@ site_ticks now x =
       packets = x.packets ++ sent_now now (all_packets (half_ticks device_core true x.node.half).sent);
     }
 
-abbrev pub ticks : WorldOf → WorldOf
-ticks w =
+abbrev pub site_passes : (counts : Bool) → (now : ℕ) → SiteOf → SiteOf
+site_passes true now x = site_ticks now x
+site_passes false now x = record x { since_miss = since_after false x.since_miss }
+
+abbrev pub site_goes_on : (missed : List ℕ) → (now : ℕ) → SiteOf → SiteOf
+site_goes_on missed now x = site_passes (counts missed x.node.endpoint.eid) now x
+
+abbrev pub agent_passes : (counts : Bool) → List PackageText → (now : ℕ) → AgentOf → AgentOf
+agent_passes true packages now n = agent_ticks packages now n
+agent_passes false packages now n = n
+
+abbrev pub agent_pass_sends : (counts : Bool) → List PackageText → AgentOf → List (List ℕ)
+agent_pass_sends true packages n = agent_tick_sends packages n
+agent_pass_sends false packages n = []
+
+-- A tick: the time rises by a unit, then those that count it tick: the agent, and then the devices in their order.
+abbrev pub ticks_by : (agent : Bool) → (missed : List ℕ) → WorldOf → WorldOf
+ticks_by agent missed w =
     record w {
       now = w.now + 1;
-      agent = agent_ticks w.packages (w.now + 1) w.agent;
-      since_miss = since_after true w.since_miss;
-      sites = map (site_ticks (w.now + 1)) (posts (w.now + 1) w.sites (agent_tick_sends w.packages w.agent));
+      agent = agent_passes agent w.packages (w.now + 1) w.agent;
+      since_miss = since_after agent w.since_miss;
+      sites = map (site_goes_on missed (w.now + 1)) (posts (w.now + 1) w.sites (agent_pass_sends agent w.packages w.agent));
     }
+
+abbrev pub ticks : (missed : List ℕ) → WorldOf → WorldOf
+ticks missed w = ticks_by (counts missed w.agent.endpoint.eid) missed w
 
 -- The operator calls the agent.
 abbrev pub calls : WorldOf → (device : ℕ) → (HalfOf TimedOf → HalfOf TimedOf) → WorldOf
@@ -217,7 +241,7 @@ asks_log w (command ∷ bytes) =
 abbrev pub world_after : (works : Bool) → (faults : ℕ) → WorldOf → Step → WorldOf
 world_after works faults w (steps.Deliver device number node) =
     delivers works faults w node (numbered (packets_of w device) number)
-world_after works faults w steps.Tick = ticks w
+world_after works faults w (steps.Tick missed) = ticks missed.items w
 world_after works faults w (steps.Start device number) = calls w device (λ h. starts w.packages h number)
 world_after works faults w (steps.Cancel device) = calls w device (cancels w.packages)
 world_after works faults w (steps.Activate device) =

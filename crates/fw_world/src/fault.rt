@@ -20,6 +20,7 @@ impl StepFault {
             StepFault::Refused(Refusal::NotNow) => "Refused:NotNow",
             StepFault::Refused(Refusal::NoSuchPackage) => "Refused:NoSuchPackage",
             StepFault::Refused(Refusal::ClockEnd) => "Refused:ClockEnd",
+            StepFault::Refused(Refusal::ClockSlow) => "Refused:ClockSlow",
             StepFault::Memory => "Memory",
         }
     }

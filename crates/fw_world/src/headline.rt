@@ -1,5 +1,6 @@
 //! What is promised of the packet world.
 
+ghost use Rattle.fw_world.specs.Clocks.{RunsKeepTime};
 ghost use Rattle.fw_world.specs.Messages.{RunsAreMessages};
 ghost use Rattle.fw_world.specs.Moments.{RunsGrow, RunsJoin, RunsStayTied};
 ghost use Rattle.fw_world.specs.Safety.{WorldsAreSafe};
@@ -41,6 +42,17 @@ pub fn packets_are_messages()
     ensures law { RunsAreMessages }
 {
     exch_lane::lane_is_a_cell();
+    links_are_lanes();
+    links_are_messages();
+}
+
+/// How clocks go: between any two moments of a run a node counts at most as many ticks as units of time pass, and these are at
+/// most its ticks, an eighth of them, rounded down, and one.
+pub fn clocks_keep_time()
+    ensures law { RunsKeepTime }
+{
+    exch_lane::lane_is_a_cell();
+    exch_lane::time_adds_up();
     links_are_lanes();
     links_are_messages();
 }

@@ -13,16 +13,17 @@ mod site;
 mod sites;
 mod state;
 mod step;
+mod ticks;
 mod world;
 
 pub use fw_message::{
     Entry, Event, Held, Image, MessageStep, MessageStepFault, MessageWorld, Side, Way,
     message_replay, messages_are_safe, runs_stay_tied, worlds_are_safe,
 };
-pub use headline::{moments_are_tied, packets_are_messages, packets_are_safe};
+pub use headline::{clocks_keep_time, moments_are_tied, packets_are_messages, packets_are_safe};
 pub use isolation::{devices_are_isolated, replay_two};
 pub use joined::links_are_messages;
 pub use laws::links_are_lanes;
 pub use replays::replay;
-pub use step::{LogRequest, Refusal, Step, StepFault};
+pub use step::{LogRequest, Missed, Refusal, Step, StepFault};
 pub use world::World;

@@ -1,14 +1,15 @@
 //! Replays of steps of the packet world.
 
-ghost use Rattle.std.specs.Prelude.{◌≡◌, ◌<◌, IfErr, IfSome, List, OnOk, length, slice_get, take};
+ghost use Rattle.std.specs.Prelude.{◌≡◌, ◌<◌, IfErr, IfSome, List, OnOk, length, slice_get, take, true, ℕ};
+ghost use Rattle.fw_world.specs.Clocks.{KeepsTime};
 ghost use Rattle.fw_world.specs.Moments.{IsGrown, IsTiedBetween};
 ghost use Rattle.fw_world.specs.Promises.{IsPromised};
-ghost use Rattle.fw_world.specs.Replays.{IsLed, IsOpeningWorld, Refuses, Run};
+ghost use Rattle.fw_world.specs.Replays.{IsLed, IsOpeningWorld, Refuses, Run, is_node};
 ghost use Rattle.fw_world.specs.Safety.{IsSafeWorld};
 ghost use Rattle.fw_world.specs.Worlds.{WorldOf};
 ghost use Rattle.fw_world.specs.declared.step.Step.{Step};
 
-use crate::headline::{moments_are_tied, packets_are_safe};
+use crate::headline::{clocks_keep_time, moments_are_tied, packets_are_safe};
 use crate::step::{Step, StepFault};
 use crate::world::World;
 use fd_core::Bank;
@@ -19,11 +20,13 @@ use fd_core::Bank;
 /// application of its own before it. It is tied: what runs on a device and what the agent has recorded are what the history says.
 /// And steps over whole messages lead to the same devices, sessions and history (`promised`). So it is between the moments before
 /// and after the call: the history has only grown, and what runs, what is applied and what is recorded are those of before, with
-/// what happened since (`grown`, `tied`); and so it is at each two moments of the run that led there (`moments`).
+/// what happened since (`grown`, `tied`); and so it is at each two moments of the run that led there (`moments`). Each node keeps
+/// time: it counts at most as many ticks as units of time pass, and these are at most its ticks, an eighth of them and one, in this
+/// call (`clocks`, `clocks_stopped`) and between any two moments (`time`).
 ///
 /// # Errors
 /// The number of the step that isn't taken, counted from 0, and why: `NoSuchNode`, then `NoSuchPacket`, then `Dead`; for the
-/// operator's calls `NoSuchPackage` before `Busy`, and `NotReady`; `NotNow` for a verdict, `ClockEnd` for a tick; and `Memory` for
+/// operator's calls `NoSuchPackage` before `Busy`, and `NotReady`; `NotNow` for a verdict; `NoSuchNode`, `ClockEnd`, `ClockSlow` for a tick; and `Memory` for
 /// a step that might be taken. The world is then the one after the steps before it.
 pub fn replay<B: Bank + Drop>(
     world: &mut World<'_, B>,
@@ -34,10 +37,14 @@ pub fn replay<B: Bank + Drop>(
     ensures grown { IsGrown world.old world.new }
     ensures tied { IsTiedBetween world.old world.new }
     ensures moments { (opening earlier later : WorldOf) (before between after : List Step) → IsOpeningWorld opening → Run opening before earlier → Run earlier between later → Run later after world.new → IsSafeWorld opening later × IsTiedBetween earlier later }
+    ensures clocks { OnOk result ((eid : ℕ) → is_node world.old eid ≡ true → KeepsTime eid steps.now) }
+    ensures clocks_stopped { IfErr result (λ e. (eid : ℕ) → is_node world.old eid ≡ true → KeepsTime eid (take e.0 steps.now)) }
+    ensures time { (opening earlier later : WorldOf) (before between after : List Step) → IsOpeningWorld opening → Run opening before earlier → Run earlier between later → Run later after world.new → (eid : ℕ) → is_node earlier eid ≡ true → KeepsTime eid between }
     ensures promised { IsPromised world.new }
 {
     packets_are_safe();
     moments_are_tied();
+    clocks_keep_time();
     world.is_promised();
     let taken = take_all(world, steps);
     world.is_promised();

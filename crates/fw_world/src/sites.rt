@@ -1,12 +1,12 @@
 //! The nodes of all devices in the world, in their order.
 
 ghost use Rattle.std.specs.Prelude.{[], ◌≡◌, ◌≤◌, ◌<◌, ◌+◌, ◌⊎◌, IfErr, IfOk, IfSome, None, OnErr, OnOk, Some, ℕ, length, map, option_map, slice_get};
-ghost use Rattle.std.specs.List.{AllByRecursion};
+ghost use Rattle.std.specs.List.{AllByRecursion, list_all};
 ghost use Rattle.fd_core.specs.Components.{HasComponents};
 ghost use Rattle.fw_message.specs.Entries.{entry_of};
-ghost use Rattle.fw_world.specs.Replays.{SiteSpeaks, new_site, verdict_fault};
+ghost use Rattle.fw_world.specs.Replays.{SiteSpeaksIn, may_site_beat, new_site, verdict_fault};
 ghost use Rattle.fw_world.specs.Sites.{HaveRoom, HeardAt, JudgedAt, sites_of};
-ghost use Rattle.fw_world.specs.Worlds.{place_for, place_of, post, posts, site_at, site_for, site_restarts, site_ticks};
+ghost use Rattle.fw_world.specs.Worlds.{place_for, place_of, post, posts, site_at, site_for, site_goes_on, site_restarts};
 
 use crate::site::Site;
 use crate::step::StepFault;
@@ -127,18 +127,30 @@ fn place_for<B: Bank>(sites: &[Site<B>], packet: &[u8]) -> Option<usize>
     place_of(sites, *dest)
 }
 
-/// A tick passes for all devices; what they send is dated now.
-pub(crate) fn tick_all<B: Bank>(sites: &mut [Site<B>], now: u32, outbox: &mut Outbox)
+/// A tick passes, which all devices but these count; what they send is dated now.
+pub(crate) fn pass_all<B: Bank>(sites: &mut [Site<B>], missed: &[u8], now: u32, outbox: &mut Outbox)
     requires room { HaveRoom 64 sites.old }
     requires outbox { outbox.old ≡ [] }
-    ensures sites { sites_of sites.new ≡ map (site_ticks now) (sites_of sites.old) }
+    ensures sites { sites_of sites.new ≡ map (site_goes_on missed.now now) (sites_of sites.old) }
     ensures outbox { outbox.new ≡ [] }
-    ensures spoken { AllByRecursion SiteSpeaks (sites_of sites.old) }
+    ensures spoken { AllByRecursion (SiteSpeaksIn missed.now) (sites_of sites.old) }
     ensures count { length sites.new ≡ length sites.old }
 {
     for site in sites.iter_mut() {
-        site.tick(now, outbox);
+        site.pass(missed, now, outbox);
     }
+}
+
+/// Whether each device that misses a tick may miss it.
+pub(crate) fn may_all_beat<B: Bank>(sites: &[Site<B>], missed: &[u8]) -> bool
+    ensures { result ≡ list_all (may_site_beat missed.now) (sites_of sites.now) }
+{
+    for site in sites {
+        if !site.may_beat(missed) {
+            return false;
+        }
+    }
+    true
 }
 
 /// The node at a place hears the bytes of a packet; what it sends is dated now, and what it activates is noted.

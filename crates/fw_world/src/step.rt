@@ -3,6 +3,9 @@
 use arrayvec::ArrayVec;
 use fd_core::Verdict;
 
+/// The nodes that miss a tick, by their endpoint identifiers: the agent and up to 16 devices. One that stands twice misses it once.
+pub type Missed = ArrayVec<u8, 17>;
+
 /// The bytes of a request of the event log (IPMI 2.0, section 31): its command, then its data.
 pub type LogRequest = ArrayVec<u8, 64>;
 
@@ -12,8 +15,8 @@ pub type LogRequest = ArrayVec<u8, 64>;
 pub enum Step {
     /// A packet that was sent between the agent and a device comes to a node: the device, the packet's number, the node.
     Deliver(u8, usize, u8),
-    /// A tick passes.
-    Tick,
+    /// A unit of time passes. All nodes but these count it as a tick.
+    Tick(Missed),
     /// The operator starts an update of a device with a package.
     Start(u8, usize),
     /// The operator cancels the update of a device.
@@ -41,6 +44,8 @@ pub enum Refusal {
     NoSuchPackage,
     /// The clock stands at its last unit.
     ClockEnd,
+    /// A node that misses this tick has counted fewer than 8 since the last that it missed.
+    ClockSlow,
 }
 
 /// Why a step isn't taken. The world is then the one before it.

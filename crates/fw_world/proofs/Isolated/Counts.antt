@@ -46,7 +46,7 @@ judge_alike works now packages p verdict false e = refl
 alike : (works : Bool) (agent : ℕ) (s : Step) (eid now : ℕ) (packages : List PackageText) (p : SeenOf) → calls_bank agent s eid ≡ false
     → seen_then now packages p (link_step works agent s eid) ≡ seen_then now packages p (link_step true agent s eid)
 alike works agent (steps.Deliver device number node) eid now packages p e = came_alike works now packages p number (device == eid) (node == agent) (node == eid) e
-alike works agent steps.Tick eid now packages p e = refl
+alike works agent (steps.Tick missed) eid now packages p e = refl
 alike works agent (steps.Start device number) eid now packages p e = refl
 alike works agent (steps.Cancel device) eid now packages p e = refl
 alike works agent (steps.Activate device) eid now packages p e = refl
@@ -58,7 +58,7 @@ alike works agent (steps.Sel bytes) eid now packages p e = refl
 called_count : (w : WorldOf) (s : Step) (eid : ℕ) → calls_bank w.agent.endpoint.eid s eid ≡ true → faults_before w s ≡ faults_at w eid
 called_count w (steps.Deliver device number node) eid e =
     ap (faults_at w) (eqb-true node eid (both_hold (not (node == w.agent.endpoint.eid)) (node == eid) e).1)
-called_count w steps.Tick eid e = absurd (cc)
+called_count w (steps.Tick missed) eid e = absurd (cc)
 called_count w (steps.Start device number) eid e = absurd (cc)
 called_count w (steps.Cancel device) eid e = absurd (cc)
 called_count w (steps.Activate device) eid e = absurd (cc)

@@ -12,14 +12,14 @@ use Rattle.fw_package.specs.Package.{PackageText}
 use Rattle.fd_core.specs.declared.states.Verdict.{Verdict}
 use Rattle.ua_core.specs.Session.{SessionOf}
 use Rattle.fw_message.specs.declared.side.Side.TheVariants as sides
-use Rattle.fw_node.specs.Agents.{agent_hears, agent_tick_sends, half_for, ready_for}
+use Rattle.fw_node.specs.Agents.{agent_hears, half_for, ready_for}
 use Rattle.fw_node.specs.Cores.{TimedDevice, device_core}
 use Rattle.fw_node.specs.Halves.{HalfHeard, half_hears}
 use Rattle.fw_node.specs.Nodes.{DeviceNodeOf, device_restarts, finished}
 use Rattle.fw_node.specs.Packets.{all_packets}
 use Rattle.fw_world.specs.Links.{LinkOf, LinkStep, LinkStepped, delivers_on, device_heard, link_after}
 use Rattle.fw_world.specs.Replays.{is_device, is_node, may_step, packet_fault}
-use Rattle.fw_world.specs.Worlds.{SiteOf, WorldOf, activates_on, asks_log, at_agent, at_device, comes, delivers, judges, packets_of, place_of, posts, restarts, site_for, site_restarts, site_ticks, ticks, world_after}
+use Rattle.fw_world.specs.Worlds.{SiteOf, WorldOf, activates_on, agent_pass_sends, asks_log, at_agent, at_device, comes, counts, delivers, judges, packets_of, place_of, posts, restarts, site_for, site_goes_on, site_passes, site_restarts, ticks, world_after}
 use Rattle.fw_world.specs.declared.step.Step.{Step}
 use Rattle.fw_world.specs.declared.step.Step.TheVariants as steps
 use Rattle.fw_world.proofs.Links.Arrivals.{device_put, heard_site}
@@ -28,7 +28,7 @@ use Rattle.fw_world.proofs.Links.Hears.{IsPassed}
 use Rattle.fw_world.proofs.Links.Misses.{link_packet_between}
 use Rattle.fw_world.proofs.Links.Posting.{posts_at, site_changed, site_put, with_packets, is_to}
 use Rattle.fw_world.proofs.Links.Projected.{StepsTo, comes_as, known_if, link_site, link_step, restart_as, where_mine}
-use Rattle.fw_world.proofs.Links.Projection.{judged_site, judges_put, link_at, restarts_put}
+use Rattle.fw_world.proofs.Links.Projection.{goes_on_eid, judged_site, judges_put, link_at, restarts_put}
 use Rattle.fw_world.proofs.Links.Routes.{both_hold}
 use Rattle.fw_world.proofs.Links.WorldSteps.{AreLinked, known_both, still_living}
 
@@ -181,14 +181,18 @@ packet_node works faults w device number node eid l x (Some d) (Some p) k there 
 
 -- A TICK
 
-tick_node : (w : WorldOf) (eid : ℕ) (x : SiteOf) → site_for w.sites eid ≡ Some x → SiteIs x.node.endpoint x.node.tid x.node.faults (site_for (ticks w).sites eid)
-tick_node w eid x site =
-    let sent = agent_tick_sends w.packages w.agent in
+passed_node : (counts : Bool) (now : ℕ) (x : SiteOf) → NodeIs x.node.endpoint x.node.tid x.node.faults (site_passes counts now x).node
+passed_node true now x = record { endpoint = refl; tid = refl; faults = refl }
+passed_node false now x = record { endpoint = refl; tid = refl; faults = refl }
+
+tick_node : (missed : List ℕ) (w : WorldOf) (eid : ℕ) (x : SiteOf) → site_for w.sites eid ≡ Some x → SiteIs x.node.endpoint x.node.tid x.node.faults (site_for (ticks missed w).sites eid)
+tick_node missed w eid x site =
+    let sent = agent_pass_sends (counts missed w.agent.endpoint.eid) w.packages w.agent in
     let put = with_packets (w.now + 1) (filter (is_to eid) sent) in
-    site_is x.node.endpoint x.node.tid x.node.faults _ (site_ticks (w.now + 1) (put x))
-    (site_changed (site_ticks (w.now + 1)) (λ y. refl) (posts (w.now + 1) w.sites sent) eid
-    ∙ ap (option_map (site_ticks (w.now + 1))) (posts_at (w.now + 1) sent w.sites eid ∙ ap (option_map put) site))
-    (record { endpoint = refl; tid = refl; faults = refl })
+    site_is x.node.endpoint x.node.tid x.node.faults _ (site_goes_on missed (w.now + 1) (put x))
+    (site_changed (site_goes_on missed (w.now + 1)) (goes_on_eid missed (w.now + 1)) (posts (w.now + 1) w.sites sent) eid
+    ∙ ap (option_map (site_goes_on missed (w.now + 1))) (posts_at (w.now + 1) sent w.sites eid ∙ ap (option_map put) site))
+    (passed_node (counts missed x.node.endpoint.eid) (w.now + 1) (put x))
 
 -- THE OPERATOR, A VERDICT, A RESTART, THE LOG
 
@@ -243,7 +247,7 @@ node_goes works faults w (steps.Deliver device number node) eid l x k may is sit
     (sym (tid_comes works number (device == eid) (node == w.agent.endpoint.eid) (node == eid) x.node.tid))
     (packet_node works faults w device number node eid l x (link_at w device) (numbered (packets_of w device) number) k refl (k.known device known.0) refl
     (known_if (is_device w device && is_node w node) fault may) is site goes)
-node_goes works faults w steps.Tick eid l x k may is site goes = tick_node w eid x site
+node_goes works faults w (steps.Tick missed) eid l x k may is site goes = tick_node missed.items w eid x site
 node_goes works faults w (steps.Start device number) eid l x k may is site goes = same_site _ _ _ x site (tid_mine (device == eid) (LinkStep.Start number) x.node.tid refl) refl
 node_goes works faults w (steps.Cancel device) eid l x k may is site goes = same_site _ _ _ x site (tid_mine (device == eid) LinkStep.Cancel x.node.tid refl) refl
 node_goes works faults w (steps.Activate device) eid l x k may is site goes =

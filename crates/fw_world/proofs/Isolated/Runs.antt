@@ -1,6 +1,6 @@
 -- What is between the agent and a device after a run: it depends on what was between them and on the steps that concern the
 -- device, so that two runs with the same lead to the same.
-use Rattle.std.proofs.Common.{◌≡◌, ◌≢◌, ◌⊎◌, ◌∙◌, ◌≤◌, ◌<◌, ◌-◌, ◌^◌, ◌==◌, ◌&&◌, ◌||◌, ℕ, Bool, true, false, cond, List, [], ◌∷◌, Option, Some, None, inl, inr, refl, sym, ap, subst, arith}
+use Rattle.std.proofs.Common.{◌≡◌, ◌≢◌, ◌⊎◌, ◌∙◌, ◌≤◌, ◌<◌, ◌-◌, ◌^◌, ◌==◌, ◌&&◌, ◌||◌, ◌+◌, ℕ, Bool, true, false, cond, List, [], ◌∷◌, map, Option, Some, None, inl, inr, refl, sym, ap, subst, arith}
 use Rattle.std.specs.List.{filter}
 use Rattle.std.proofs.lemmas.Bool.{cases_lt}
 use Rattle.exch_lane.specs.Laws.{LaneIsACell}
@@ -10,7 +10,7 @@ use Rattle.ua_core.specs.Session.{TimedOf}
 use Rattle.fw_message.specs.WorldLaws.{history_of}
 use Rattle.fw_node.specs.Agents.{half_for}
 use Rattle.fw_node.specs.Halves.{HalfOf}
-use Rattle.fw_world.specs.Isolation.{AgreeIn, DevicesAreIsolated, IsReached, IsUnfailed, SharedOf, concerns, faults_at, shared_by, shared_with, steps_of}
+use Rattle.fw_world.specs.Isolation.{AgreeIn, ConcernOf, DevicesAreIsolated, IsReached, IsUnfailed, SharedOf, concern_of, concerns, faults_at, shared_by, shared_with, steps_of}
 use Rattle.fw_world.specs.JoinLaws.{LinksAreMessages}
 use Rattle.fw_world.specs.LinkLaws.{LinksAreLanes}
 use Rattle.fw_world.specs.Links.{LinkOf, LinkStep}
@@ -50,7 +50,7 @@ strange_call false s e = refl
 
 unconcerned : (works : Bool) (agent : ℕ) (s : Step) (eid : ℕ) → concerns agent eid s ≡ false → link_step works agent s eid ≡ None
 unconcerned works agent (steps.Deliver device number node) eid e = strange_coming works number (device == eid) (node == agent) (node == eid) e
-unconcerned works agent steps.Tick eid e = absurd (cc)
+unconcerned works agent (steps.Tick missed) eid e = absurd (cc)
 unconcerned works agent (steps.Start device number) eid e = strange_call (device == eid) (LinkStep.Start number) e
 unconcerned works agent (steps.Cancel device) eid e = strange_call (device == eid) LinkStep.Cancel e
 unconcerned works agent (steps.Activate device) eid e = strange_call (device == eid) LinkStep.Activate e
@@ -60,7 +60,7 @@ unconcerned works agent (steps.Sel bytes) eid e = refl
 
 no_tick : (agent : ℕ) (s : Step) (eid now : ℕ) → concerns agent eid s ≡ false → now_then now s ≡ now
 no_tick agent (steps.Deliver device number node) eid now e = refl
-no_tick agent steps.Tick eid now e = absurd (cc)
+no_tick agent (steps.Tick missed) eid now e = absurd (cc)
 no_tick agent (steps.Start device number) eid now e = refl
 no_tick agent (steps.Cancel device) eid now e = refl
 no_tick agent (steps.Activate device) eid now e = refl
@@ -70,35 +70,72 @@ no_tick agent (steps.Sel bytes) eid now e = refl
 
 -- ALONG STEPS
 
+-- what a step is by what matters of it: the time after it, and the step of the link
+abbrev concern_time : ℕ → ConcernOf → ℕ
+concern_time now (ConcernOf.Passes agent device) = now + 1
+concern_time now (ConcernOf.Takes s) = now_then now s
+
+abbrev concern_step : (agent : ℕ) → ConcernOf → (eid : ℕ) → Option LinkStep
+concern_step agent (ConcernOf.Passes a d) eid = Some (LinkStep.Tick a d)
+concern_step agent (ConcernOf.Takes s) eid = link_step true agent s eid
+
+same_time : (agent eid now : ℕ) (s : Step) → concern_time now (concern_of agent eid s) ≡ now_then now s
+same_time agent eid now (steps.Deliver device number node) = refl
+same_time agent eid now (steps.Tick missed) = refl
+same_time agent eid now (steps.Start device number) = refl
+same_time agent eid now (steps.Cancel device) = refl
+same_time agent eid now (steps.Activate device) = refl
+same_time agent eid now (steps.Verdict device verdict) = refl
+same_time agent eid now (steps.Restart node) = refl
+same_time agent eid now (steps.Sel bytes) = refl
+
+same_step : (agent eid : ℕ) (s : Step) → concern_step agent (concern_of agent eid s) eid ≡ link_step true agent s eid
+same_step agent eid (steps.Deliver device number node) = refl
+same_step agent eid (steps.Tick missed) = refl
+same_step agent eid (steps.Start device number) = refl
+same_step agent eid (steps.Cancel device) = refl
+same_step agent eid (steps.Activate device) = refl
+same_step agent eid (steps.Verdict device verdict) = refl
+same_step agent eid (steps.Restart node) = refl
+same_step agent eid (steps.Sel bytes) = refl
+
 -- the time after these steps
-abbrev time_along : ℕ → List Step → ℕ
+abbrev time_after_all : ℕ → List Step → ℕ
+time_after_all now [] = now
+time_after_all now (s ∷ ss) = time_after_all (now_then now s) ss
+
+abbrev time_along : ℕ → List ConcernOf → ℕ
 time_along now [] = now
-time_along now (s ∷ ss) = time_along (now_then now s) ss
+time_along now (c ∷ cs) = time_along (concern_time now c) cs
 
 -- what is between the agent and a device after these steps, if each call of its bank works
-abbrev seen_along : (agent eid : ℕ) → List PackageText → (now : ℕ) → SeenOf → List Step → SeenOf
+abbrev seen_along : (agent eid : ℕ) → List PackageText → (now : ℕ) → SeenOf → List ConcernOf → SeenOf
 seen_along agent eid packages now p [] = p
-seen_along agent eid packages now p (s ∷ ss) =
-    seen_along agent eid packages (now_then now s) (seen_then now packages p (link_step true agent s eid)) ss
+seen_along agent eid packages now p (c ∷ cs) =
+    seen_along agent eid packages (concern_time now c) (seen_then now packages p (concern_step agent c eid)) cs
 
 -- the steps that don't concern the device are nothing to it
-time_by : (concerned : Bool) (agent : ℕ) (s : Step) (eid now : ℕ) (rest : List Step) → concerns agent eid s ≡ concerned → time_along now (cond concerned (s ∷ rest) rest) ≡ time_along (now_then now s) rest
-time_by true agent s eid now rest e = refl
-time_by false agent s eid now rest e = ap (λ n. time_along n rest) (sym (no_tick agent s eid now e))
+time_by : (concerned : Bool) (agent : ℕ) (s : Step) (eid now : ℕ) (rest : List Step) → concerns agent eid s ≡ concerned
+    → time_along now (map (concern_of agent eid) (cond concerned (s ∷ rest) rest)) ≡ time_along (now_then now s) (map (concern_of agent eid) rest)
+time_by true agent s eid now rest e = ap (λ n. time_along n (map (concern_of agent eid) rest)) (same_time agent eid now s)
+time_by false agent s eid now rest e = ap (λ n. time_along n (map (concern_of agent eid) rest)) (sym (no_tick agent s eid now e))
 
-time_of : (agent eid now : ℕ) (ss : List Step) → time_along now (filter (concerns agent eid) ss) ≡ time_along now ss
+time_of : (agent eid now : ℕ) (ss : List Step) → time_along now (map (concern_of agent eid) (filter (concerns agent eid) ss)) ≡ time_after_all now ss
 time_of agent eid now [] = refl
 time_of agent eid now (s ∷ ss) = time_by (concerns agent eid s) agent s eid now (filter (concerns agent eid) ss) refl ∙ time_of agent eid (now_then now s) ss
 
 seen_if : (concerned : Bool) (agent : ℕ) (s : Step) (eid : ℕ) (packages : List PackageText) (now : ℕ) (p : SeenOf) (rest : List Step) → concerns agent eid s ≡ concerned
-    → seen_along agent eid packages (now_then now s) (seen_then now packages p (link_step true agent s eid)) rest ≡ seen_along agent eid packages now p (cond concerned (s ∷ rest) rest)
-seen_if true agent s eid packages now p rest e = refl
+    → seen_along agent eid packages (now_then now s) (seen_then now packages p (link_step true agent s eid)) (map (concern_of agent eid) rest)
+    ≡ seen_along agent eid packages now p (map (concern_of agent eid) (cond concerned (s ∷ rest) rest))
+seen_if true agent s eid packages now p rest e =
+    ap (λ n. seen_along agent eid packages n (seen_then now packages p (link_step true agent s eid)) (map (concern_of agent eid) rest)) (sym (same_time agent eid now s))
+    ∙ ap (λ o. seen_along agent eid packages (concern_time now (concern_of agent eid s)) (seen_then now packages p o) (map (concern_of agent eid) rest)) (sym (same_step agent eid s))
 seen_if false agent s eid packages now p rest e =
-    ap (λ n. seen_along agent eid packages n (seen_then now packages p (link_step true agent s eid)) rest) (no_tick agent s eid now e)
-    ∙ ap (λ o. seen_along agent eid packages now (seen_then now packages p o) rest) (unconcerned true agent s eid e)
+    ap (λ n. seen_along agent eid packages n (seen_then now packages p (link_step true agent s eid)) (map (concern_of agent eid) rest)) (no_tick agent s eid now e)
+    ∙ ap (λ o. seen_along agent eid packages now (seen_then now packages p o) (map (concern_of agent eid) rest)) (unconcerned true agent s eid e)
 
 -- the same of the same
-same_along : (agent other eid : ℕ) (ps qs : List PackageText) (m n : ℕ) (p : SeenOf) (ss ts : List Step) → other ≡ agent → qs ≡ ps → n ≡ m → ts ≡ ss
+same_along : (agent other eid : ℕ) (ps qs : List PackageText) (m n : ℕ) (p : SeenOf) (ss ts : List ConcernOf) → other ≡ agent → qs ≡ ps → n ≡ m → ts ≡ ss
     → seen_along other eid qs n p ts ≡ seen_along agent eid ps m p ss
 same_along agent other eid ps qs m n p ss ts e f g h = rw (e, f, g, h) refl
 
@@ -110,11 +147,11 @@ packages_along w v (s ∷ ss) run =
     let h : Leads w s run.0 = run.1 in
     packages_along run.0 v ss run.2 ∙ ap (λ x. x.packages) h.after ∙ packages_stay h.works h.faults w s
 
-now_along : (w v : WorldOf) (ss : List Step) → Run w ss v → v.now ≡ time_along w.now ss
+now_along : (w v : WorldOf) (ss : List Step) → Run w ss v → v.now ≡ time_after_all w.now ss
 now_along w v [] e = ap (λ x. x.now) e
 now_along w v (s ∷ ss) run =
     let h : Leads w s run.0 = run.1 in
-    now_along run.0 v ss run.2 ∙ ap (λ n. time_along n ss) (ap (λ x. x.now) h.after ∙ time_goes h.works h.faults w s)
+    now_along run.0 v ss run.2 ∙ ap (λ n. time_after_all n ss) (ap (λ x. x.now) h.after ∙ time_goes h.works h.faults w s)
 
 -- a count of failures never falls
 risen : (m n : ℕ) → Rose m n → m ≤ n
@@ -164,8 +201,8 @@ well_first w u v s ss eid p h g r =
       seen = subst (IsSeen v eid)
           (same_along w.agent.endpoint.eid u.agent.endpoint.eid eid w.packages u.packages (now_then w.now s) u.now q (steps_of w eid ss) (steps_of u eid ss) agent
           (ap (λ x. x.packages) h.after ∙ packages_stay h.works h.faults w s) (ap (λ x. x.now) h.after ∙ time_goes h.works h.faults w s)
-          (ap (λ a. filter (concerns a eid) ss) agent)
-          ∙ seen_if (concerns w.agent.endpoint.eid eid s) w.agent.endpoint.eid s eid w.packages w.now p (steps_of w eid ss) refl) r.seen;
+          (ap (λ a. map (concern_of a eid) (filter (concerns a eid) ss)) agent)
+          ∙ seen_if (concerns w.agent.endpoint.eid eid s) w.agent.endpoint.eid s eid w.packages w.now p (filter (concerns w.agent.endpoint.eid eid) ss) refl) r.seen;
       count = r.count ∙ g.count;
     }
 

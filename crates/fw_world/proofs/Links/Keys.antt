@@ -4,12 +4,12 @@ use Rattle.std.specs.List.{AllByRecursion}
 use Rattle.exch_lane.specs.Lanes.{Sent, numbered}
 use Rattle.mctp_wire.specs.Packet as wire
 use Rattle.ua_core.specs.Session.{SessionOf, TimedOf}
-use Rattle.fw_node.specs.Agents.{agent_hears, agent_unmoved, agent_tick_sends, activates, cancels, half_at, half_for, hears_at, place_heard, place_of as half_place, ready_for, starts}
+use Rattle.fw_node.specs.Agents.{agent_hears, agent_unmoved, activates, cancels, half_at, half_for, hears_at, place_heard, place_of as half_place, ready_for, starts}
 use Rattle.fw_node.specs.Cores.{session_core}
 use Rattle.fw_node.specs.Halves.{HalfOf, half_restarts}
 use Rattle.fw_node.specs.Nodes.{device_restarts}
 use Rattle.fw_node.specs.Packets.{all_packets}
-use Rattle.fw_world.specs.Worlds.{SiteOf, WorldOf, activates_on, asks_log, at_agent, at_device, calls, delivers, packets_of, place_of, post, post_at, posts, restarts, site_for, site_ticks, world_after}
+use Rattle.fw_world.specs.Worlds.{SiteOf, WorldOf, activates_on, agent_pass_sends, agent_passes, asks_log, at_agent, at_device, calls, counts, delivers, packets_of, place_of, post, post_at, posts, restarts, site_for, site_goes_on, world_after}
 use Rattle.fw_world.specs.declared.step.Step.{Step}
 use Rattle.fw_world.specs.declared.step.Step.TheVariants as steps
 use Rattle.fw_world.proofs.Links.AgentArrivals.{heard_half, heard_half_peer, hears_put}
@@ -18,7 +18,7 @@ use Rattle.fw_world.proofs.Links.Arrivals.{device_agent, device_put, heard_site}
 use Rattle.fw_world.proofs.Links.Firsts.{put_at}
 use Rattle.fw_world.proofs.Links.Listed.{map_keys, put_keys}
 use Rattle.fw_world.proofs.Links.Posting.{same_site, site_eid, with_packet}
-use Rattle.fw_world.proofs.Links.Projection.{becomes_put, judged_site, judges_agent, judges_put, restarts_put}
+use Rattle.fw_world.proofs.Links.Projection.{becomes_put, goes_on_eid, judged_site, judges_agent, judges_put, restarts_put}
 use Rattle.fw_world.proofs.Links.Ticks.{same_ticked}
 
 -- the identifiers of the devices, and of those that the agent has halves for
@@ -81,7 +81,9 @@ restarts_keep w node =
 
 pub eids_stay : (works : Bool) (faults : ℕ) (w : WorldOf) (s : Step) → eids_of (world_after works faults w s) ≡ eids_of w
 eids_stay works faults w (steps.Deliver device number node) = comes_keeps works faults w node (numbered (packets_of w device) number)
-eids_stay works faults w steps.Tick = map_keys site_eid (site_ticks (w.now + 1)) (λ x. refl) _ ∙ posts_keep (w.now + 1) (agent_tick_sends w.packages w.agent) w.sites
+eids_stay works faults w (steps.Tick missed) =
+    map_keys site_eid (site_goes_on missed.items (w.now + 1)) (goes_on_eid missed.items (w.now + 1)) _
+    ∙ posts_keep (w.now + 1) (agent_pass_sends (counts missed.items w.agent.endpoint.eid) w.packages w.agent) w.sites
 eids_stay works faults w (steps.Start device number) = refl
 eids_stay works faults w (steps.Cancel device) = refl
 eids_stay works faults w (steps.Activate device) = activates_keeps w device (ready_for w.agent device)
@@ -125,10 +127,14 @@ log_stays : (w : WorldOf) (bytes : List ℕ) → peers_of (asks_log w bytes) ≡
 log_stays w [] = refl
 log_stays w (command ∷ bytes) = refl
 
+passes_stay : (counts : Bool) (w : WorldOf) → AllByRecursion (IsHalfOf w.agent.deaf) w.agent.halves → map half_peer (agent_passes counts w.packages (w.now + 1) w.agent).halves ≡ peers_of w
+passes_stay true w k =
+    ap (map half_peer) (halves_after_tick w.packages (w.now + 1) w.agent k) ∙ map_keys half_peer (half_after_tick w.packages) (λ h. (same_ticked (session_core w.packages) h).1) w.agent.halves
+passes_stay false w k = refl
+
 pub peers_stay : (works : Bool) (faults : ℕ) (w : WorldOf) (s : Step) → AllByRecursion (IsHalfOf w.agent.deaf) w.agent.halves → peers_of (world_after works faults w s) ≡ peers_of w
 peers_stay works faults w (steps.Deliver device number node) k = delivers_stay works faults w node (numbered (packets_of w device) number)
-peers_stay works faults w steps.Tick k =
-    ap (map half_peer) (halves_after_tick w.packages (w.now + 1) w.agent k) ∙ map_keys half_peer (half_after_tick w.packages) (λ h. (same_ticked (session_core w.packages) h).1) w.agent.halves
+peers_stay works faults w (steps.Tick missed) k = passes_stay (counts missed.items w.agent.endpoint.eid) w k
 peers_stay works faults w (steps.Start device number) k = calls_stay w device (λ h. starts w.packages h number) (λ h. refl)
 peers_stay works faults w (steps.Cancel device) k = calls_stay w device (cancels w.packages) (λ h. refl)
 peers_stay works faults w (steps.Activate device) k = activates_stay w device (ready_for w.agent device)

@@ -36,8 +36,11 @@ site_set xs y own eid p there is =
     ∙ ap (λ o. if own == eid then Some y else o) (sym (site_is_first xs eid))
 
 -- a device has the identifier by which it was found
+pub site_of : (xs : List SiteOf) (eid : ℕ) → IfSome (site_for xs eid) (λ x. site_eid x ≡ eid)
+site_of xs eid = subst (λ o. IfSome o (λ x. site_eid x ≡ eid)) (sym (site_is_first xs eid)) (first_key site_eid xs eid)
+
 pub site_found : (xs : List SiteOf) (eid : ℕ) (x : SiteOf) → site_for xs eid ≡ Some x → site_eid x ≡ eid
-site_found xs eid x e = subst (λ o. IfSome o (λ y. site_eid y ≡ eid)) (sym (site_is_first xs eid) ∙ e) (first_key site_eid xs eid)
+site_found xs eid x e = subst (λ o. IfSome o (λ y. site_eid y ≡ eid)) e (site_of xs eid)
 
 -- a packet behind those of a device
 abbrev pub with_packet : ℕ → List ℕ → SiteOf → SiteOf

@@ -4,6 +4,8 @@ use Rattle.std.specs.List.{AllByRecursion}
 use Rattle.std.specs.Option.{option_map}
 use Rattle.std.proofs.lemmas.Bool.{eqb-true}
 use Rattle.std.proofs.lemmas.Bool.Decides.{eqb_tells}
+use Rattle.arrayvec.specs.declared.array_vec.ArrayVec.{ArrayVec}
+use Rattle.exch_lane.specs.Clocks.{may_beat}
 use Rattle.fd_core.specs.States.{DeviceState, Phase}
 use Rattle.fd_core.specs.Steps.{Judged, device_verdict, judged_or, verdict_at}
 use Rattle.fd_core.specs.declared.states.Progress.TheVariants as progress
@@ -17,13 +19,14 @@ use Rattle.fw_message.specs.declared.side.Side.TheVariants as sides
 use Rattle.fw_node.specs.Agents.{activates, cancels, free_for, free_in, half_for, ready_for, ready_in, starts}
 use Rattle.fw_node.specs.Cores.{device_core, session_core}
 use Rattle.fw_node.specs.Halves.{HalfOf, half_restarts, recast}
-use Rattle.fw_world.specs.Links.{LinkOf, LinkStep, LinkStepped, judges_on, link_after, link_ticks}
-use Rattle.fw_world.specs.Replays.{is_package, ready_fault, start_fault, verdict_fault, where_known}
-use Rattle.fw_world.specs.Worlds.{SiteOf, WorldOf, activates_on, asks_log, calls, judges, place_of, restarts, site_for, ticks}
+use Rattle.fw_world.specs.Links.{LinkOf, LinkStep, LinkStepped, judges_on, link_after, link_ticks, unnoted}
+use Rattle.fw_world.specs.Replays.{is_package, may_step, ready_fault, start_fault, verdict_fault, where_known}
+use Rattle.fw_world.specs.Worlds.{SiteOf, WorldOf, activates_on, asks_log, calls, counts, judges, place_of, restarts, site_for, ticks}
 use Rattle.fw_world.specs.declared.step.Step.{Step}
 use Rattle.fw_world.specs.declared.step.Step.TheVariants as steps
 use Rattle.fw_world.specs.declared.step.StepFault.{StepFault}
 use Rattle.fw_world.proofs.Links.AgentTicks.{AreApart, IsHalfOf}
+use Rattle.fw_world.proofs.Links.Beats.{tick_may}
 use Rattle.fw_world.proofs.Links.Projection.{agent_restart_at, call_at, device_restart_at, judged_by, link_at, link_from, on_agent, on_device, tick_at, verdict_at as verdict_on}
 
 -- the step of a device's link that a step of the world is, if it is one
@@ -43,7 +46,7 @@ restart_as false false = None
 
 abbrev pub link_step : (works : Bool) → (agent : ℕ) → Step → (eid : ℕ) → Option LinkStep
 link_step works agent (steps.Deliver device number node) eid = where_mine (device == eid) (comes_as works number (node == agent) (node == eid))
-link_step works agent steps.Tick eid = Some (LinkStep.Tick true true)
+link_step works agent (steps.Tick missed) eid = Some (LinkStep.Tick (counts missed.items agent) (counts missed.items eid))
 link_step works agent (steps.Start device number) eid = where_mine (device == eid) (Some (LinkStep.Start number))
 link_step works agent (steps.Cancel device) eid = where_mine (device == eid) (Some LinkStep.Cancel)
 link_step works agent (steps.Activate device) eid = where_mine (device == eid) (Some LinkStep.Activate)
@@ -86,15 +89,18 @@ sel_at w [] eid = refl
 sel_at w (command ∷ bytes) eid = refl
 
 -- a tick
-pub before_end : (soon : Bool) (fault : StepFault) → (if soon then None else Some fault) ≡ None → soon ≡ true
-before_end true fault e = refl
-before_end false fault e = absurd (cc)
+tick_goes : (now : ℕ) (packages : List PackageText) (l : LinkOf) (agent device may : Bool) (y : Option LinkOf) → may ≡ true → y ≡ Some (link_ticks now packages l agent device)
+    → IsSomeAnd (if may then Some (unnoted (link_ticks now packages l agent device)) else None) (λ t. y ≡ Some t.after)
+tick_goes now packages l agent device may y e is = rw e is
 
-pub tick_projects : (w : WorldOf) (eid : ℕ) (l : LinkOf) (fault : StepFault) → AllByRecursion (IsHalfOf w.agent.deaf) w.agent.halves → AreApart w.agent.halves
-    → (if nat_lt w.now (2 ^ 32 - 1) then None else Some fault) ≡ None → link_at w eid ≡ Some l
-    → StepsTo w.now w.packages l (Some (LinkStep.Tick true true)) (link_at (ticks w) eid)
-tick_projects w eid l fault halves apart may is =
-    rw (before_end (nat_lt w.now (2 ^ 32 - 1)) fault may) (tick_at w eid halves apart ∙ ap (option_map (λ x. link_ticks w.now w.packages x true true)) is)
+pub tick_projects : (missed : ArrayVec ℕ 17 (Unit {0})) (w : WorldOf) (eid : ℕ) (l : LinkOf) → AllByRecursion (IsHalfOf w.agent.deaf) w.agent.halves → AreApart w.agent.halves
+    → may_step w (steps.Tick missed) ≡ None → link_at w eid ≡ Some l
+    → StepsTo w.now w.packages l (Some (LinkStep.Tick (counts missed.items w.agent.endpoint.eid) (counts missed.items eid))) (link_at (ticks missed.items w) eid)
+tick_projects missed w eid l halves apart may is =
+    let agent = counts missed.items w.agent.endpoint.eid in
+    let device = counts missed.items eid in
+    tick_goes w.now w.packages l agent device (nat_lt w.now (2 ^ 32 - 1) && (may_beat agent l.agent_since_miss && may_beat device l.device_since_miss)) (link_at (ticks missed.items w) eid)
+    (tick_may missed w eid l may is) (tick_at agent missed.items w eid halves apart ∙ ap (option_map (λ x. link_ticks w.now w.packages x agent device)) is)
 
 -- the operator's calls
 started_if : (has : Bool) (free : Option Bool) → start_fault has free ≡ None → (has ≡ true) × (free ≡ Some true)

@@ -94,7 +94,7 @@ projection law works faults w (steps.Deliver device number node) eid l k may sai
     let known = both_hold (is_device w device) (is_node w node) (known_both (is_device w device && is_node w node) (packet_fault w.now (numbered (packets_of w device) number)) may) in
     linked_by law works faults w device number node eid l (link_at w device) k refl (k.known device known.0) is
     (known_if (is_device w device && is_node w node) (packet_fault w.now (numbered (packets_of w device) number)) may) (said device)
-projection law works faults w steps.Tick eid l k may said is = tick_projects w eid l _ k.halves k.apart may is
+projection law works faults w (steps.Tick missed) eid l k may said is = tick_projects missed w eid l k.halves k.apart may is
 projection law works faults w (steps.Start device number) eid l k may said is = start_projects w device number eid l may is
 projection law works faults w (steps.Cancel device) eid l k may said is = cancel_projects w device eid l is
 projection law works faults w (steps.Activate device) eid l k may said is = activate_projects w device eid l (has_session w device) may is

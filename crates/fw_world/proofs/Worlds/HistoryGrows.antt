@@ -64,7 +64,7 @@ restart_keeps w node = restart_by (node == w.agent.endpoint.eid) w _ _ refl refl
 
 pub quiet_history : (works : Bool) (faults : ℕ) (w : WorldOf) (s : Step) → IsQuiet s → (world_after works faults w s).history ≡ w.history
 quiet_history works faults w (steps.Deliver device number node) k = absurd k
-quiet_history works faults w steps.Tick k = refl
+quiet_history works faults w (steps.Tick missed) k = refl
 quiet_history works faults w (steps.Start device number) k = refl
 quiet_history works faults w (steps.Cancel device) k = refl
 quiet_history works faults w (steps.Activate device) k = activation_keeps w device (ready_for w.agent device)
@@ -74,7 +74,7 @@ quiet_history works faults w (steps.Sel bytes) k = log_keeps w bytes.items
 
 quiet_links : (works : Bool) (agent : ℕ) (s : Step) (eid : ℕ) → IsQuiet s → IfSome (link_step works agent s eid) IsUnnoted
 quiet_links works agent (steps.Deliver device number node) eid k = absurd k
-quiet_links works agent steps.Tick eid k = tt
+quiet_links works agent (steps.Tick missed) eid k = tt
 quiet_links works agent (steps.Start device number) eid k = mine_unnoted (device == eid) (LinkStep.Start number) tt
 quiet_links works agent (steps.Cancel device) eid k = mine_unnoted (device == eid) LinkStep.Cancel tt
 quiet_links works agent (steps.Activate device) eid k = mine_unnoted (device == eid) LinkStep.Activate tt

@@ -21,7 +21,7 @@ use Rattle.fw_node.specs.Cores.{TimedDevice, device_core, session_core}
 use Rattle.fw_node.specs.Halves.{CoreOf, HalfHeard, HalfOf, begins_if, begins_wish, called, half_hears, half_hears_by, half_takes, half_ticks, hears_if, read_by, takes_if, takes_read, unwished_abandoned, with_caller}
 use Rattle.mctp_wire.specs.Packet as wire
 use Rattle.fw_world.specs.Links.{LinkOf, LinkStep, LinkStepped, activates_on as link_activates, agent_heard, delivers_on, device_heard, hears_on, judges_on, link_after, link_ticks, unnoted}
-use Rattle.fw_world.specs.Worlds.{WorldOf, activates_on, asks_log, at_agent, at_device, calls, delivers, packets_of, place_of, site_for, world_after}
+use Rattle.fw_world.specs.Worlds.{WorldOf, activates_on, agent_passes, asks_log, at_agent, at_device, calls, counts, delivers, packets_of, place_of, site_for, world_after}
 use Rattle.fw_world.specs.declared.step.Step.{Step}
 use Rattle.fw_world.specs.declared.step.Step.TheVariants as steps
 use Rattle.fw_world.proofs.Joins.Rows.{asker_deaf, asker_in, counts_are, deaf_after}
@@ -90,27 +90,30 @@ deaf_then (LinkStep.Tick false device) deaf = deaf
 deaf_then (LinkStep.Restart sides.Agent) deaf = 40
 deaf_then s deaf = deaf
 
--- what a link becomes
-became : (u t : LinkStepped) (d : ℕ) → Some u ≡ Some t → u.after.agent.asker.deaf ≡ d → t.after.agent.asker.deaf ≡ d
-became u t d e is =
+-- what a number of a link becomes
+pub became : (f : LinkOf → ℕ) (u t : LinkStepped) (d : ℕ) → Some u ≡ Some t → f u.after ≡ d → f t.after ≡ d
+became f u t d e is =
     let same : u ≡ t = cc in
-    ap (λ x. x.after.agent.asker.deaf) (sym same) ∙ is
+    ap (λ x. f x.after) (sym same) ∙ is
 
-became_if : (may : Bool) (u t : LinkStepped) (d : ℕ) → (if may then Some u else None) ≡ Some t → u.after.agent.asker.deaf ≡ d → t.after.agent.asker.deaf ≡ d
-became_if true u t d e is = became u t d e is
-became_if false u t d e is = absurd (cc)
+pub became_if : (f : LinkOf → ℕ) (may : Bool) (u t : LinkStepped) (d : ℕ) → (if may then Some u else None) ≡ Some t → f u.after ≡ d → f t.after ≡ d
+became_if f true u t d e is = became f u t d e is
+became_if f false u t d e is = absurd (cc)
+
+abbrev deaf_of : LinkOf → ℕ
+deaf_of l = l.agent.asker.deaf
 
 agent_heard_deaf : (now : ℕ) (packages : List PackageText) (l : LinkOf) (heard : HalfHeard TimedOf) (t : LinkStepped) (d : ℕ) → agent_heard now packages l heard ≡ Some t → (half_in heard).asker.deaf ≡ d
     → t.after.agent.asker.deaf ≡ d
-agent_heard_deaf now packages l (HalfHeard.Went h sent) t d e is = became _ t d e is
-agent_heard_deaf now packages l (HalfHeard.Took h sent c answer) t d e is = became _ t d e is
+agent_heard_deaf now packages l (HalfHeard.Went h sent) t d e is = became deaf_of _ t d e is
+agent_heard_deaf now packages l (HalfHeard.Took h sent c answer) t d e is = became deaf_of _ t d e is
 agent_heard_deaf now packages l (HalfHeard.Asks h m head body) t d e is = absurd (cc)
 agent_heard_deaf now packages l (HalfHeard.Strayed h m) t d e is = absurd (cc)
 
 device_heard_deaf : (now : ℕ) (works : Bool) (l : LinkOf) (heard : HalfHeard TimedDevice) (t : LinkStepped) → device_heard now works l heard ≡ Some t
     → t.after.agent.asker.deaf ≡ l.agent.asker.deaf
-device_heard_deaf now works l (HalfHeard.Went h sent) t e = became _ t l.agent.asker.deaf e refl
-device_heard_deaf now works l (HalfHeard.Took h sent c answer) t e = became _ t l.agent.asker.deaf e refl
+device_heard_deaf now works l (HalfHeard.Went h sent) t e = became deaf_of _ t l.agent.asker.deaf e refl
+device_heard_deaf now works l (HalfHeard.Took h sent c answer) t e = became deaf_of _ t l.agent.asker.deaf e refl
 device_heard_deaf now works l (HalfHeard.Asks h m head body) t e = absurd (cc)
 device_heard_deaf now works l (HalfHeard.Strayed h m) t e = absurd (cc)
 
@@ -132,26 +135,26 @@ comes_deaf now packages l to works (Some p) t e = heard_deaf_if (nat_lt (p.date 
 
 activated_deaf : (packages : List PackageText) (l : LinkOf) (o : Option SessionOf) (t : LinkStepped) → link_activates packages l o ≡ Some t → t.after.agent.asker.deaf ≡ l.agent.asker.deaf
 activated_deaf packages l None t e = absurd (cc)
-activated_deaf packages l (Some s) t e = became _ t l.agent.asker.deaf e refl
+activated_deaf packages l (Some s) t e = became deaf_of _ t l.agent.asker.deaf e refl
 
 judged_deaf : (l : LinkOf) (o : Option Judged) (t : LinkStepped) → judges_on l o ≡ Some t → t.after.agent.asker.deaf ≡ l.agent.asker.deaf
 judged_deaf l None t e = absurd (cc)
-judged_deaf l (Some j) t e = became _ t l.agent.asker.deaf e refl
+judged_deaf l (Some j) t e = became deaf_of _ t l.agent.asker.deaf e refl
 
 pub deaf_on_link : (now : ℕ) (packages : List PackageText) (l : LinkOf) (s : LinkStep) (t : LinkStepped) → link_after now packages l s ≡ Some t
     → t.after.agent.asker.deaf ≡ deaf_then s l.agent.asker.deaf
 deaf_on_link now packages l (LinkStep.Deliver number to works) t e = comes_deaf now packages l to works (numbered l.packets number) t e
 deaf_on_link now packages l (LinkStep.Tick true device) t e =
-    became_if (nat_lt now (2 ^ 32 - 1) && (may_beat true l.agent_since_miss && may_beat device l.device_since_miss)) (unnoted (link_ticks now packages l true device)) t _ e (ticked_asker (session_core packages) l.agent)
+    became_if deaf_of (nat_lt now (2 ^ 32 - 1) && (may_beat true l.agent_since_miss && may_beat device l.device_since_miss)) (unnoted (link_ticks now packages l true device)) t _ e (ticked_asker (session_core packages) l.agent)
 deaf_on_link now packages l (LinkStep.Tick false device) t e =
-    became_if (nat_lt now (2 ^ 32 - 1) && (may_beat false l.agent_since_miss && may_beat device l.device_since_miss)) (unnoted (link_ticks now packages l false device)) t _ e refl
+    became_if deaf_of (nat_lt now (2 ^ 32 - 1) && (may_beat false l.agent_since_miss && may_beat device l.device_since_miss)) (unnoted (link_ticks now packages l false device)) t _ e refl
 deaf_on_link now packages l (LinkStep.Start number) t e =
-    became_if (may_start packages l.agent.core.session number) (unnoted (record l { agent = starts packages l.agent number })) t l.agent.asker.deaf e refl
-deaf_on_link now packages l LinkStep.Cancel t e = became _ t l.agent.asker.deaf e refl
+    became_if deaf_of (may_start packages l.agent.core.session number) (unnoted (record l { agent = starts packages l.agent number })) t l.agent.asker.deaf e refl
+deaf_on_link now packages l LinkStep.Cancel t e = became deaf_of _ t l.agent.asker.deaf e refl
 deaf_on_link now packages l LinkStep.Activate t e = activated_deaf packages l (agent_activated l.agent.core.session) t e
 deaf_on_link now packages l (LinkStep.Judge verdict works) t e = judged_deaf l (device_verdict l.device.core.device verdict works) t e
-deaf_on_link now packages l (LinkStep.Restart sides.Agent) t e = became _ t 40 e refl
-deaf_on_link now packages l (LinkStep.Restart sides.Device) t e = became _ t l.agent.asker.deaf e refl
+deaf_on_link now packages l (LinkStep.Restart sides.Agent) t e = became deaf_of _ t 40 e refl
+deaf_on_link now packages l (LinkStep.Restart sides.Device) t e = became deaf_of _ t l.agent.asker.deaf e refl
 
 -- A STEP OF THE WORLD
 
@@ -212,6 +215,14 @@ tick_eid : (hears : Bool) (packages : List PackageText) (now : ℕ) (n : AgentOf
 tick_eid true packages now n e = rw e refl
 tick_eid false packages now n e = rw e refl
 
+pass_eid : (counts : Bool) (packages : List PackageText) (now : ℕ) (n : AgentOf) → (agent_passes counts packages now n).endpoint.eid ≡ n.endpoint.eid
+pass_eid true packages now n = tick_eid (nat_le n.deaf 1) packages now n refl
+pass_eid false packages now n = refl
+
+pass_deaf : (counts device : Bool) (packages : List PackageText) (now : ℕ) (n : AgentOf) → (agent_passes counts packages now n).deaf ≡ deaf_then (LinkStep.Tick counts device) n.deaf
+pass_deaf true device packages now n = tick_deaf (nat_le n.deaf 1) packages now n refl
+pass_deaf false device packages now n = refl
+
 restart_eid : (agent : Bool) (w u v : WorldOf) → u.agent.endpoint.eid ≡ w.agent.endpoint.eid → v.agent.endpoint.eid ≡ w.agent.endpoint.eid → (if agent then u else v).agent.endpoint.eid ≡ w.agent.endpoint.eid
 restart_eid true w u v h k = h
 restart_eid false w u v h k = k
@@ -219,7 +230,7 @@ restart_eid false w u v h k = k
 -- The agent keeps its identifier.
 pub agent_stays : (works : Bool) (faults : ℕ) (w : WorldOf) (s : Step) → (world_after works faults w s).agent.endpoint.eid ≡ w.agent.endpoint.eid
 agent_stays works faults w (steps.Deliver device number node) = (delivers_same works faults w node (numbered (packets_of w device) number)).eid
-agent_stays works faults w steps.Tick = tick_eid (nat_le w.agent.deaf 1) w.packages (w.now + 1) w.agent refl
+agent_stays works faults w (steps.Tick missed) = pass_eid (counts missed.items w.agent.endpoint.eid) w.packages (w.now + 1) w.agent
 agent_stays works faults w (steps.Start device number) = (calls_same w device (λ h. starts w.packages h number)).eid
 agent_stays works faults w (steps.Cancel device) = (calls_same w device (cancels w.packages)).eid
 agent_stays works faults w (steps.Activate device) = (activates_same w device (ready_for w.agent device)).eid
@@ -247,7 +258,7 @@ deaf_restart false false w u v e k = k
 pub deaf_goes : (works : Bool) (faults : ℕ) (w : WorldOf) (s : Step) (eid : ℕ) → DeafAs (link_step works w.agent.endpoint.eid s eid) w.agent.deaf (world_after works faults w s).agent.deaf
 deaf_goes works faults w (steps.Deliver device number node) eid =
     deaf_comes works number (device == eid) (node == w.agent.endpoint.eid) (node == eid) w.agent.deaf _ (delivers_same works faults w node (numbered (packets_of w device) number)).deaf
-deaf_goes works faults w steps.Tick eid = tick_deaf (nat_le w.agent.deaf 1) w.packages (w.now + 1) w.agent refl
+deaf_goes works faults w (steps.Tick missed) eid = pass_deaf (counts missed.items w.agent.endpoint.eid) (counts missed.items eid) w.packages (w.now + 1) w.agent
 deaf_goes works faults w (steps.Start device number) eid = deaf_mine (device == eid) (LinkStep.Start number) w.agent.deaf _ refl (calls_same w device (λ h. starts w.packages h number)).deaf
 deaf_goes works faults w (steps.Cancel device) eid = deaf_mine (device == eid) LinkStep.Cancel w.agent.deaf _ refl (calls_same w device (cancels w.packages)).deaf
 deaf_goes works faults w (steps.Activate device) eid = deaf_mine (device == eid) LinkStep.Activate w.agent.deaf _ refl (activates_same w device (ready_for w.agent device)).deaf

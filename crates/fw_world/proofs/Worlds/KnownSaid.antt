@@ -13,15 +13,15 @@ use Rattle.fw_node.specs.Halves.{half_hears}
 use Rattle.fw_node.specs.Nodes.{IsTold}
 use Rattle.fw_world.specs.LinkLaws.{CanBeSaid, IsToldOn, Speaks}
 use Rattle.fw_world.specs.Links.{LinkOf, LinkStep}
-use Rattle.fw_world.specs.Replays.{CanBeSaidBy, IsToldBy, IsToldTo, SiteSpeaks, is_device, is_node, may_step, packet_fault}
-use Rattle.fw_world.specs.Worlds.{SiteOf, WorldOf, packets_of, site_for}
+use Rattle.fw_world.specs.Replays.{CanBeSaidBy, IsToldBy, IsToldTo, SiteSpeaksIn, is_device, is_node, may_step, packet_fault}
+use Rattle.fw_world.specs.Worlds.{SiteOf, WorldOf, counts, packets_of, site_for}
 use Rattle.fw_world.specs.declared.step.Step.{Step}
 use Rattle.fw_world.specs.declared.step.Step.TheVariants as steps
 use Rattle.fw_world.proofs.Links.AgentTicks.{agent_ticks_at, half_after_tick, half_is_first, half_peer}
 use Rattle.fw_world.proofs.Links.Delivered.{IsLinkOf, packets_on}
 use Rattle.fw_world.proofs.Links.Firsts.{first_fact}
 use Rattle.fw_world.proofs.Links.Misses.{GoesBetween, link_packet_between, others_packet}
-use Rattle.fw_world.proofs.Links.Posting.{site_eid, site_is_first}
+use Rattle.fw_world.proofs.Links.Posting.{site_eid, site_is_first, site_of}
 use Rattle.fw_world.proofs.Links.Projected.{comes_as, known_if, link_half, link_site, link_step, restart_as, where_mine}
 use Rattle.fw_world.proofs.Links.Projection.{link_at}
 use Rattle.fw_world.proofs.Links.WorldSteps.{AreLinked, still_living}
@@ -100,14 +100,15 @@ agent_speaks w eid d k there said = λ soon.
     subst (λ o. IfSome o (HalfMaySpeak w.packages)) (sym (half_is_first (agent_ticks w.packages (w.now + 1) w.agent).halves eid) ∙ after)
     (first_fact half_peer (HalfMaySpeak w.packages) (agent_ticks w.packages (w.now + 1) w.agent).halves eid (said deaf))
 
-site_speaks : (d : LinkOf) (s : Option SiteOf) → IsSomeAnd s (λ x. (x.node.half ≡ d.device) × (x.packets ≡ d.packets)) → IfSome s SiteSpeaks → Speaks device_core d.device
-site_speaks d None k said = absurd k
-site_speaks d (Some x) k said = subst (λ h. Speaks device_core h) k.0 (λ soon. said (leb-true x.node.half.asker.deaf 1 soon))
+site_speaks : (missed : List ℕ) (eid : ℕ) (d : LinkOf) (s : Option SiteOf) → IsSomeAnd s (λ x. (x.node.half ≡ d.device) × (x.packets ≡ d.packets)) → IfSome s (λ x. site_eid x ≡ eid) → counts missed eid ≡ true
+    → IfSome s (SiteSpeaksIn missed) → Speaks device_core d.device
+site_speaks missed eid d None k is e said = absurd k
+site_speaks missed eid d (Some x) k is e said = subst (λ h. Speaks device_core h) k.0 (λ soon. said (ap (counts missed) is ∙ e) (leb-true x.node.half.asker.deaf 1 soon))
 
-device_speaks : (w : WorldOf) (eid : ℕ) (d : LinkOf) → link_at w eid ≡ Some d → AllByRecursion SiteSpeaks w.sites → Speaks device_core d.device
-device_speaks w eid d there said =
-    site_speaks d (site_for w.sites eid) (link_site _ (half_for w.agent eid) (site_for w.sites eid) d there)
-    (subst (λ o. IfSome o SiteSpeaks) (sym (site_is_first w.sites eid)) (first_fact site_eid SiteSpeaks w.sites eid said))
+device_speaks : (missed : List ℕ) (w : WorldOf) (eid : ℕ) (d : LinkOf) → link_at w eid ≡ Some d → counts missed eid ≡ true → AllByRecursion (SiteSpeaksIn missed) w.sites → Speaks device_core d.device
+device_speaks missed w eid d there e said =
+    site_speaks missed eid d (site_for w.sites eid) (link_site _ (half_for w.agent eid) (site_for w.sites eid) d there) (site_of w.sites eid) e
+    (subst (λ o. IfSome o (SiteSpeaksIn missed)) (sym (site_is_first w.sites eid)) (first_fact site_eid (SiteSpeaksIn missed) w.sites eid said))
 
 -- ANY STEP
 
@@ -125,7 +126,7 @@ pub links_can_say : (works : Bool) (w : WorldOf) (s : Step) (eid : ℕ) (d : Lin
     → IfSome (link_step works w.agent.endpoint.eid s eid) (CanBeSaid w.packages d)
 links_can_say works w (steps.Deliver device number node) eid d k may said there =
     told_coming works w device number node eid d k there (known_if (is_device w device && is_node w node) (packet_fault w.now (numbered (packets_of w device) number)) may) said
-links_can_say works w steps.Tick eid d k may said there = (λ _. agent_speaks w eid d k there said.0, λ _. device_speaks w eid d there said.1)
+links_can_say works w (steps.Tick missed) eid d k may said there = (λ e. agent_speaks w eid d k there (said.0 e), λ e. device_speaks missed.items w eid d there e said.1)
 links_can_say works w (steps.Start device number) eid d k may said there = mine_said (device == eid) w d (LinkStep.Start number) tt
 links_can_say works w (steps.Cancel device) eid d k may said there = mine_said (device == eid) w d LinkStep.Cancel tt
 links_can_say works w (steps.Activate device) eid d k may said there = mine_said (device == eid) w d LinkStep.Activate tt

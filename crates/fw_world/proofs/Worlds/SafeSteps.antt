@@ -1,7 +1,9 @@
 -- A world that stands for one over whole messages stays one whatever step it takes.
-use Rattle.std.proofs.Common.{◌≡◌, ◌&&◌, ◌≢◌, ◌∙◌, ◌+◌, ◌-◌, ◌^◌, ◌==◌, ℕ, Bool, true, false, if◌then◌else◌, nat_lt, List, [], ◌∷◌, Option, Some, None, inl, inr, refl, sym, ap, subst}
+use Rattle.std.proofs.Common.{◌≡◌, ◌&&◌, ◌≢◌, ◌∙◌, ◌+◌, ◌-◌, ◌^◌, ◌==◌, ℕ, Bool, true, false, if◌then◌else◌, nat_lt, List, [], ◌∷◌, Option, Some, None, inl, inr, refl, sym, ap, subst, arith}
 use Rattle.std.proofs.lemmas.Bool.{eq-eqb, ne_eqb}
 use Rattle.std.proofs.lemmas.Bool.Decides.{eqb_tells}
+use Rattle.arrayvec.specs.declared.array_vec.ArrayVec.{ArrayVec}
+use Rattle.exch_lane.specs.Clocks.{may_beat}
 use Rattle.exch_lane.specs.Lanes.{Sent, numbered}
 use Rattle.exch_lane.specs.Laws.{LaneIsACell}
 use Rattle.fw_package.specs.Package.{PackageText}
@@ -13,16 +15,17 @@ use Rattle.fw_node.specs.Cores.{session_core}
 use Rattle.fw_node.specs.Halves.{half_restarts}
 use Rattle.fw_world.specs.JoinLaws.{LinksAreMessages}
 use Rattle.fw_world.specs.LinkLaws.{LinksAreLanes}
-use Rattle.fw_world.specs.Links.{LinkOf, LinkStep, link_ticks, time_after, unnoted}
+use Rattle.fw_world.specs.Links.{LinkOf, LinkStep, LinkStepped, link_after, link_ticks, time_after, unnoted}
 use Rattle.fw_world.specs.Replays.{Leads, may_step}
-use Rattle.fw_world.specs.Worlds.{SiteOf, WorldOf, activates_on, asks_log, at_agent, at_device, delivers, judges, packets_of, place_of, site_for, world_after}
+use Rattle.fw_world.specs.Worlds.{SiteOf, WorldOf, activates_on, asks_log, at_agent, at_device, counts, delivers, judges, packets_of, place_of, site_for, world_after}
 use Rattle.fw_world.specs.declared.step.Step.{Step}
 use Rattle.fw_world.specs.declared.step.Step.TheVariants as steps
-use Rattle.fw_world.specs.declared.step.StepFault.{StepFault}
 use Rattle.fw_world.proofs.Joins.Each.{IsAlone}
+use Rattle.fw_world.proofs.Links.Beats.{tick_may}
+use Rattle.fw_world.proofs.Links.Delivered.{IsLinkOf}
 use Rattle.fw_world.proofs.Links.Keys.{eids_stay, peers_stay}
 use Rattle.fw_world.proofs.Links.Linked.{linked_world}
-use Rattle.fw_world.proofs.Links.Projected.{before_end, comes_as, link_step, restart_as, where_mine}
+use Rattle.fw_world.proofs.Links.Projected.{comes_as, link_step, restart_as, where_mine}
 use Rattle.fw_world.proofs.Links.Projection.{link_at, on_agent}
 use Rattle.fw_world.proofs.Links.WorldSteps.{AreLinked, projection}
 use Rattle.fw_world.proofs.Worlds.HistoryGrows.{history_grows}
@@ -33,13 +36,14 @@ use Rattle.fw_world.proofs.Worlds.SafeTicks.{stand_all, stand_anew}
 
 -- THE PACKAGES AND THE TIME
 
--- the same packages at the same time
+-- the same packages at the same time, and the agent has missed no tick
 pub record SameMoment (w v : WorldOf) : Type 0 where
   pub packages : v.packages ≡ w.packages
   pub now : v.now ≡ w.now
+  pub since : v.since_miss ≡ w.since_miss
 
 same_moment : (w v : WorldOf) → v ≡ w → SameMoment w v
-same_moment w v e = record { packages = ap (λ x. x.packages) e; now = ap (λ x. x.now) e }
+same_moment w v e = record { packages = ap (λ x. x.packages) e; now = ap (λ x. x.now) e; since = ap (λ x. x.since_miss) e }
 
 moment_if : (agent : Bool) (w u v : WorldOf) → SameMoment w u → SameMoment w v → SameMoment w (if agent then u else v)
 moment_if true w u v h k = h
@@ -48,33 +52,33 @@ moment_if false w u v h k = k
 device_moment : (works : Bool) (faults : ℕ) (w : WorldOf) (bytes : List ℕ) (o : Option ℕ) (s : Option SiteOf) → SameMoment w (at_device works faults w bytes o s)
 device_moment works faults w bytes None s = same_moment w w refl
 device_moment works faults w bytes (Some p) None = same_moment w w refl
-device_moment works faults w bytes (Some p) (Some x) = record { packages = refl; now = refl }
+device_moment works faults w bytes (Some p) (Some x) = record { packages = refl; now = refl; since = refl }
 
 delivered_moment : (works : Bool) (faults : ℕ) (w : WorldOf) (node : ℕ) (o : Option Sent) → SameMoment w (delivers works faults w node o)
 delivered_moment works faults w node None = same_moment w w refl
 delivered_moment works faults w node (Some p) =
     moment_if (node == w.agent.endpoint.eid) w (at_agent w p.bytes) (at_device works faults w p.bytes (place_of w.sites node) (site_for w.sites node))
-    (record { packages = refl; now = refl }) (device_moment works faults w p.bytes (place_of w.sites node) (site_for w.sites node))
+    (record { packages = refl; now = refl; since = refl }) (device_moment works faults w p.bytes (place_of w.sites node) (site_for w.sites node))
 
 activated_moment : (w : WorldOf) (device : ℕ) (o : Option SessionOf) → SameMoment w (activates_on w device o)
 activated_moment w device None = same_moment w w refl
-activated_moment w device (Some s) = record { packages = refl; now = refl }
+activated_moment w device (Some s) = record { packages = refl; now = refl; since = refl }
 
 judged_moment : (works : Bool) (faults : ℕ) (w : WorldOf) (verdict : Verdict) (o : Option ℕ) (s : Option SiteOf) → SameMoment w (judges works faults w verdict o s)
 judged_moment works faults w verdict None s = same_moment w w refl
 judged_moment works faults w verdict (Some p) None = same_moment w w refl
-judged_moment works faults w verdict (Some p) (Some x) = record { packages = refl; now = refl }
+judged_moment works faults w verdict (Some p) (Some x) = record { packages = refl; now = refl; since = refl }
 
 log_moment : (w : WorldOf) (bytes : List ℕ) → SameMoment w (asks_log w bytes)
-log_moment w [] = record { packages = refl; now = refl }
-log_moment w (command ∷ bytes) = record { packages = refl; now = refl }
+log_moment w [] = record { packages = refl; now = refl; since = refl }
+log_moment w (command ∷ bytes) = record { packages = refl; now = refl; since = refl }
 
 restart_moment : (works : Bool) (faults : ℕ) (w : WorldOf) (node : ℕ) → SameMoment w (world_after works faults w (steps.Restart node))
-restart_moment works faults w node = moment_if (node == w.agent.endpoint.eid) w _ _ (record { packages = refl; now = refl }) (record { packages = refl; now = refl })
+restart_moment works faults w node = moment_if (node == w.agent.endpoint.eid) w _ _ (record { packages = refl; now = refl; since = refl }) (record { packages = refl; now = refl; since = refl })
 
 pub packages_stay : (works : Bool) (faults : ℕ) (w : WorldOf) (s : Step) → (world_after works faults w s).packages ≡ w.packages
 packages_stay works faults w (steps.Deliver device number node) = (delivered_moment works faults w node (numbered (packets_of w device) number)).packages
-packages_stay works faults w steps.Tick = refl
+packages_stay works faults w (steps.Tick missed) = refl
 packages_stay works faults w (steps.Start device number) = refl
 packages_stay works faults w (steps.Cancel device) = refl
 packages_stay works faults w (steps.Activate device) = (activated_moment w device (ready_for w.agent device)).packages
@@ -84,18 +88,29 @@ packages_stay works faults w (steps.Sel bytes) = (log_moment w bytes.items).pack
 
 -- the time after a step
 abbrev pub now_then : ℕ → Step → ℕ
-now_then now steps.Tick = now + 1
+now_then now (steps.Tick missed) = now + 1
 now_then now s = now
 
 pub time_goes : (works : Bool) (faults : ℕ) (w : WorldOf) (s : Step) → (world_after works faults w s).now ≡ now_then w.now s
 time_goes works faults w (steps.Deliver device number node) = (delivered_moment works faults w node (numbered (packets_of w device) number)).now
-time_goes works faults w steps.Tick = refl
+time_goes works faults w (steps.Tick missed) = refl
 time_goes works faults w (steps.Start device number) = refl
 time_goes works faults w (steps.Cancel device) = refl
 time_goes works faults w (steps.Activate device) = (activated_moment w device (ready_for w.agent device)).now
 time_goes works faults w (steps.Verdict device verdict) = (judged_moment works faults w verdict (place_of w.sites device) (site_for w.sites device)).now
 time_goes works faults w (steps.Restart node) = (restart_moment works faults w node).now
 time_goes works faults w (steps.Sel bytes) = (log_moment w bytes.items).now
+
+-- Only a tick is one that the agent may miss.
+pub since_goes : (works : Bool) (faults : ℕ) (w : WorldOf) (s : Step) → now_then w.now s ≡ w.now → (world_after works faults w s).since_miss ≡ w.since_miss
+since_goes works faults w (steps.Deliver device number node) e = (delivered_moment works faults w node (numbered (packets_of w device) number)).since
+since_goes works faults w (steps.Tick missed) e = absurd (omega (arith, e))
+since_goes works faults w (steps.Start device number) e = refl
+since_goes works faults w (steps.Cancel device) e = refl
+since_goes works faults w (steps.Activate device) e = (activated_moment w device (ready_for w.agent device)).since
+since_goes works faults w (steps.Verdict device verdict) e = (judged_moment works faults w verdict (place_of w.sites device) (site_for w.sites device)).since
+since_goes works faults w (steps.Restart node) e = (restart_moment works faults w node).since
+since_goes works faults w (steps.Sel bytes) e = (log_moment w bytes.items).since
 
 -- WHAT FOLLOWS A STEP
 
@@ -184,19 +199,32 @@ stand_restarts lanes messages opening w v works node k f time noted = elim (eqb_
       (λ eid far. ap (λ b. restart_as b (node == eid)) other.0 ∙ restarted_only node eid far)
 ]
 
--- Time goes on.
-tick_goes : (now : ℕ) (packages : List PackageText) (soon : Bool) (l : LinkOf) → soon ≡ true → (if soon && true then Some (unnoted (link_ticks now packages l true true)) else None) ≡ Some (unnoted (link_ticks now packages l true true))
-tick_goes now packages soon l e = rw e refl
+-- Time goes on. The two nodes of a link count the tick, or miss it, by their identifiers.
+abbrev tick_of : List ℕ → LinkOf → LinkStep
+tick_of missed l = LinkStep.Tick (counts missed l.agent.own) (counts missed l.device.own)
 
-ticks_may : (w : WorldOf) (fault : StepFault) → (if nat_lt w.now (2 ^ 32 - 1) then None else Some fault) ≡ None → nat_lt w.now (2 ^ 32 - 1) ≡ true
-ticks_may w fault may = before_end (nat_lt w.now (2 ^ 32 - 1)) fault may
+abbrev ticked : List ℕ → (now : ℕ) → List PackageText → LinkOf → LinkOf
+ticked missed now packages l = link_ticks now packages l (counts missed l.agent.own) (counts missed l.device.own)
+
+tick_mine : (missed : List ℕ) (w : WorldOf) (eid : ℕ) (l : LinkOf) → IsLinkOf w eid l → ◌≡◌ {A = Option LinkStep} (Some (LinkStep.Tick (counts missed w.agent.endpoint.eid) (counts missed eid))) (Some (tick_of missed l))
+tick_mine missed w eid l k = rw (k.agent, k.device) refl
+
+if_may : (may : Bool) (t : LinkStepped) → may ≡ true → (if may then Some t else None) ≡ Some t
+if_may may t e = rw e refl
+
+tick_leads : (missed : ArrayVec ℕ 17 (Unit {0})) (w : WorldOf) (eid : ℕ) (l : LinkOf) → IsLinkOf w eid l → may_step w (steps.Tick missed) ≡ None → link_at w eid ≡ Some l
+    → link_after w.now w.packages l (tick_of missed.items l) ≡ Some (unnoted (ticked missed.items w.now w.packages l))
+tick_leads missed w eid l k may is =
+    if_may (nat_lt w.now (2 ^ 32 - 1) && (may_beat (counts missed.items l.agent.own) l.agent_since_miss && may_beat (counts missed.items l.device.own) l.device_since_miss)) (unnoted (ticked missed.items w.now w.packages l))
+    (rw (k.agent, k.device) (tick_may missed w eid l may is))
 
 stand_by : LinksAreLanes → LinksAreMessages → (opening w : WorldOf) (works : Bool) (faults : ℕ) (s : Step) → Stand opening w → may_step w s ≡ None → Follows works s w (world_after works faults w s) → Stand opening (world_after works faults w s)
 stand_by lanes messages opening w works faults (steps.Deliver device number node) k may f =
     stand_comes lanes messages opening w (world_after works faults w (steps.Deliver device number node)) works device number node k f (delivered_moment works faults w node (numbered (packets_of w device) number)).now
-stand_by lanes messages opening w works faults steps.Tick k may f =
-    stand_all lanes messages (w.now + 1) opening w (world_after works faults w steps.Tick) works steps.Tick (λ l. LinkStep.Tick true true) (λ l. link_ticks w.now w.packages l true true) (λ l. tt) (λ l. refl) k f refl
-    (λ eid l e. refl) (λ eid l e. tick_goes w.now w.packages (nat_lt w.now (2 ^ 32 - 1)) l (ticks_may w _ may)) refl
+stand_by lanes messages opening w works faults (steps.Tick missed) k may f =
+    let linked : AreLinked w = linked_world w (known_links opening w k) in
+    stand_all lanes messages (w.now + 1) opening w (world_after works faults w (steps.Tick missed)) works (steps.Tick missed) (tick_of missed.items) (ticked missed.items w.now w.packages) (λ l. tt) (λ l. refl) k f refl
+    (λ eid l e. tick_mine missed.items w eid l (linked.links eid l e)) (λ eid l e. tick_leads missed w eid l (linked.links eid l e) may e) refl
 stand_by lanes messages opening w works faults (steps.Start device number) k may f =
     stand_mine lanes messages opening w (world_after works faults w (steps.Start device number)) works (steps.Start device number) device (LinkStep.Start number) k f refl (λ eid. refl) refl tt
 stand_by lanes messages opening w works faults (steps.Cancel device) k may f =

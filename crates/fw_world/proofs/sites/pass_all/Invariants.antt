@@ -1,17 +1,17 @@
 use Rattle.std.proofs.Common.{◌≡◌, ◌++◌, [], drop, length, map, take}
 use Rattle.std.specs.List.{AllByRecursion}
-use Rattle.fw_world.specs.Replays.{SiteSpeaks}
+use Rattle.fw_world.specs.Replays.{SiteSpeaksIn}
 use Rattle.fw_world.specs.Sites.{HaveRoom, sites_of}
-use Rattle.fw_world.specs.Worlds.{site_ticks}
-use Rattle.fw_world.proofs.sites.tick_all.Given as goal
+use Rattle.fw_world.specs.Worlds.{site_goes_on}
+use Rattle.fw_world.proofs.sites.pass_all.Given as goal
 
 -- the tick has passed for the nodes so far, and the others have room
 abbrev pub invariant-loop-site : goal.invariant-loop-site
 invariant-loop-site g l =
     record {
-      sites : sites_of l.sites ≡ map (site_ticks l.now) (take l.site-index (sites_of l.fn.sites)) ++ drop l.site-index (sites_of l.fn.sites);
+      sites : sites_of l.sites ≡ map (site_goes_on l.missed l.now) (take l.site-index (sites_of l.fn.sites)) ++ drop l.site-index (sites_of l.fn.sites);
       room : HaveRoom 64 (drop l.site-index l.sites);
-      spoken : AllByRecursion SiteSpeaks (take l.site-index (sites_of l.fn.sites));
+      spoken : AllByRecursion (SiteSpeaksIn l.missed) (take l.site-index (sites_of l.fn.sites));
       outbox : l.outbox ≡ [];
       count : length l.sites ≡ length l.fn.sites;
     }
