@@ -25,7 +25,7 @@ living_by false now p e = absurd (cc)
 
 names_living : (w : WorldOf) (s : Step) → may_step w s ≡ None → NamesLiving w s
 names_living w (steps.Deliver device number node) may = living_by (is_device w device && is_node w node) w.now (numbered (packets_of w device) number) may
-names_living w steps.Tick may = tt
+names_living w (steps.Tick missed) may = tt
 names_living w (steps.Start device number) may = tt
 names_living w (steps.Cancel device) may = tt
 names_living w (steps.Activate device) may = tt

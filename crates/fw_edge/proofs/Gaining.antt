@@ -4,14 +4,14 @@ use Rattle.std.proofs.lemmas.List.{length-append}
 use Rattle.exch_lane.specs.Lanes.{Sent, numbered}
 use Rattle.exch_lane.specs.Steps.{sent_at}
 use Rattle.fd_core.specs.declared.states.Verdict.{Verdict}
-use Rattle.fw_node.specs.Agents.{agent_hears, agent_restarts, agent_tick_sends, ready_for}
+use Rattle.fw_node.specs.Agents.{agent_hears, agent_restarts, ready_for}
 use Rattle.fw_node.specs.Cores.{device_core}
 use Rattle.fw_node.specs.Halves.{half_ticks}
 use Rattle.fw_node.specs.Nodes.{device_hears, device_judges, device_restarts}
 use Rattle.fw_node.specs.Packets.{all_packets}
 use Rattle.ua_core.specs.Session.{SessionOf}
 use Rattle.fw_world.specs.Replays.{Leads, Run}
-use Rattle.fw_world.specs.Worlds.{SiteOf, WorldOf, activates_on, asks_log, at_agent, at_device, delivers, judges, node_becomes, packets_of, place_for, place_of, post, post_at, posts, restarts, sent_now, site_at, site_for, site_restarts, site_ticks, ticks, world_after}
+use Rattle.fw_world.specs.Worlds.{SiteOf, WorldOf, activates_on, agent_pass_sends, asks_log, at_agent, at_device, counts, delivers, judges, node_becomes, packets_of, place_for, place_of, post, post_at, posts, restarts, sent_now, site_at, site_for, site_goes_on, site_passes, site_restarts, ticks, world_after}
 use Rattle.fw_world.specs.declared.step.Step.{Step}
 use Rattle.fw_world.specs.declared.step.Step.TheVariants as steps
 use Rattle.fw_edge.specs.Drives.{Drives}
@@ -68,14 +68,19 @@ posts_gain now xs (p ∷ packets) =
     (posted_gains now xs p (place_for xs p) (site_at xs (place_for xs p)) refl) (posts_gain now (post now xs p) packets)
 
 -- a tick of the devices
-ticks_gain : (now : ℕ) (xs : List SiteOf) → NoneFell (packet_counts xs) (packet_counts (map (site_ticks now) xs))
-ticks_gain now [] = tt
-ticks_gain now (x ∷ xs) = (more_sent x.packets (sent_now now (all_packets (half_ticks device_core true x.node.half).sent)), ticks_gain now xs)
+passed_gains : (counts : Bool) (now : ℕ) (x : SiteOf) → length x.packets ≤ length (site_passes counts now x).packets
+passed_gains true now x = more_sent x.packets (sent_now now (all_packets (half_ticks device_core true x.node.half).sent))
+passed_gains false now x = omega arith
 
-tick_gains : (w : WorldOf) → NoneFell (packet_counts w.sites) (packet_counts (ticks w).sites)
-tick_gains w =
-    fell_on (packet_counts w.sites) (packet_counts (posts (w.now + 1) w.sites (agent_tick_sends w.packages w.agent))) (packet_counts (ticks w).sites)
-    (posts_gain (w.now + 1) w.sites (agent_tick_sends w.packages w.agent)) (ticks_gain (w.now + 1) (posts (w.now + 1) w.sites (agent_tick_sends w.packages w.agent)))
+ticks_gain : (missed : List ℕ) (now : ℕ) (xs : List SiteOf) → NoneFell (packet_counts xs) (packet_counts (map (site_goes_on missed now) xs))
+ticks_gain missed now [] = tt
+ticks_gain missed now (x ∷ xs) = (passed_gains (counts missed x.node.endpoint.eid) now x, ticks_gain missed now xs)
+
+tick_gains : (missed : List ℕ) (w : WorldOf) → NoneFell (packet_counts w.sites) (packet_counts (ticks missed w).sites)
+tick_gains missed w =
+    let sent = agent_pass_sends (counts missed w.agent.endpoint.eid) w.packages w.agent in
+    fell_on (packet_counts w.sites) (packet_counts (posts (w.now + 1) w.sites sent)) (packet_counts (ticks missed w).sites)
+    (posts_gain (w.now + 1) w.sites sent) (ticks_gain missed (w.now + 1) (posts (w.now + 1) w.sites sent))
 
 -- a packet comes
 device_gains : (works : Bool) (faults : ℕ) (w : WorldOf) (bytes : List ℕ) (place : Option ℕ) (x : Option SiteOf) → site_at w.sites place ≡ x
@@ -131,7 +136,7 @@ log_keeps w (command ∷ bytes) = refl
 
 step_gains : (works : Bool) (faults : ℕ) (w : WorldOf) (s : Step) → NoneFell (packet_counts w.sites) (packet_counts (world_after works faults w s).sites)
 step_gains works faults w (steps.Deliver device number node) = packet_gains works faults w node (numbered (packets_of w device) number)
-step_gains works faults w steps.Tick = tick_gains w
+step_gains works faults w (steps.Tick missed) = tick_gains missed.items w
 step_gains works faults w (steps.Start device number) = fell_none (packet_counts w.sites)
 step_gains works faults w (steps.Cancel device) = fell_none (packet_counts w.sites)
 step_gains works faults w (steps.Activate device) = gains_same w.sites (world_after works faults w (steps.Activate device)).sites (ap packet_counts (activation_keeps works faults w device))

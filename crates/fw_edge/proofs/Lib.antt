@@ -3,6 +3,7 @@ mod Arriving
 mod Dues
 mod Failing
 mod Frames
+mod Full
 mod Gaining
 pub mod Going
 mod Latest

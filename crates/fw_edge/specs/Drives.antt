@@ -1,5 +1,5 @@
 -- What a run over links does.
-use Rattle.std.specs.Prelude.{ℕ, ◌≡◌, ◌≤◌, ◌+◌, ◌++◌, ◌&&◌, Bool, true, false, IsSomeAnd, List, [], ◌∷◌, Option, Some, None}
+use Rattle.std.specs.Prelude.{ℕ, ◌≡◌, ◌≤◌, ◌+◌, ◌++◌, ◌==◌, ◌&&◌, Bool, true, false, IsSomeAnd, length, List, [], ◌∷◌, Option, Some, None}
 use Rattle.std.specs.List.{list_all, sum_by}
 use Rattle.exch_lane.specs.Lanes.{Lives, numbered}
 use Rattle.fd_core.specs.declared.states.Verdict.{Verdict}
@@ -26,7 +26,7 @@ AreLiving w (s ∷ ss) v h = NamesLiving w s × AreLiving h.0 ss v h.2
 
 -- how many ticks and deliveries stand in a list
 abbrev pub tick_in : Step → ℕ
-tick_in steps.Tick = 1
+tick_in (steps.Tick missed) = 1
 tick_in s = 0
 
 abbrev pub ticks_in : List Step → ℕ
@@ -45,10 +45,10 @@ is_good verdicts.VerifyOk = true
 is_good verdicts.ApplyOk = true
 is_good verdict = false
 
--- a step that a run takes of itself: nobody starts or cancels an update, starts anew, or asks the event log
+-- a step that a run takes of itself: nobody misses a tick, starts or cancels an update, starts anew, or asks the event log
 abbrev pub is_driven : Step → Bool
 is_driven (steps.Deliver device number node) = true
-is_driven steps.Tick = true
+is_driven (steps.Tick missed) = length missed.items == 0
 is_driven (steps.Verdict device verdict) = is_good verdict
 is_driven (steps.Activate device) = true
 is_driven s = false

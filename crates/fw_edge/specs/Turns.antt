@@ -9,7 +9,7 @@ use Rattle.fw_message.specs.declared.side.Side.TheVariants as sides
 use Rattle.fw_node.specs.Agents.{ready_for}
 use Rattle.fw_world.specs.Promises.{eids_of}
 use Rattle.fw_world.specs.Replays.{Leads, Run}
-use Rattle.fw_world.specs.Worlds.{SiteOf, WorldOf, site_for}
+use Rattle.fw_world.specs.Worlds.{SiteOf, WorldOf, full_tick, site_for}
 use Rattle.fw_world.specs.declared.step.Step.{Step}
 use Rattle.fw_world.specs.declared.step.Step.TheVariants as steps
 use Rattle.fw_edge.specs.Drives.{all_over, delivers_in}
@@ -170,7 +170,7 @@ pub record Exchanged (es : List ℕ) (w : WorldOf) (before : List Step) (old : L
 pub record Turned (w : WorldOf) (before : List Step) (old : LinksOf) (v : WorldOf) (after : List Step) (new : LinksOf) (count : ℕ) : Type 0 where
   pub ticked : WorldOf
   pub ticked_steps : List Step
-  pub tick : TakesIf w before (Some steps.Tick) ticked ticked_steps
+  pub tick : TakesIf w before (Some full_tick) ticked ticked_steps
   pub heard : WorldOf
   pub heard_steps : List Step
   pub exchanged : Exchanged (eids_of ticked.sites) ticked ticked_steps old heard heard_steps new count

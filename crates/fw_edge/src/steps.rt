@@ -7,13 +7,13 @@ ghost use Rattle.fw_edge.specs.Turns.{TakesAll, TakesIf, activation_for, all_due
 ghost use Rattle.fw_node.specs.Agents.{half_for, ready_for};
 ghost use Rattle.fw_world.specs.Promises.{eids_of};
 ghost use Rattle.fw_world.specs.Replays.{Leads, may_step};
-ghost use Rattle.fw_world.specs.Worlds.{site_for};
+ghost use Rattle.fw_world.specs.Worlds.{full_tick, site_for};
 ghost use Rattle.fw_world.specs.declared.step.Step.{Step};
 
 use crate::driving::EdgeFault;
 use fd_core::{Bank, Verdict};
 use fw_message::awaits;
-use fw_world::{Step, World};
+use fw_world::{Missed, Step, World};
 use ua_core::SessionState;
 
 /// Takes a step that may be taken, and puts it behind the others. The room for it is made first.
@@ -45,15 +45,16 @@ pub(crate) fn take<B: Bank + Drop>(
     Ok(())
 }
 
-/// A tick passes.
+/// A tick passes, which nobody misses.
 ///
 /// # Errors
 /// `Step` where the clock stands at its last unit, and `Memory`. Nothing has changed then.
+#[tactic(auto, using(crate::proofs::Full::full_may))]
 pub(crate) fn tick<B: Bank + Drop>(
     world: &mut World<'_, B>,
     steps: &mut Vec<Step>,
 ) -> Result<(), EdgeFault>
-    ensures tick { OnOk result (TakesIf world.old steps.old.items (Some Step.Tick) world.new steps.new.items) }
+    ensures tick { OnOk result (TakesIf world.old steps.old.items (Some full_tick) world.new steps.new.items) }
     ensures goes { OnOk result (Goes world.old steps.old.items world.new steps.new.items 1 0) }
     ensures same { OnErr result (world.new ≡ world.old) }
     ensures unlisted { OnErr result (steps.new.items ≡ steps.old.items) }
@@ -63,7 +64,7 @@ pub(crate) fn tick<B: Bank + Drop>(
     if world.now() == u32::MAX {
         return Err(EdgeFault::Step);
     }
-    take(world, steps, Step::Tick)
+    take(world, steps, Step::Tick(Missed::new()))
 }
 
 /// The verdict that a device waits for: that all is well.

@@ -42,8 +42,8 @@ left_out front word rest nothing =
     rw (list_any-append is_nothing front (word ∷ rest), nothing) (grind (arith, common_steps))
 
 -- fields where one stands too many
-pub too_many : (front : List (List ℕ)) (word : List ℕ) (rest : List (List ℕ)) → 6 ≤ length front
+pub too_many : (front : List (List ℕ)) (word : List ℕ) (rest : List (List ℕ)) → 17 ≤ length front
     → fields_in (front ++ word ∷ rest) ≡ None
 too_many front word rest full =
-    let many : 6 < length (front ++ word ∷ rest) = omega (arith, length-append front (word ∷ rest)) in
+    let many : 17 < length (front ++ word ∷ rest) = omega (arith, length-append front (word ∷ rest)) in
     grind (arith, common_steps)

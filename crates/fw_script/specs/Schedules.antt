@@ -1,9 +1,10 @@
 -- The text of a schedule: which steps it is.
-use Rattle.std.specs.Prelude.{ℕ, ◌+◌, ◌-◌, ◌^◌, nat_lt, List, [], ◌∷◌, ◌++◌, Option, None, Some, Result, Ok, Err, codes, if◌then◌else◌, length}
-use Rattle.std.specs.List.{repeat}
+use Rattle.std.specs.Prelude.{ℕ, ◌+◌, ◌-◌, ◌^◌, ◌==◌, ◌||◌, Bool, true, false, nat_lt, List, [], ◌∷◌, ◌++◌, Option, None, Some, Result, Ok, Err, codes, if◌then◌else◌, length}
+use Rattle.std.specs.List.{list_any, repeat}
 use Rattle.std.specs.Str.{bytes_eq}
 use Rattle.fd_core.specs.declared.states.Verdict.{Verdict}
 use Rattle.fd_core.specs.declared.states.Verdict.TheVariants as verdicts
+use Rattle.fw_world.specs.Worlds.{full_tick}
 use Rattle.fw_world.specs.declared.step.Step.{Step}
 use Rattle.fw_world.specs.declared.step.Step.TheVariants as steps
 use Rattle.fw_script.specs.declared.faults.ScriptCause.{ScriptCause}
@@ -19,6 +20,7 @@ use Rattle.fw_script.specs.Values.{bytes_of, eid_of, number_in, some_or}
 unfoldable pub directive_of : List ℕ → Option Directive
 directive_of word =
     if bytes_eq word (codes "tick") then Some directives.Tick
+    else if bytes_eq word (codes "miss") then Some directives.Miss
     else if bytes_eq word (codes "deliver") then Some directives.Deliver
     else if bytes_eq word (codes "start") then Some directives.Start
     else if bytes_eq word (codes "cancel") then Some directives.Cancel
@@ -62,6 +64,32 @@ only_eid_of fields = Err causes.Fields
 abbrev pub delivery : List ℕ → List ℕ → List ℕ → Result Step ScriptCause
 delivery pair number node = made (λ v. steps.Deliver v.0 v.1.0 v.1.1) (both (eid_of pair) (both (place_of number) (eid_of node)))
 
+-- the identifiers that words are, in order, behind these
+abbrev pub behind : Result (List ℕ × ℕ) ScriptCause → Result (List ℕ) ScriptCause
+behind (Ok v) = Ok (v.0 ++ v.1 ∷ [])
+behind (Err cause) = Err cause
+
+abbrev pub with_eid : Result (List ℕ) ScriptCause → List ℕ → Result (List ℕ) ScriptCause
+with_eid eids word = behind (both eids (eid_of word))
+
+abbrev pub eids_from : Result (List ℕ) ScriptCause → List (List ℕ) → Result (List ℕ) ScriptCause
+eids_from eids [] = eids
+eids_from eids (word ∷ words) = eids_from (with_eid eids word) words
+
+-- one of them stands twice
+abbrev pub has_twice : List ℕ → Bool
+has_twice [] = false
+has_twice (eid ∷ eids) = list_any (λ other. other == eid) eids || has_twice eids
+
+-- a tick that these nodes miss
+abbrev pub miss_step : Result (List ℕ) ScriptCause → Result Step ScriptCause
+miss_step (Ok eids) = if has_twice eids then Err causes.Duplicate else Ok (steps.Tick (record { items = eids }))
+miss_step (Err cause) = Err cause
+
+abbrev pub miss : List (List ℕ) → Result Step ScriptCause
+miss [] = Err causes.Fields
+miss (word ∷ words) = if nat_lt 17 (length (word ∷ words)) then Err causes.Fields else miss_step (eids_from (Ok []) (word ∷ words))
+
 -- what the fields of a step's line say, each directive in turn
 abbrev pub step_of : Directive → List (List ℕ) → Result Step ScriptCause
 step_of directives.Deliver (pair ∷ number ∷ node ∷ []) = delivery pair number node
@@ -70,6 +98,7 @@ step_of directives.Cancel fields = made steps.Cancel (only_eid_of fields)
 step_of directives.Activate fields = made steps.Activate (only_eid_of fields)
 step_of directives.Verdict (eid ∷ verdict ∷ []) = made (λ v. steps.Verdict v.0 v.1) (both (eid_of eid) (verdict_of verdict))
 step_of directives.Restart fields = made steps.Restart (only_eid_of fields)
+step_of directives.Miss fields = miss fields
 step_of directives.Sel (request ∷ []) = request_step (bytes_of request)
 step_of d fields = Err causes.Fields
 
@@ -80,7 +109,7 @@ ticks_of (count ∷ []) = number_in 1 1000 count
 ticks_of fields = Err causes.Fields
 
 abbrev pub ticks : Result ℕ ScriptCause → Result (List Step) ScriptCause
-ticks (Ok count) = Ok (repeat count (steps.Tick ∷ []))
+ticks (Ok count) = Ok (repeat count (full_tick ∷ []))
 ticks (Err cause) = Err cause
 
 abbrev pub alone : Result Step ScriptCause → Result (List Step) ScriptCause

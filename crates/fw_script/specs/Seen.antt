@@ -1,5 +1,8 @@
--- What a configuration in the program says.
-use Rattle.std.specs.Prelude.{map, string_bytes}
+-- What a configuration and a schedule in the program say.
+use Rattle.std.specs.Prelude.{ℕ, List, map, Result, string_bytes}
+use Rattle.std.specs.Result.{result_map_both}
+use Rattle.arrayvec.specs.declared.array_vec.ArrayVec.{ArrayVec}
+use Rattle.fw_script.specs.declared.faults.ScriptCause.{ScriptCause}
 use Rattle.fw_script.specs.Configs.{ComponentConfigOf, ConfigOf, DeviceConfigOf}
 use Rattle.fw_script.specs.declared.config.ComponentConfig.{ComponentConfig}
 use Rattle.fw_script.specs.declared.config.Config.{Config}
@@ -13,3 +16,7 @@ device_of d = record { endpoint = d.endpoint; descriptors = d.descriptors; compo
 
 abbrev pub config_seen : Config → ConfigOf
 config_seen c = record { agent = c.agent; devices = map device_of c.devices.items; packages = map (λ p. string_bytes p) c.packages.items }
+
+-- the identifiers of a line, or its fault
+abbrev pub seen_eids : Result (ArrayVec ℕ 17 (Unit {0})) ScriptCause → Result (List ℕ) ScriptCause
+seen_eids eids = result_map_both (λ e. e.items) (λ cause. cause) eids

@@ -7,7 +7,7 @@ ghost use Rattle.fw_script.specs.Lines.{fields_in, is_skipped as says_nothing, l
 use arrayvec::ArrayVec;
 
 /// The most fields of a line.
-const MAX_FIELDS: usize = 6;
+const MAX_FIELDS: usize = 17;
 
 /// The fields of a line behind its first word.
 pub type Fields<'a> = ArrayVec<&'a [u8], MAX_FIELDS>;

@@ -1,15 +1,17 @@
 //! Schedules: the steps of a world, a line each.
 
-ghost use Rattle.std.specs.Prelude.{◌≡◌, ◌≢◌, ◌++◌, ◌∷◌, [], Err, IfErr, IfOk, Ok, OnOk, map};
+ghost use Rattle.std.specs.Prelude.{◌≡◌, ◌≢◌, ◌≤◌, ◌<◌, ◌+◌, ◌++◌, ◌∷◌, [], Err, IfErr, IfOk, Ok, OnOk, length, map};
 ghost use Rattle.std.specs.List.{repeat};
 ghost use Rattle.fw_script.specs.Faults.{Answers, ReadsAs};
-ghost use Rattle.fw_script.specs.Schedules.{delivery as delivery_of, directive_of as directive_named, only_eid_of, place_of as place_in, script_of, step_of, steps_of, steps_said, ticks_of, verdict_of, with_line};
+ghost use Rattle.fw_script.specs.Schedules.{delivery as delivery_of, directive_of as directive_named, eids_from, has_twice as stands_twice, only_eid_of, place_of as place_in, script_of, step_of, steps_of, steps_said, ticks_of, verdict_of, with_eid as with_eid_of, with_line};
+ghost use Rattle.fw_script.specs.Seen.{seen_eids};
+ghost use Rattle.fw_world.specs.Worlds.{full_tick};
 
 use crate::faults::{ScriptCause, ScriptFault, both};
 use crate::lines::{fields_after, first_line, first_word, is_skipped};
 use crate::values::{bytes, eid, number_in};
 use fd_core::Verdict;
-use fw_world::{LogRequest, Step};
+use fw_world::{LogRequest, Missed, Step};
 use std::alloc::Global;
 
 /// The most bytes of a request of the event log.
@@ -18,10 +20,14 @@ const MAX_REQUEST: usize = 64;
 /// The most ticks of a line.
 const MAX_TICKS: u64 = 1000;
 
+/// The most nodes that miss a tick.
+const MAX_MISSED: usize = 17;
+
 /// What a line begins with.
 #[derive(Clone, Copy, PartialEq, Eq)]
 enum Directive {
     Tick,
+    Miss,
     Deliver,
     Start,
     Cancel,
@@ -38,6 +44,8 @@ fn directive_of(word: &[u8]) -> Option<Directive>
 {
     if word == b"tick".as_slice() {
         Some(Directive::Tick)
+    } else if word == b"miss".as_slice() {
+        Some(Directive::Miss)
     } else if word == b"deliver".as_slice() {
         Some(Directive::Deliver)
     } else if word == b"start".as_slice() {
@@ -152,6 +160,65 @@ fn only_eid(fields: &[&[u8]]) -> Result<u8, ScriptCause>
     }
 }
 
+/// Puts the identifier that a word is behind those that were read.
+fn with_eid(eids: Result<Missed, ScriptCause>, word: &[u8]) -> Result<Missed, ScriptCause>
+    requires { IfOk eids (λ e. length e.items < 17) }
+    ensures value { seen_eids result ≡ with_eid_of (seen_eids eids) word.now }
+    ensures more { IfOk result (λ new. IfOk eids (λ old. length new.items ≡ length old.items + 1)) }
+{
+    match both(eids, eid(word)) {
+        Ok((mut eids, eid)) => {
+            eids.push(eid);
+            Ok(eids)
+        }
+        Err(cause) => Err(cause),
+    }
+}
+
+/// The identifiers that these words are, at most 17.
+fn eids(words: &[&[u8]]) -> Result<Missed, ScriptCause>
+    requires { length words.now ≤ 17 }
+    ensures { seen_eids result ≡ eids_from (Ok []) (map (λ f. f.now) words.now) }
+{
+    let mut eids = Ok(Missed::new());
+    for word in words {
+        eids = with_eid(eids, word);
+    }
+    eids
+}
+
+/// Whether one of these identifiers stands twice.
+fn has_twice(eids: &[u8]) -> bool
+    ensures { result ≡ stands_twice eids.now }
+{
+    let mut left = eids;
+    while let [first, rest @ ..] = left {
+        if rest.contains(first) {
+            return true;
+        }
+        left = rest;
+    }
+    false
+}
+
+/// The tick that these nodes miss, 1 to 17.
+fn miss(fields: &[&[u8]]) -> Result<Step, ScriptCause>
+    ensures { result ≡ step_of Directive.Miss (map (λ f. f.now) fields.now) }
+{
+    if fields.is_empty() || fields.len() > MAX_MISSED {
+        return Err(ScriptCause::Fields);
+    }
+    match eids(fields) {
+        Ok(missed) => {
+            if has_twice(missed.as_slice()) {
+                return Err(ScriptCause::Duplicate);
+            }
+            Ok(Step::Tick(missed))
+        }
+        Err(cause) => Err(cause),
+    }
+}
+
 /// The step of a request of the event log.
 fn sel(alloc: Global, fields: &[&[u8]]) -> Result<Step, ScriptCause>
     ensures { Answers (λ s. s) result (step_of Directive.Sel (map (λ f. f.now) fields.now)) }
@@ -193,6 +260,7 @@ fn step(alloc: Global, directive: Directive, fields: &[&[u8]]) -> Result<Step, S
             Ok(eid) => Ok(Step::Restart(eid)),
             Err(cause) => Err(cause),
         },
+        Directive::Miss => miss(fields),
         Directive::Sel => sel(alloc, fields),
     }
 }
@@ -202,11 +270,11 @@ fn step(alloc: Global, directive: Directive, fields: &[&[u8]]) -> Result<Step, S
 /// # Errors
 /// `Memory` where memory for them is refused.
 fn push_ticks(steps: &mut Vec<Step>, count: u64) -> Result<(), ScriptCause>
-    ensures ok { OnOk result (steps.new.items ≡ steps.old.items ++ repeat count (Step.Tick ∷ [])) }
+    ensures ok { OnOk result (steps.new.items ≡ steps.old.items ++ repeat count (full_tick ∷ [])) }
     ensures err { IfErr result (λ e. e ≡ ScriptCause.Memory) }
 {
     for _pushed in 0..count {
-        let Ok(()) = steps.push(Step::Tick) else {
+        let Ok(()) = steps.push(Step::Tick(Missed::new())) else {
             return Err(ScriptCause::Memory);
         };
     }
@@ -256,7 +324,7 @@ fn push_line(alloc: Global, line: &[u8], steps: &mut Vec<Step>) -> Result<(), Sc
     push_said(alloc, directive, fields.as_slice(), steps)
 }
 
-/// Reads a schedule: its steps in their order, of which `tick N` is N.
+/// Reads a schedule: its steps in their order, of which `tick N` is N; `miss EID ..` is a tick that these nodes miss.
 ///
 /// Work is linear in the text and its steps.
 ///

@@ -155,6 +155,10 @@ packets_at (Some x) = x.packets
 abbrev pub packets_of : WorldOf → ℕ → List Sent
 packets_of w device = packets_at (site_for w.sites device)
 
+-- a tick that nobody misses
+abbrev pub full_tick : Step
+full_tick = steps.Tick (record { items = [] })
+
 -- A node counts a tick, unless it is one of these.
 abbrev pub counts : (missed : List ℕ) → (eid : ℕ) → Bool
 counts missed eid = not (list_any (λ m. m == eid) missed)

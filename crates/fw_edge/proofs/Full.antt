@@ -1,0 +1,13 @@
+-- A tick that nobody misses may be taken, wherever the clock isn't at its end.
+use Rattle.std.proofs.Common.{◌≡◌, ◌≢◌, ◌<◌, ◌≤◌, ◌-◌, ◌^◌, ◌&&◌, Bool, true, List, [], ◌∷◌, None, refl, arith}
+use Rattle.std.proofs.lemmas.Bool.{lt-ltb}
+use Rattle.std.specs.List.{list_all}
+use Rattle.fw_world.specs.Replays.{may_site_beat, may_step}
+use Rattle.fw_world.specs.Worlds.{SiteOf, WorldOf, full_tick}
+
+all_may : (xs : List SiteOf) → list_all (may_site_beat []) xs ≡ true
+all_may [] = refl
+all_may (x ∷ xs) = all_may xs
+
+pub full_may : (w : WorldOf) → w.now < 2 ^ 32 - 1 → may_step w full_tick ≡ None
+full_may w soon = rw (lt-ltb w.now (2 ^ 32 - 1) soon, all_may w.sites) refl
