@@ -8,7 +8,7 @@ abbrev pub invariant-loop-left : goal.invariant-loop-left
 invariant-loop-left l = record {
   passed : map (λ f. f.now) l.fields.items ++ words_from (option_map (λ r. r.now) l.left) ≡ words_from (option_map (λ r. r.now) l.fn.rest);
   kept : list_any is_nothing (map (λ f. f.now) l.fields.items) ≡ false;
-  few : length l.fields.items ≤ 6;
+  few : length l.fields.items ≤ 17;
 }
 
 abbrev left_over : Option (Bor (List ℕ)) → ℕ

@@ -1,6 +1,12 @@
-use Rattle.std.proofs.Common.{append_assoc, refl}
+use Rattle.std.proofs.Common.{◌≡◌, append_assoc, ap, refl}
+use Rattle.arrayvec.specs.declared.array_vec.ArrayVec.{ArrayVec}
+use Rattle.fw_world.specs.declared.step.Step.{Step}
+use Rattle.fw_world.specs.declared.step.Step.TheVariants as steps
+use Rattle.fw_world.specs.Worlds.{full_tick}
 use Rattle.fw_script.proofs.Steps.{repeat_more}
 use Rattle.fw_script.proofs.schedule.push_ticks.Goals as goal
 
 pub loop-pushed-preserved : goal.loop-pushed-preserved
-loop-pushed-preserved c = rw (c.in-Ok.ensures.items, c.loop-pushed.invariant, repeat_more, append_assoc) refl
+loop-pushed-preserved c =
+    let full : ◌≡◌ {A = Step} (steps.Tick c.new.result) full_tick = ap (λ xs. steps.Tick (record { items = xs })) c.new.ensures in
+    rw (c.in-Ok.ensures.items, c.loop-pushed.invariant, repeat_more, append_assoc, full) refl
