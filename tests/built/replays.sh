@@ -19,6 +19,8 @@ worlds() {
     replayed three data/worlds/silent.schedule silent
     replayed one data/worlds/no-such-packet.schedule steps 'fwupd: step 5: NoSuchPacket'
     replayed one data/worlds/dead.schedule dead 'fwupd: step 12: Dead'
+    replayed one data/worlds/slow-clock.schedule slow-clock
+    replayed one data/worlds/too-slow.schedule too-slow 'fwupd: step 16: Refused:ClockSlow'
 }
 
 # The worked requests of the event log: after each, its answer and the number of records.

@@ -43,9 +43,17 @@ TABLE
     done <<'TABLE'
 1: Directive|tock
 2: Directive|tick\n tick
-1: Directive|miss 8
+1: Directive|misses 8
 1: Fields|deliver 9 1
 1: Fields|tick 1 2
+1: Fields|miss
+1: Fields|miss 8  9
+1: Fields|miss 8 9 10 11 12 13 14 15 16 17 18 19 20 21 22 23 24 25
+1: Duplicate|miss 9 8 9
+1: Duplicate|miss 9 8 10 8
+1: Number|miss 9 9 x
+1: Range|miss 9 9 7
+1: Number|miss 300 x
 1: Number|tick x
 1: Range|tick 0
 1: Range|tick 1001

@@ -130,7 +130,8 @@ with #, are skipped:
   package PATH                                    a package's file; these lines are last, and count from 1
 
 SCHEDULE, a step a line:
-  tick [N]                   N ticks pass, 1 to 1000
+  tick [N]                   a unit of time passes, or N, 1 to 1000; all nodes count a tick in each
+  miss EID ..                a unit passes; these nodes, 1 to 17, miss its tick, and all others count it
   deliver PAIR NUMBER NODE   packet NUMBER between the agent and device PAIR is delivered to NODE
   start EID PACKAGE          the operator starts a device's update with a package
   cancel EID                 the operator cancels the update
@@ -144,9 +145,9 @@ Faults of a line. The first that holds is printed:
 
 Why a step isn't taken; the report is then of the world before it:
   NoSuchNode, NoSuchPacket, Dead (sent more than 8 units ago), Memory, or Refused: and
-  NoSuchPackage, Busy, NotReady, NotNow, ClockEnd
+  NoSuchPackage, Busy, NotReady, NotNow, ClockEnd, ClockSlow
 
-The report has the units that passed, one a tick; each node, and whether it hears; for a device its state, that of the
+The report has the units that passed; each node, and whether it hears; for a device its state, that of the
 agent's session with it, and how many packets were sent between the two; the images that run, with size and first bytes; the
 event log's records and last answer; and what was applied, recorded and activated, in order.
 

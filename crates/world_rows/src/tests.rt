@@ -1,5 +1,6 @@
 //! The worked update, worlds side by side, and random schedules.
 
+mod clocks;
 mod dice;
 mod headers;
 mod isolation;

@@ -6,7 +6,7 @@ use crate::tests::setup::{
 };
 use fd_core::{Bank, State};
 use fw_edge::{Driven, MemLink};
-use fw_world::Step;
+use fw_world::{Missed, Step};
 use std::alloc::Global;
 use std::test::Fail;
 use ua_core::{Cause, SessionState};
@@ -109,7 +109,7 @@ fn fails_so(world: &Small<'_>, driven: Option<Driven>, failure: &Failure) -> boo
 /// Whether the device is idle after 240 ticks, and nothing is applied.
 fn rests(world: &mut Small<'_>) -> bool {
     for _ in 0..240 {
-        let _ = step(world, &Step::Tick);
+        let _ = step(world, &Step::Tick(Missed::new()));
     }
     match world.device(DEVICE) {
         Some(node) => {

@@ -3,7 +3,7 @@
 use crate::tests::packages::{file, package};
 use crate::tests::setup::{DEVICE, Small, start, step, world};
 use fw_edge::heard;
-use fw_world::Step;
+use fw_world::{Missed, Step};
 use mctp_wire::RawPacket;
 use std::test::Fail;
 
@@ -13,7 +13,7 @@ const QUERY: [u8; 8] = [0x01, 0x09, 0x08, 0xC8, 0x01, 0x80, 0x05, 0x01];
 /// Lets so many ticks pass.
 fn wait(world: &mut Small<'_>, ticks: u32) {
     for _ in 0..ticks {
-        let _ = step(world, &Step::Tick);
+        let _ = step(world, &Step::Tick(Missed::new()));
     }
 }
 

@@ -8,7 +8,7 @@ use crate::tests::setup::{
 use fd_core::State;
 use fw_edge::{Driven, EdgeFault, Link, MemLink};
 use fw_package::Package;
-use fw_world::{Step, replay};
+use fw_world::{Missed, Step, replay};
 use std::alloc::{AllocError, Global};
 use std::test::Fail;
 use ua_core::{Cause, SessionState};
@@ -82,7 +82,7 @@ fn passes_ticks(alloc: Global) -> Result<bool, Fail> {
     let mut links = [BadLink::new(alloc, Trouble::ForgesAlways)];
     let driven = driven(&mut world, &mut links, 3, &mut steps);
     let (turns, foreign) = (3, 3_072);
-    let ticks = [Step::Tick, Step::Tick, Step::Tick];
+    let ticks = [Step::Tick(Missed::new()), Step::Tick(Missed::new()), Step::Tick(Missed::new())];
     Ok(driven == Ok(Driven { turns, foreign }) && steps.as_slice() == ticks.as_slice())
 }
 

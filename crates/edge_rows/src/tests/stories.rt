@@ -6,7 +6,7 @@ use crate::tests::runs::started;
 use crate::tests::setup::{DEVICE, Small, driven, runs_first, stands, start, step, tells};
 use fd_core::State;
 use fw_edge::Driven;
-use fw_world::Step;
+use fw_world::{Missed, Step};
 use std::alloc::Global;
 use std::test::Fail;
 use ua_core::SessionState;

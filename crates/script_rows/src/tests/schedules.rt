@@ -2,7 +2,7 @@
 
 use fd_core::Verdict;
 use fw_script::read_schedule;
-use fw_world::{LogRequest, Step};
+use fw_world::{LogRequest, Missed, Step};
 use std::test::Fail;
 
 /// A request of the event log.
@@ -10,6 +10,13 @@ fn request(bytes: &[u8]) -> Step {
     let mut request = LogRequest::new();
     let _ = request.try_extend_from_slice(bytes);
     Step::Sel(request)
+}
+
+/// A tick that these nodes miss.
+fn miss(nodes: &[u8]) -> Step {
+    let mut missed = Missed::new();
+    let _ = missed.try_extend_from_slice(nodes);
+    Step::Tick(missed)
 }
 
 #[test]
@@ -29,17 +36,19 @@ fn reads_each_step_and_skips_what_says_nothing(rt: HostRuntime) -> Result<(), Fa
         restart 10\n\
         sel -\n\
         sel 46fFc3\n\
+        miss 8\n\
+        miss 254 9 010\n\
         #tick\n\
         tick 1";
     let steps = read_schedule(rt.alloc(), text)?;
     let want = [
-        Step::Tick,
+        Step::Tick(Missed::new()),
         Step::Deliver(9, 0, 8),
         Step::Start(9, 18_446_744_073_709_551_615),
         Step::Cancel(254),
-        Step::Tick,
-        Step::Tick,
-        Step::Tick,
+        Step::Tick(Missed::new()),
+        Step::Tick(Missed::new()),
+        Step::Tick(Missed::new()),
         Step::Activate(8),
         Step::Verdict(9, Verdict::VerifyOk),
         Step::Verdict(9, Verdict::VerifyFail),
@@ -48,7 +57,9 @@ fn reads_each_step_and_skips_what_says_nothing(rt: HostRuntime) -> Result<(), Fa
         Step::Restart(10),
         request(&[]),
         request(&[0x46, 0xFF, 0xC3]),
-        Step::Tick,
+        miss(&[8]),
+        miss(&[254, 9, 10]),
+        Step::Tick(Missed::new()),
     ];
     assert!(rt; steps.as_slice() == want.as_slice());
     Ok(())

@@ -1,5 +1,6 @@
 //! Two worlds side by side, in which the same is between the agent and one device.
 
+use crate::tests::clocks::missed_by;
 use crate::tests::packages::{file, package};
 use crate::tests::seeing::{is_updated, stands};
 use crate::tests::setup::{DEVICE, Small, world};
@@ -30,8 +31,8 @@ fn put_for_all(steps: &mut Vec<Step>, step: &Step) -> Result<(), AllocError> {
     Ok(())
 }
 
-/// The schedule of 19 ticks in which device 9 is updated over links that lose nothing; in that for all devices, 11 is updated
-/// likewise, and 10 hears nothing.
+/// The schedule of 19 ticks in which device 9 is updated over links that lose nothing, and misses the 15th tick; in that for all
+/// devices, 11 is updated likewise, and 10 hears nothing.
 fn schedule(alloc: Global, all: bool) -> Result<Vec<Step>, AllocError> {
     let mut steps = Vec::new(alloc);
     for step in perfect() {
@@ -40,8 +41,12 @@ fn schedule(alloc: Global, all: bool) -> Result<Vec<Step>, AllocError> {
         }
         steps.push(step)?;
     }
-    for _ in 0..7 {
-        steps.push(Step::Tick)?;
+    for late in 0..7 {
+        steps.push(Step::Tick(missed_by(match (late, all) {
+            (2, true) => &[11, 9, 11],
+            (2, false) => &[9],
+            _ => &[],
+        })))?;
     }
     Ok(steps)
 }

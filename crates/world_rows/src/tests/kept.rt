@@ -5,7 +5,7 @@ use crate::tests::packages::package;
 use crate::tests::setup::{DEVICE, Small, step, world};
 use exch_lane::SentPacket;
 use fd_core::{State, Verdict};
-use fw_world::{Refusal, Step, StepFault};
+use fw_world::{Missed, Refusal, Step, StepFault};
 use fwup_wire::Command;
 use std::alloc::{AllocError, Global};
 use std::test::Fail;
@@ -52,7 +52,7 @@ fn receiver(world: &Small<'_>, number: usize) -> Option<u8> {
 /// does. It gives how many packets are delivered then.
 fn turn(world: &mut Small<'_>, delivered: usize) -> Result<usize, StepFault> {
     let mut delivered = delivered;
-    step(world, &Step::Tick)?;
+    step(world, &Step::Tick(Missed::new()))?;
     for _ in 0..MOST {
         let Some(node) = receiver(world, delivered.saturating_add(1)) else {
             break;
@@ -105,14 +105,14 @@ fn a_late_request_meets_its_kept_answer(rt: HostRuntime) -> Result<(), Fail> {
     for _ in 0..14 {
         delivered = turn(&mut world, delivered)?;
     }
-    step(&mut world, &Step::Tick)?;
+    step(&mut world, &Step::Tick(Missed::new()))?;
     assert!(rt; world.now() == 15 && asks_for_last(&world, 36, 15));
     assert!(rt; waits_for_last(&world));
     step(&mut world, &late)?;
     assert!(rt; world.packets(DEVICE).map(|it| it.len()) == Some(37));
     assert!(rt; is_same(&world, 37, 15));
     assert!(rt; waits_for_last(&world));
-    step(&mut world, &Step::Tick)?;
+    step(&mut world, &Step::Tick(Missed::new()))?;
     assert!(rt; step(&mut world, &late) == Err(StepFault::Dead));
     Ok(())
 }

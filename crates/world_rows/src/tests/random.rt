@@ -1,5 +1,6 @@
-//! Random schedules, whose histories a checker of its own looks at after each step.
+//! Random schedules, with misses of ticks, whose histories and clocks checkers of their own look at after each step.
 
+use crate::tests::clocks::{Clocks, missed_by};
 use crate::tests::dice::Dice;
 use crate::tests::headers::{THREE_FIRST, THREE_SECOND, TWO_FIRST, TWO_SECOND};
 use crate::tests::packages::package;
@@ -7,7 +8,7 @@ use crate::tests::setup::{Small, step, world};
 use crate::tests::watch::{Watch, byte_of, size_of};
 use fd_core::Verdict;
 use fw_package::{Package, PackageFault};
-use fw_world::Step;
+use fw_world::{Refusal, Step, StepFault};
 use std::alloc::{AllocError, Global};
 use std::test::Fail;
 
@@ -41,6 +42,7 @@ struct Trial<'a> {
     world: Small<'a>,
     dice: Dice,
     watch: Watch,
+    clocks: Clocks,
     handed: [usize; 2],
 }
 
@@ -126,10 +128,46 @@ impl<'a> Trial<'a> {
         }
     }
 
+    /// The nodes that miss a tick: none, mostly.
+    fn missing(&mut self) -> &'static [u8] {
+        if self.dice.hits(200) {
+            return &[];
+        }
+        match self.dice.byte() % 6 {
+            0 => &[8],
+            1 => &[9],
+            2 => &[10],
+            3 => &[9, 10],
+            4 => &[10, 8, 10],
+            _ => &[8, 9, 10],
+        }
+    }
+
+    /// A unit passes, which some nodes miss; where one of these may not, the world refuses it, and then nobody does.
+    fn pass(&mut self) {
+        let missed = self.missing();
+        if self.clocks.may_miss(missed) {
+            self.count(missed);
+            return;
+        }
+        let slow = step(&mut self.world, &Step::Tick(missed_by(missed)));
+        self.clocks.keep_time = self.clocks.keep_time
+            && slow == Err(StepFault::Refused(Refusal::ClockSlow));
+        self.count(&[]);
+    }
+
+    /// A unit passes, which these nodes miss.
+    fn count(&mut self, missed: &[u8]) {
+        let taken = step(&mut self.world, &Step::Tick(missed_by(missed)));
+        self.clocks.pass(missed);
+        self.clocks.keep_time = self.clocks.keep_time && taken == Ok(());
+        self.watch.look(self.world.history());
+    }
+
     /// Runs the schedule.
     fn run(&mut self) {
         for _ in 0..TICKS {
-            self.take(Step::Tick);
+            self.pass();
             for (place, device) in DEVICES.iter().enumerate() {
                 self.hand_new(*device, place);
                 self.operate(*device);
@@ -138,7 +176,7 @@ impl<'a> Trial<'a> {
     }
 }
 
-/// How many activations so many schedules reach; None where a history isn't safe.
+/// How many activations so many schedules reach; None where a history isn't safe, or a node doesn't keep time.
 fn activations<'p>(
     alloc: Global,
     packages: &'p [Package<'p>],
@@ -150,10 +188,11 @@ fn activations<'p>(
             world: world(alloc, packages, 2, components)?,
             dice: Dice::new(seed.wrapping_mul(0x9E37_79B9_7F4A_7C15)),
             watch: Watch::new(),
+            clocks: Clocks::new(),
             handed: [0, 0],
         };
         trial.run();
-        if !trial.watch.is_safe {
+        if !trial.watch.is_safe || !trial.clocks.keep_time {
             return Ok(None);
         }
         all = all.saturating_add(trial.watch.activations);
@@ -180,7 +219,7 @@ fn many_are_safe(
         return Ok(false);
     };
     println!(rt; "{SCHEDULES} schedules of {components} components: {count} activations")?;
-    Ok(count > 2_000)
+    Ok(count >= 3_000)
 }
 
 #[test]
