@@ -82,7 +82,11 @@ fn passes_ticks(alloc: Global) -> Result<bool, Fail> {
     let mut links = [BadLink::new(alloc, Trouble::ForgesAlways)];
     let driven = driven(&mut world, &mut links, 3, &mut steps);
     let (turns, foreign) = (3, 3_072);
-    let ticks = [Step::Tick(Missed::new()), Step::Tick(Missed::new()), Step::Tick(Missed::new())];
+    let ticks = [
+        Step::Tick(Missed::new()),
+        Step::Tick(Missed::new()),
+        Step::Tick(Missed::new()),
+    ];
     Ok(driven == Ok(Driven { turns, foreign }) && steps.as_slice() == ticks.as_slice())
 }
 

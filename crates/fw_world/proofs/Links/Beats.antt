@@ -1,5 +1,5 @@
 -- Where a tick may be taken, each node of a link may count it, or miss it, as it does.
-use Rattle.std.proofs.Common.{◌≡◌, ◌-◌, ◌^◌, ◌&&◌, ℕ, Bool, true, false, nat_lt, List, [], ◌∷◌, Option, Some, None, IfSome, refl, sym, ap, subst}
+use Rattle.std.proofs.Common.{◌≡◌, ◌-◌, ◌^◌, ◌&&◌, ℕ, Bool, true, false, nat_lt, List, [], ◌∷◌, Option, Some, None, IfSome, refl, sym, subst}
 use Rattle.std.specs.List.{AllByRecursion, list_all}
 use Rattle.arrayvec.specs.declared.array_vec.ArrayVec.{ArrayVec}
 use Rattle.exch_lane.specs.Clocks.{may_beat}

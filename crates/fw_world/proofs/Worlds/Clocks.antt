@@ -1,6 +1,6 @@
 -- Each node keeps time along a run: it misses a tick only where it has counted eight since the last that it missed.
-use Rattle.std.proofs.Common.{◌≡◌, ◌∙◌, ◌≤◌, ◌+◌, ◌==◌, ◌&&◌, ◌||◌, ◌++◌, ◌-◌, ◌^◌, ℕ, Bool, true, false, if◌then◌else◌, is_some, length, List, [], ◌∷◌, map, nat_lt, Option, Some, None, IfSome, IsSomeAnd, inl, inr, refl, sym, ap, subst, arith}
-use Rattle.std.specs.List.{AllByRecursion, list_all}
+use Rattle.std.proofs.Common.{◌≡◌, ◌∙◌, ◌≤◌, ◌+◌, ◌==◌, ◌&&◌, ◌||◌, ◌++◌, ◌-◌, ◌^◌, ℕ, Bool, true, false, if◌then◌else◌, is_some, length, List, [], ◌∷◌, map, nat_lt, Option, Some, None, IfSome, inl, inr, refl, sym, ap, subst, arith}
+use Rattle.std.specs.List.{AllByRecursion}
 use Rattle.std.proofs.lemmas.Bool.{ltb-true}
 use Rattle.std.proofs.lemmas.Bool.Decides.{eqb_tells}
 use Rattle.exch_lane.specs.Clocks.{AreAllowed, TicksAreLate, counted as counted_of, late, may_beat, since_after, since_all}
@@ -21,7 +21,7 @@ use Rattle.fw_world.specs.Clocks.{KeepsTime, RunsKeepTime, counted, passed, tick
 use Rattle.fw_world.specs.JoinLaws.{LinksAreMessages}
 use Rattle.fw_world.specs.LinkLaws.{LinksAreLanes}
 use Rattle.fw_world.specs.Links.{LinkOf, LinkStep, LinkStepped, activates_on as link_activates, agent_heard, delivers_on, device_heard, hears_on, judges_on, link_after, link_ticks, unnoted}
-use Rattle.fw_world.specs.Replays.{IsOpeningWorld, Leads, Run, is_device, is_node, may_all_beat, may_site_beat, may_step, new_site}
+use Rattle.fw_world.specs.Replays.{IsOpeningWorld, Leads, Run, is_device, may_step, new_site}
 use Rattle.fw_world.specs.Worlds.{SiteOf, WorldOf, counts, site_for, world_after}
 use Rattle.fw_world.specs.declared.step.Step.{Step}
 use Rattle.fw_world.specs.declared.step.Step.TheVariants as steps
@@ -31,7 +31,6 @@ use Rattle.fw_world.proofs.Links.Linked.{linked_world}
 use Rattle.fw_world.proofs.Links.Posting.{site_eid, site_is_first}
 use Rattle.fw_world.proofs.Links.Projected.{StepsTo, comes_as, link_step, restart_as, where_mine}
 use Rattle.fw_world.proofs.Links.Projection.{link_at, link_from}
-use Rattle.fw_world.proofs.Links.WorldSteps.{AreLinked}
 use Rattle.fw_world.proofs.Worlds.KnownDeaf.{agent_stays, became, became_if}
 use Rattle.fw_world.proofs.Worlds.KnownSteps.{gone_to}
 use Rattle.fw_world.proofs.Worlds.Safe.{stand_along}
