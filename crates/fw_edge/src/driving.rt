@@ -118,6 +118,7 @@ fn take_turns<B: Bank + Drop, L: Link>(
     ensures links { length links.new ≡ length links.old }
     ensures all { OnOk result (written.new ≡ packet_counts world.new.sites) }
     ensures failed { IfErr result (λ e. AreToldOf e (map (λ l. (L.tally l).failures) links.old) (map (λ l. (L.tally l).failures) links.new)) }
+    ensures step { IfErr result (λ e. e ≡ EdgeFault.Step → world.new.now ≡ 2 ^ 32 - 1) }
     ensures stopped { IfErr result (λ e. Stopped e world.old steps.old.items (links_at written.old (map L.taken links.old) (map L.gave links.old)) world.new steps.new.items) }
 {
     let mut foreign = 0;
@@ -167,6 +168,7 @@ pub fn drive<B: Bank + Drop, L: Link>(
     ensures sent { OnOk result (AllSent (packet_counts world.old.sites) (packet_counts world.new.sites) (map (λ l. (L.tally l).sent) links.old) (map (λ l. (L.tally l).sent) links.new)) }
     ensures devices { length links.new ≡ length world.new.sites }
     ensures failed { IfErr result (λ e. AreToldOf e (map (λ l. (L.tally l).failures) links.old) (map (λ l. (L.tally l).failures) links.new)) }
+    ensures step { IfErr result (λ e. e ≡ EdgeFault.Step → world.new.now ≡ 2 ^ 32 - 1) }
     ensures stopped { IfErr result (λ e. Stopped e world.old steps.old.items (links_at (packet_counts world.old.sites) (map L.taken links.old) (map L.gave links.old)) world.new steps.new.items) }
 {
     let mut written = all_sent(world);
