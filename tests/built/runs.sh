@@ -22,6 +22,7 @@ runs() {
     mkdir "$work/folder"
     compare 'a run' "$report" "$(cd crates/fwupd && fwupd run data/worlds/one.config "$work/folder" 2>&1)"
     compare 'the same run again' "$report" "$(cd crates/fwupd && fwupd run data/worlds/one.config "$work/folder" 2>&1)"
+    compare 'a configuration from a pipe' "$report" "$(cd crates/fwupd && cat data/worlds/one.config | fwupd run /dev/stdin "$work/folder" 2>&1)"
     compare 'nothing is left' '' "$(ls "$work/folder")"
     echo mine > "$work/folder/9.sock"
     compare 'a name that is taken' 'fwupd: socket: 9' "$(cd crates/fwupd && fwupd run data/worlds/one.config "$work/folder" 2>&1)"
@@ -57,6 +58,23 @@ traces() {
     row '' '1||fwupd: package: none' run --trace "$work/early" "$work/bare" "$work/folder"
     row '' "1||fwupd: $work/none: unreadable" run --trace "$work/early" "$work/none" "$work/folder"
     compare 'no trace is made' '' "$(ls "$work/early" 2> "$work/err")"
+}
+
+# A trace of eight devices onto a full disk. The run ends with the turn in which more of it is there than is held back, 8,192 bytes.
+full_traces() {
+    local device turn
+    {
+        echo 'agent 8 00000000-0000-0000-0000-000000000000'
+        for device in 9 10 11 12 13 14 15 16; do
+            printf 'device %s 00000000-0000-0000-0000-000000000000\ndescriptor 0000 3412\ncomponent 10 1 0 1 1.0 AA\n' "$device"
+        done
+        echo "package $top/crates/fwupd/data/one.fwpkg"
+    } > "$work/eight.config"
+    fwupd run --trace "$work/eight" "$work/eight.config" "$work" > "$work/report"
+    compare 'the packets of eight devices' 216 "$(wc -l < "$work/eight")"
+    turn=$(awk '{ bytes += length($0) + 1 } bytes > 8192 { print $1; exit }' "$work/eight")
+    compare 'the turn at which a disk is full' "now $turn" "$(fwupd run --trace /dev/full "$work/eight.config" "$work" 2> "$work/err" | head -n 1)"
+    compare 'why the run ends there' 'fwupd: trace' "$(< "$work/err")"
 }
 
 # What a run shows on a terminal, and that it shows nothing there where it is to be quiet.

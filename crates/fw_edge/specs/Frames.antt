@@ -25,11 +25,11 @@ pub record BeginsOf (before now : Option (List ℕ)) (bytes : List ℕ) : Type 0
   pub count : ℕ
   pub written : Appends before now (take count bytes)
 
--- fewer bytes were read than a frame has whose length is in the first two of them
+-- fewer bytes were read than a frame has whose length, that of a packet, is in the first two of them
 abbrev pub IsCut : List ℕ → Type 0
 IsCut [] = Unit {0}
 IsCut (low ∷ []) = Unit {0}
-IsCut (low ∷ high ∷ rest) = length rest < little_number 2 (low ∷ high ∷ [])
+IsCut (low ∷ high ∷ rest) = (length rest < little_number 2 (low ∷ high ∷ [])) × (little_number 2 (low ∷ high ∷ []) ≤ 68)
 
 -- two bytes are no length of a packet
 abbrev pub IsNoLength : List ℕ → Type 0

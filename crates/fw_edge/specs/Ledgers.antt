@@ -1,5 +1,7 @@
 -- What links count in a run.
-use Rattle.std.specs.Prelude.{ℕ, ◌≡◌, ◌≤◌, ◌<◌, ◌+◌, ◌-◌, ◌^◌, ◌⊎◌, List, [], ◌∷◌, length, map}
+use Rattle.std.specs.Prelude.{ℕ, ◌≡◌, ◌≢◌, ◌≤◌, ◌<◌, ◌+◌, ◌-◌, ◌^◌, ◌⊎◌, List, [], ◌∷◌, length, map}
+use Rattle.fw_edge.specs.declared.driving.EdgeFault.{EdgeFault}
+use Rattle.fw_edge.specs.declared.driving.EdgeFault.TheVariants as faults
 use Rattle.fw_edge.specs.declared.tally.Tally.{Tally}
 use Rattle.fw_world.specs.Worlds.{SiteOf}
 
@@ -11,6 +13,14 @@ HasFailed old new = (old < new) ⊎ (new ≡ 2 ^ 64 - 1)
 abbrev pub OneFailed : List ℕ → List ℕ → Type 0
 OneFailed (o ∷ os) (n ∷ ns) = HasFailed o n ⊎ OneFailed os ns
 OneFailed os ns = ⊥
+
+-- `Frame` is told where a link failed, and another fault where it didn't.
+abbrev pub IsToldOf : EdgeFault → ℕ → ℕ → Type 0
+IsToldOf fault old new = (fault ≡ faults.Frame → HasFailed old new) × (fault ≢ faults.Frame → new ≡ old)
+
+-- where one of these did, and where none did
+abbrev pub AreToldOf : EdgeFault → List ℕ → List ℕ → Type 0
+AreToldOf fault os ns = (fault ≡ faults.Frame → OneFailed os ns) × (fault ≢ faults.Frame → ns ≡ os)
 
 -- So many packets were taken.
 pub record Writes (packets : ℕ) (old new : Tally) : Type 0 where

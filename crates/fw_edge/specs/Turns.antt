@@ -1,5 +1,5 @@
 -- What a turn of a run does, step by step.
-use Rattle.std.specs.Prelude.{ℕ, zero, suc, ◌≡◌, ◌≤◌, ◌<◌, ◌+◌, ◌++◌, ◌⊎◌, true, false, if◌then◌else◌, is_some, List, [], ◌∷◌, length, map, option_map, option_to_list, take, Option, Some, None}
+use Rattle.std.specs.Prelude.{ℕ, zero, suc, ◌≡◌, ◌≢◌, ◌≤◌, ◌<◌, ◌+◌, ◌-◌, ◌^◌, ◌++◌, ◌⊎◌, true, false, if◌then◌else◌, is_some, List, [], ◌∷◌, length, map, option_map, option_to_list, take, Option, Some, None}
 use Rattle.fd_core.specs.States.{DeviceState}
 use Rattle.fd_core.specs.Steps.{device_verdict}
 use Rattle.fd_core.specs.declared.states.Verdict.{Verdict}
@@ -13,6 +13,8 @@ use Rattle.fw_world.specs.Worlds.{SiteOf, WorldOf, full_tick, site_for}
 use Rattle.fw_world.specs.declared.step.Step.{Step}
 use Rattle.fw_world.specs.declared.step.Step.TheVariants as steps
 use Rattle.fw_edge.specs.Drives.{all_over, delivers_in}
+use Rattle.fw_edge.specs.declared.driving.EdgeFault.{EdgeFault}
+use Rattle.fw_edge.specs.declared.driving.EdgeFault.TheVariants as faults
 use Rattle.fw_edge.specs.Frames.{frames_of}
 use Rattle.fw_edge.specs.Hearing.{IsHeard}
 use Rattle.fw_edge.specs.Links.{EndsOf, GrowsAt, LinksOf}
@@ -179,6 +181,12 @@ pub record Turned (w : WorldOf) (before : List Step) (old : LinksOf) (v : WorldO
   pub verdicts : TakesAll heard heard_steps (all_due verdict_for heard (eids_of heard.sites)) judged judged_steps
   pub activations : TakesAll judged judged_steps (all_due activation_for judged (eids_of judged.sites)) v after
 
+-- A turn stops for this reason: `Step` where the clock stands at its last unit, which is looked at before all else, so that nothing is
+-- done; and another fault where it doesn't.
+abbrev pub StopsTurn : EdgeFault → WorldOf → List Step → WorldOf → List Step → Type 0
+StopsTurn fault w before v after =
+    (fault ≡ faults.Step → (w.now ≡ 2 ^ 32 - 1) × (v ≡ w) × (after ≡ before)) × (fault ≢ faults.Step → w.now ≢ 2 ^ 32 - 1)
+
 -- So many turns, before each of which some session was neither Done nor Failed, and the frames that came in them.
 abbrev pub Turns : ℕ → WorldOf → List Step → LinksOf → WorldOf → List Step → LinksOf → (count : ℕ) → Type 0
 Turns zero w before old v after new count = (v ≡ w) × (after ≡ before) × (new ≡ old) × (count ≡ 0)
@@ -192,3 +200,14 @@ pub record Drove (turns : ℕ) (w : WorldOf) (before : List Step) (old : LinksOf
   pub count : ℕ
   pub turned : Turns turns w before old v after new count
   pub frames : delivers_in before + count ≡ delivers_in after + foreign
+
+-- A run stopped for this reason in the turn behind so many, before which some session was neither Done nor Failed.
+pub record Stopped (fault : EdgeFault) (w : WorldOf) (before : List Step) (old : LinksOf) (v : WorldOf) (after : List Step) : Type 0 where
+  pub turns : ℕ
+  pub mid : WorldOf
+  pub steps : List Step
+  pub links : LinksOf
+  pub count : ℕ
+  pub turned : Turns turns w before old mid steps links count
+  pub on : all_over mid ≡ false
+  pub stops : StopsTurn fault mid steps v after

@@ -3,8 +3,8 @@
 ghost use Rattle.std.specs.Prelude.{◌≡◌, ◌≤◌, ◌<◌, ◌+◌, ◌-◌, ◌*◌, ◌^◌, IfErr, IfOk, OnErr, OnOk, length, map, true};
 ghost use Rattle.fw_edge.specs.Drives.{Drives, DrivesLiving, Goes, all_over, delivers_in, ticks_in};
 ghost use Rattle.fw_edge.specs.Links.{links_at};
-ghost use Rattle.fw_edge.specs.Turns.{Drove, Turned};
-ghost use Rattle.fw_edge.specs.Ledgers.{AllRose, AllSent, AreGiven, OneFailed, RoseTogether, packet_counts};
+ghost use Rattle.fw_edge.specs.Turns.{Drove, Stopped, StopsTurn, Turned};
+ghost use Rattle.fw_edge.specs.Ledgers.{AllRose, AllSent, AreGiven, AreToldOf, RoseTogether, packet_counts};
 
 use crate::link::Link;
 use crate::outgoing::sent_at;
@@ -70,8 +70,8 @@ fn turn<B: Bank + Drop, L: Link>(
     ensures sent { OnOk result (AllSent written.old written.new (map (λ l. (L.tally l).sent) links.old) (map (λ l. (L.tally l).sent) links.new)) }
     ensures all { OnOk result (written.new ≡ packet_counts world.new.sites) }
     ensures drives { OnErr result (Drives world.old steps.old.items world.new steps.new.items) }
-    ensures failed { IfErr result (λ e. e ≡ EdgeFault.Frame → OneFailed (map (λ l. (L.tally l).failures) links.old) (map (λ l. (L.tally l).failures) links.new)) }
-    ensures end { IfErr result (λ e. e ≡ EdgeFault.Step → world.new.now ≡ 2 ^ 32 - 1) }
+    ensures failed { IfErr result (λ e. AreToldOf e (map (λ l. (L.tally l).failures) links.old) (map (λ l. (L.tally l).failures) links.new)) }
+    ensures stops { IfErr result (λ e. StopsTurn e world.old steps.old.items world.new steps.new.items) }
     ensures links { length links.new ≡ length links.old }
     ensures written { length written.new ≡ length written.old }
 {
@@ -117,8 +117,9 @@ fn take_turns<B: Bank + Drop, L: Link>(
     ensures sent { OnOk result (AllSent (packet_counts world.old.sites) (packet_counts world.new.sites) (map (λ l. (L.tally l).sent) links.old) (map (λ l. (L.tally l).sent) links.new)) }
     ensures links { length links.new ≡ length links.old }
     ensures all { OnOk result (written.new ≡ packet_counts world.new.sites) }
-    ensures frame { IfErr result (λ e. e ≡ EdgeFault.Frame → OneFailed (map (λ l. (L.tally l).failures) links.old) (map (λ l. (L.tally l).failures) links.new)) }
+    ensures failed { IfErr result (λ e. AreToldOf e (map (λ l. (L.tally l).failures) links.old) (map (λ l. (L.tally l).failures) links.new)) }
     ensures step { IfErr result (λ e. e ≡ EdgeFault.Step → world.new.now ≡ 2 ^ 32 - 1) }
+    ensures stopped { IfErr result (λ e. Stopped e world.old steps.old.items (links_at written.old (map L.taken links.old) (map L.gave links.old)) world.new steps.new.items) }
 {
     let mut foreign = 0;
     for count in 0..turns {
@@ -166,8 +167,9 @@ pub fn drive<B: Bank + Drop, L: Link>(
     ensures given { IfOk result (λ d. AreGiven (delivers_in steps.old.items) (delivers_in steps.new.items) d.foreign (map (λ l. (L.tally l).given) links.old) (map (λ l. (L.tally l).given) links.new)) }
     ensures sent { OnOk result (AllSent (packet_counts world.old.sites) (packet_counts world.new.sites) (map (λ l. (L.tally l).sent) links.old) (map (λ l. (L.tally l).sent) links.new)) }
     ensures devices { length links.new ≡ length world.new.sites }
-    ensures frame { IfErr result (λ e. e ≡ EdgeFault.Frame → OneFailed (map (λ l. (L.tally l).failures) links.old) (map (λ l. (L.tally l).failures) links.new)) }
+    ensures failed { IfErr result (λ e. AreToldOf e (map (λ l. (L.tally l).failures) links.old) (map (λ l. (L.tally l).failures) links.new)) }
     ensures step { IfErr result (λ e. e ≡ EdgeFault.Step → world.new.now ≡ 2 ^ 32 - 1) }
+    ensures stopped { IfErr result (λ e. Stopped e world.old steps.old.items (links_at (packet_counts world.old.sites) (map L.taken links.old) (map L.gave links.old)) world.new steps.new.items) }
 {
     let mut written = all_sent(world);
     take_turns(world, links, written.as_mut_slice(), turns, steps)

@@ -1,6 +1,6 @@
 //! A link in memory.
 
-ghost use Rattle.std.specs.Prelude.{[], ◌≡◌, ◌++◌, ◌∷◌, IfErr, IfNone, IfOk, IsOk, None, Ok, OnErr, OnOk, is_some, map, option_to_list, true};
+ghost use Rattle.std.specs.Prelude.{[], ◌≡◌, ◌++◌, ◌∷◌, IfErr, IfNone, IfOk, IsOk, None, Ok, OnErr, OnOk, false, is_some, map, option_to_list, true};
 ghost use Rattle.fw_edge.specs.Links.{Asks, Fails, Sends};
 
 use crate::frame::FrameFault;
@@ -27,6 +27,10 @@ impl MemLink {
     pub fn new(alloc: Global) -> MemLink
         ensures up { result.up.items ≡ [] }
         ensures down { result.down.items ≡ [] }
+        ensures failures { result.tally.failures ≡ 0 }
+        ensures sent { result.tally.sent ≡ 0 }
+        ensures asked { result.tally.asked ≡ 0 }
+        ensures given { result.tally.given ≡ 0 }
     {
         MemLink {
             up: VecDeque::new(alloc),
@@ -42,6 +46,7 @@ impl MemLink {
         ensures device { side ≡ Side.Device → result ≡ true → self.new.up.items ≡ self.old.up.items ++ packet ∷ [] }
         ensures not_up { side ≡ Side.Agent → self.new.up.items ≡ self.old.up.items }
         ensures not_down { side ≡ Side.Device → self.new.down.items ≡ self.old.down.items }
+        ensures refused { result ≡ false → (self.new.up.items ≡ self.old.up.items) × (self.new.down.items ≡ self.old.down.items) }
     {
         match side {
             Side::Agent => self.down.push_back(packet).is_ok(),
@@ -85,6 +90,7 @@ impl Link for MemLink {
         ensures not_up { side ≡ Side.Agent → self.new.up.items ≡ self.old.up.items }
         ensures not_down { side ≡ Side.Device → self.new.down.items ≡ self.old.down.items }
         ensures fault { IfErr result (λ e. e ≡ FrameFault.Io) }
+        ensures refused { OnErr result ((self.new.up.items ≡ self.old.up.items) × (self.new.down.items ≡ self.old.down.items)) }
     {
         if !self.put(side, copy_of(packet)) {
             self.tally.fail();

@@ -5,7 +5,7 @@ ghost use Rattle.fw_edge.specs.Links.{links_at};
 ghost use Rattle.fw_edge.specs.Turns.{Came, CameAt, Exchanged, HandsOver, RoundOf, Rounds, both_ends, eid_in, node_at};
 ghost use Rattle.fw_edge.specs.Drives.{Drives, Goes};
 ghost use Rattle.fw_edge.specs.Hearing.{IsHeard};
-ghost use Rattle.fw_edge.specs.Ledgers.{AllRose, AllSent, HasFailed, NoneFell, OneFailed, Reads, RoseTogether, packet_counts};
+ghost use Rattle.fw_edge.specs.Ledgers.{AllRose, AllSent, AreToldOf, IsToldOf, NoneFell, Reads, RoseTogether, packet_counts};
 ghost use Rattle.fw_world.specs.Promises.{eids_of};
 ghost use Rattle.fw_world.specs.Replays.{may_step};
 ghost use Rattle.fw_world.specs.declared.step.Step.{Step};
@@ -125,7 +125,7 @@ fn read_end<B: Bank + Drop, L: Link>(
     ensures reads { IfOk result (λ f. Reads 1 (f.known + f.foreign) (L.tally link.old) (L.tally link.new)) }
     ensures drives { OnErr result (Drives world.old steps.old.items world.new steps.new.items) }
     ensures fault { IfErr result (λ e. e ≢ EdgeFault.Step) }
-    ensures failed { IfErr result (λ e. e ≡ EdgeFault.Frame → HasFailed (L.tally link.old).failures (L.tally link.new).failures) }
+    ensures failed { IfErr result (λ e. IsToldOf e (L.tally link.old).failures (L.tally link.new).failures) }
 {
     let frame = match link.receive(end) {
         Ok(frame) => frame,
@@ -154,7 +154,7 @@ fn read_both<B: Bank + Drop, L: Link>(
     ensures reads { IfOk result (λ f. Reads 2 (f.known + f.foreign) (L.tally link.old) (L.tally link.new)) }
     ensures drives { OnErr result (Drives world.old steps.old.items world.new steps.new.items) }
     ensures fault { IfErr result (λ e. e ≢ EdgeFault.Step) }
-    ensures failed { IfErr result (λ e. e ≡ EdgeFault.Frame → HasFailed (L.tally link.old).failures (L.tally link.new).failures) }
+    ensures failed { IfErr result (λ e. IsToldOf e (L.tally link.old).failures (L.tally link.new).failures) }
 {
     let first = match read_end(world, device, Side::Device, link, steps) {
         Ok(frames) => frames,
@@ -194,7 +194,7 @@ fn read_round<B: Bank + Drop, L: Link>(
     ensures sent { OnOk result (map (λ l. (L.tally l).sent) links.new ≡ map (λ l. (L.tally l).sent) links.old) }
     ensures drives { OnErr result (Drives world.old steps.old.items world.new steps.new.items) }
     ensures fault { IfErr result (λ e. e ≢ EdgeFault.Step) }
-    ensures failed { IfErr result (λ e. e ≡ EdgeFault.Frame → OneFailed (map (λ l. (L.tally l).failures) links.old) (map (λ l. (L.tally l).failures) links.new)) }
+    ensures failed { IfErr result (λ e. AreToldOf e (map (λ l. (L.tally l).failures) links.old) (map (λ l. (L.tally l).failures) links.new)) }
     ensures links { length links.new ≡ length links.old }
 {
     let mut frames = Frames::none();
@@ -229,7 +229,7 @@ fn round<B: Bank + Drop, L: Link>(
     ensures within { OnOk result (NoneFell written.new (packet_counts world.new.sites)) }
     ensures drives { OnErr result (Drives world.old steps.old.items world.new steps.new.items) }
     ensures fault { IfErr result (λ e. e ≢ EdgeFault.Step) }
-    ensures failed { IfErr result (λ e. e ≡ EdgeFault.Frame → OneFailed (map (λ l. (L.tally l).failures) links.old) (map (λ l. (L.tally l).failures) links.new)) }
+    ensures failed { IfErr result (λ e. AreToldOf e (map (λ l. (L.tally l).failures) links.old) (map (λ l. (L.tally l).failures) links.new)) }
     ensures links { length links.new ≡ length links.old }
     ensures written { length written.new ≡ length written.old }
 {
@@ -264,7 +264,7 @@ fn rounds<B: Bank + Drop, L: Link>(
     ensures within { OnOk result (NoneFell written.new (packet_counts world.new.sites)) }
     ensures drives { OnErr result (Drives world.old steps.old.items world.new steps.new.items) }
     ensures fault { IfErr result (λ e. e ≢ EdgeFault.Step) }
-    ensures failed { IfErr result (λ e. e ≡ EdgeFault.Frame → OneFailed (map (λ l. (L.tally l).failures) links.old) (map (λ l. (L.tally l).failures) links.new)) }
+    ensures failed { IfErr result (λ e. AreToldOf e (map (λ l. (L.tally l).failures) links.old) (map (λ l. (L.tally l).failures) links.new)) }
     ensures links { length links.new ≡ length links.old }
     ensures written { length written.new ≡ length written.old }
 {
@@ -302,7 +302,7 @@ pub(crate) fn exchange<B: Bank + Drop, L: Link>(
     ensures all { OnOk result (written.new ≡ packet_counts world.new.sites) }
     ensures drives { OnErr result (Drives world.old steps.old.items world.new steps.new.items) }
     ensures fault { IfErr result (λ e. e ≢ EdgeFault.Step) }
-    ensures failed { IfErr result (λ e. e ≡ EdgeFault.Frame → OneFailed (map (λ l. (L.tally l).failures) links.old) (map (λ l. (L.tally l).failures) links.new)) }
+    ensures failed { IfErr result (λ e. AreToldOf e (map (λ l. (L.tally l).failures) links.old) (map (λ l. (L.tally l).failures) links.new)) }
     ensures links { length links.new ≡ length links.old }
     ensures written { length written.new ≡ length written.old }
 {

@@ -59,7 +59,9 @@ pub(crate) fn tick<B: Bank + Drop>(
     ensures same { OnErr result (world.new ≡ world.old) }
     ensures unlisted { OnErr result (steps.new.items ≡ steps.old.items) }
     ensures fault { IfErr result (λ e. e ≢ EdgeFault.Frame) }
-    ensures end { IfErr result (λ e. e ≡ EdgeFault.Step → world.new.now ≡ 2 ^ 32 - 1) }
+    ensures end { IfErr result (λ e. e ≡ EdgeFault.Step → world.old.now ≡ 2 ^ 32 - 1) }
+    ensures before_end { IfErr result (λ e. e ≢ EdgeFault.Step → world.old.now ≢ 2 ^ 32 - 1) }
+    ensures on { OnOk result (world.old.now ≢ 2 ^ 32 - 1) }
 {
     if world.now() == u32::MAX {
         return Err(EdgeFault::Step);

@@ -1,6 +1,6 @@
 //! A link over a byte stream.
 
-ghost use Rattle.std.specs.Prelude.{◌≡◌, ◌≢◌, IfErr, IfOk, IfSome, None, Ok, OnErr, OnOk, is_some};
+ghost use Rattle.std.specs.Prelude.{◌≡◌, ◌≢◌, ◌+◌, IfErr, IfOk, IfSome, None, Ok, OnErr, OnOk, is_some};
 ghost use Rattle.fw_edge.specs.Frames.{ReadStops, WriteStops};
 ghost use Rattle.fw_edge.specs.Links.{Asks, Fails, Reads, Sends, Writes};
 
@@ -78,8 +78,8 @@ impl<S: Read + Write + Drop> StreamLink<S> {
         ensures device { side ≡ Side.Device → IfOk result (λ p. IfSome p (λ q. Reads (S.remaining self.old.device) (S.remaining self.new.device) self.old.down self.new.down q.items)) }
         ensures some_up { side ≡ Side.Agent → self.old.up ≢ 0 → result ≢ Ok None }
         ensures some_down { side ≡ Side.Device → self.old.down ≢ 0 → result ≢ Ok None }
-        ensures agent_fault { side ≡ Side.Agent → IfErr result (λ e. ReadStops e (S.remaining self.old.agent) (S.remaining self.new.agent)) }
-        ensures device_fault { side ≡ Side.Device → IfErr result (λ e. ReadStops e (S.remaining self.old.device) (S.remaining self.new.device)) }
+        ensures agent_fault { side ≡ Side.Agent → IfErr result (λ e. (self.old.up ≡ self.new.up + 1) × ReadStops e (S.remaining self.old.agent) (S.remaining self.new.agent)) }
+        ensures device_fault { side ≡ Side.Device → IfErr result (λ e. (self.old.down ≡ self.new.down + 1) × ReadStops e (S.remaining self.old.device) (S.remaining self.new.device)) }
         ensures not_device { side ≡ Side.Agent → (self.new.device ≡ self.old.device) × (self.new.down ≡ self.old.down) }
         ensures not_agent { side ≡ Side.Device → (self.new.agent ≡ self.old.agent) × (self.new.up ≡ self.old.up) }
     {
@@ -130,14 +130,14 @@ impl<S: Read + Write + Drop> Link for StreamLink<S> {
     fn receive(&mut self, side: Side) -> Result<Option<RawPacket>, FrameFault>
         ensures ok { IfOk result (λ p. Asks (is_some p) self.old.tally self.new.tally) }
         ensures err { OnErr result (Fails self.old.tally self.new.tally) }
-        ensures no_up { side ≡ Side.Agent → self.old.up ≡ 0 → (result ≡ Ok None) × (self.new.agent ≡ self.old.agent) }
-        ensures no_down { side ≡ Side.Device → self.old.down ≡ 0 → (result ≡ Ok None) × (self.new.device ≡ self.old.device) }
+        ensures no_up { side ≡ Side.Agent → self.old.up ≡ 0 → (result ≡ Ok None) × (self.new.agent ≡ self.old.agent) × (self.new.up ≡ self.old.up) }
+        ensures no_down { side ≡ Side.Device → self.old.down ≡ 0 → (result ≡ Ok None) × (self.new.device ≡ self.old.device) × (self.new.down ≡ self.old.down) }
         ensures agent { side ≡ Side.Agent → IfOk result (λ p. IfSome p (λ q. Reads (S.remaining self.old.agent) (S.remaining self.new.agent) self.old.up self.new.up q.items)) }
         ensures device { side ≡ Side.Device → IfOk result (λ p. IfSome p (λ q. Reads (S.remaining self.old.device) (S.remaining self.new.device) self.old.down self.new.down q.items)) }
         ensures some_up { side ≡ Side.Agent → self.old.up ≢ 0 → result ≢ Ok None }
         ensures some_down { side ≡ Side.Device → self.old.down ≢ 0 → result ≢ Ok None }
-        ensures agent_fault { side ≡ Side.Agent → IfErr result (λ e. ReadStops e (S.remaining self.old.agent) (S.remaining self.new.agent)) }
-        ensures device_fault { side ≡ Side.Device → IfErr result (λ e. ReadStops e (S.remaining self.old.device) (S.remaining self.new.device)) }
+        ensures agent_fault { side ≡ Side.Agent → IfErr result (λ e. (self.old.up ≡ self.new.up + 1) × ReadStops e (S.remaining self.old.agent) (S.remaining self.new.agent)) }
+        ensures device_fault { side ≡ Side.Device → IfErr result (λ e. (self.old.down ≡ self.new.down + 1) × ReadStops e (S.remaining self.old.device) (S.remaining self.new.device)) }
         ensures not_device { side ≡ Side.Agent → (self.new.device ≡ self.old.device) × (self.new.down ≡ self.old.down) }
         ensures not_agent { side ≡ Side.Device → (self.new.agent ≡ self.old.agent) × (self.new.up ≡ self.old.up) }
     {

@@ -1,6 +1,7 @@
 -- Updates that are started one by one, and the steps that follow.
-use Rattle.std.proofs.Common.{◌≡◌, ◌⊎◌, ◌+◌, ◌-◌, ◌^◌, ◌++◌, ◌∙◌, ℕ, zero, suc, List, [], ◌∷◌, Some, None, Bool, true, Result, Err, inl, inr, append_assoc, append-nil, arith, ◌<◌, get_or, length, map, refl, sym, ap, subst, take}
+use Rattle.std.proofs.Common.{◌≡◌, ◌≤◌, ◌⊎◌, ◌+◌, ◌-◌, ◌^◌, ◌++◌, ◌∙◌, ℕ, zero, suc, List, [], ◌∷◌, Some, None, Bool, true, Result, Err, inl, inr, append_assoc, append-nil, arith, ◌<◌, get_or, length, map, refl, sym, ap, subst, take}
 use Rattle.std.specs.Prelude.{IfErr, IfSome, Option, option_map, slice_get}
+use Rattle.std.specs.List.{AllByRecursion}
 use Rattle.std.proofs.Math.Seq.{take-length}
 use Rattle.std.proofs.lemmas.List.{map-append}
 use Rattle.std.proofs.lemmas.Option.{slice_get-get_or, slice_get-map}
@@ -8,7 +9,8 @@ use Rattle.std.proofs.lemmas.List.Sums.{sum_by-append}
 use Rattle.fw_edge.specs.Drives.{AreDriven, Drives, tick_in, ticks_in}
 use Rattle.fw_edge.proofs.Going.{driven_append, run_append}
 use Rattle.fw_edge.proofs.Rising.{map_length}
-use Rattle.fw_edge.specs.Ledgers.{packet_counts}
+use Rattle.fw_edge.specs.Ledgers.{OneFailed, packet_counts}
+use Rattle.fw_edge.specs.Links.{Rises}
 use Rattle.fw_node.specs.Nodes.{DeviceNodeOf}
 use Rattle.fw_world.specs.Replays.{Leads, Run, may_step}
 use Rattle.fw_world.specs.Worlds.{SiteOf, WorldOf}
@@ -17,7 +19,7 @@ use Rattle.fw_world.specs.declared.step.Step.{Step}
 use Rattle.fw_world.specs.declared.step.Step.TheVariants as steps
 use Rattle.fw_edge.specs.declared.driving.EdgeFault.{EdgeFault}
 use Rattle.fw_edge.specs.declared.driving.EdgeFault.TheVariants as edges
-use Rattle.fwupd_jobs.specs.Running.{IsCaused, IsLost, IsRefusedStart, IsUnlinked, MayEnd, StepsLead, Updates, WatchOf, starts_of, told_by, told_of}
+use Rattle.fwupd_jobs.specs.Running.{IsCaused, IsLost, IsRefusedStart, IsUnlinked, MayEnd, NamesLost, StepsLead, Updates, WatchOf, starts_of, told_by, told_of}
 use Rattle.fwupd_jobs.specs.declared.faults.RunFault.{RunFault}
 use Rattle.fwupd_jobs.specs.declared.faults.RunFault.TheVariants as told
 use Rattle.fwupd_jobs.specs.declared.running.WatchFault.{WatchFault}
@@ -192,3 +194,52 @@ lost_at w failures links link place device count n lt is told more at named =
       at = there.1;
       is = named ∙ ap (λ m. m.endpoint.eid) (sym there.2);
     }
+
+-- a turn more is seen
+pub seen_next : (old new n : ℕ) → n ≤ 80000 → old ≡ n → Rises old new → new ≡ n + 1
+seen_next old new n few is (inl more) = omega (arith, is, more)
+seen_next old new n few is (inr last) = absurd (omega (arith, is, last.0))
+
+-- where no link has failed, none did just now
+pub none_failed : (os ns : List ℕ) → AllByRecursion (λ n. n ≡ 0) ns → OneFailed os ns → ⊥
+none_failed [] [] none h = h
+none_failed [] (n ∷ ns) none h = h
+none_failed (o ∷ os) [] none h = h
+none_failed (o ∷ os) (n ∷ ns) none (inl (inl more)) = let zero : n ≡ 0 = none.0 in absurd (omega (arith, zero, more))
+none_failed (o ∷ os) (n ∷ ns) none (inl (inr last)) = let zero : n ≡ 0 = none.0 in absurd (omega (arith, zero, last))
+none_failed (o ∷ os) (n ∷ ns) none (inr h) = none_failed os ns none.1 h
+
+-- the device of a link that has failed
+pub names_lost : (w : WorldOf) (failures : List ℕ) (device : ℕ) (lost : Option ℕ) → IsLost w failures device → lost ≡ Some device → NamesLost w lost
+names_lost w failures device lost h e = record { place = h.place; site = h.site; at = h.at; is = e ∙ ap Some h.is }
+
+-- links of which none has failed, one after the other
+pub none_all : (ns : List ℕ) (n : ℕ) → length ns ≤ n → AllByRecursion (λ k. k ≡ 0) (take n ns) → AllByRecursion (λ k. k ≡ 0) ns
+none_all [] n all h = tt
+none_all (k ∷ ks) zero all h = absurd (omega arith)
+none_all (k ∷ ks) (suc n) all h = (h.0, none_all ks n (omega arith) h.1)
+
+none_one : (ns : List ℕ) (n : ℕ) (k : ℕ) → slice_get ns n ≡ Some k → k ≡ 0 → AllByRecursion (λ k. k ≡ 0) (take n ns) → AllByRecursion (λ k. k ≡ 0) (take (suc n) ns)
+none_one [] n k at none h = tt
+none_one (m ∷ ms) zero k at none h = ((let same : Some m ≡ Some k = at in cc), tt)
+none_one (m ∷ ms) (suc n) k at none h = (h.0, none_one ms n k at none h.1)
+
+pub none_more : {A : Type 0} (failures : A → ℕ) (links : List A) (link : A) (place : ℕ) → place < length links → link ≡ get_or links place link → failures link ≡ 0
+    → AllByRecursion (λ k. k ≡ 0) (take place (map failures links)) → AllByRecursion (λ k. k ≡ 0) (take (place + 1) (map failures links))
+none_more failures links link place lt is none h =
+    let next : suc place ≡ place + 1 = omega arith in
+    subst (λ n. AllByRecursion (λ k. k ≡ 0) (take n (map failures links))) next
+    (none_one (map failures links) place (failures link) (slice_get-map failures links place ∙ ap (option_map failures) (slice_get-get_or links place link lt ∙ ap Some (sym is))) none h)
+
+-- what looks on was told of a link where one failed just now
+pub lost_told : {A : Type 0} (failures : A → ℕ) (w : WorldOf) (olds news : List A) (lost : Option ℕ) → length news ≡ length w.sites → OneFailed (map failures olds) (map failures news)
+    → (length news ≡ length w.sites → AllByRecursion (λ n. n ≡ 0) (map failures news) ⊎ NamesLost w lost) → NamesLost w lost
+lost_told failures w olds news lost devices failed told = elim (told devices) [
+  | inl none ↦ absurd (none_failed (map failures olds) (map failures news) none failed)
+  | inr h ↦ h
+]
+
+-- what it was told changes nothing of why a run doesn't go on
+pub caused_still : (w v : WorldOf) (fault : RunFault) (before now : WatchOf) → now.fault ≡ before.fault → now.has_ended ≡ before.has_ended → IsCaused w v fault before → IsCaused w v fault now
+caused_still w v fault before now same ended h =
+    record { broken = h.broken; stopped = h.stopped; unwritten = λ e. same ∙ h.unwritten e; let_end = ended ∙ h.let_end }

@@ -10,8 +10,9 @@ use Rattle.fw_world.specs.declared.step.StepFault.{StepFault}
 use Rattle.fwupd_jobs.specs.Replayed.{IsReplayed, IsReport, Leaves, ReplayEnds, Reports}
 use Rattle.fwupd_jobs.specs.Outputs.{FailsToPrint, OutputOf, Prints}
 use Rattle.fwupd_jobs.specs.Promises.{IsSafeSince}
-use Rattle.fwupd_jobs.specs.Running.{DrivingEnds, IsUnlinked, IsWatched, LacksLink, LacksTrace, ShowOf, StepsLead, UpdateEnds, WatchOf, shown_of, starts_of}
+use Rattle.fwupd_jobs.specs.Running.{DrivingEnds, IsUnlinked, IsWatched, LacksLink, LacksTrace, NamesLost, ShowOf, StepsLead, UpdateEnds, WatchOf, shown_of, starts_of}
 use Rattle.fwupd_jobs.specs.Setups.{FileOf, IsSetup, NamesNone, Says, SetupFails, TextFails}
+use Rattle.fw_edge.specs.declared.driving.EdgeFault.TheVariants as edges
 use Rattle.fwupd_jobs.specs.declared.faults.RunFault.{RunFault}
 use Rattle.fwupd_jobs.specs.declared.faults.RunFault.TheVariants as faults
 
@@ -52,13 +53,13 @@ unopened files path show refuses lacks w told watched begins (inr u) = inr (inr 
 
 -- a run over links that doesn't end well
 pub update_ends : (files : List ℕ → FileOf) (path : List ℕ) (show : ShowOf) (refuses : List ℕ → Bool) (lacks : ℕ → Bool) (w v : WorldOf) (told : RunFault) (watched : WatchOf) (before now : OutputOf)
-    → IsWatched files path show w → watched.shows ≡ shown_of show → StepsLead w v → IsSafeSince w v → DrivingEnds lacks w v told watched before now
+    → IsWatched files path show w → watched.shows ≡ shown_of show → StepsLead w v → IsSafeSince w v → (told ≡ faults.Edge edges.Frame → NamesLost v watched.lost) → DrivingEnds lacks w v told watched before now
     → UpdateEnds files path show refuses lacks told watched before now
-update_ends files path show refuses lacks w v told watched before now begins shown reached promised (inl h) =
-    inl (record { world = w; begins = begins; shown = shown; left = v; reached = reached; promised = promised; caused = h.0; written = h.1 })
-update_ends files path show refuses lacks w v told watched before now begins shown reached promised (inr (inl h)) =
+update_ends files path show refuses lacks w v told watched before now begins shown reached promised lost (inl h) =
+    inl (record { world = w; begins = begins; shown = shown; left = v; reached = reached; promised = promised; caused = h.0; lost = lost; written = h.1 })
+update_ends files path show refuses lacks w v told watched before now begins shown reached promised lost (inr (inl h)) =
     inr (inl (record { is = h.0; world = w; begins = begins; left = v; reached = reached; promised = promised; begun = h.1 }))
-update_ends files path show refuses lacks w v told watched before now begins shown reached promised (inr (inr h)) =
+update_ends files path show refuses lacks w v told watched before now begins shown reached promised lost (inr (inr h)) =
     inr (inr (record { kept = h.1; cause = unopened files path show refuses lacks w told watched begins h.0 }))
 
 -- a replay whose schedule isn't read

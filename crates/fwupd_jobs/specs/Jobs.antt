@@ -1,11 +1,11 @@
 -- What each job does of those that the words of a command line ask for.
-use Rattle.std.specs.Prelude.{ℕ, Bool, List, None, Option}
+use Rattle.std.specs.Prelude.{ℕ, ◌≡◌, ◌⊎◌, Bool, true, List, None, Option}
 use Rattle.fwupd_jobs.specs.Answering.{AnswerEnds, Answers}
 use Rattle.fwupd_jobs.specs.Inspected.{InspectEnds, Inspects}
 use Rattle.fwupd_jobs.specs.Outputs.{OutputOf}
 use Rattle.fwupd_jobs.specs.Replayed.{ReplayEnds, Reports}
 use Rattle.fwupd_jobs.specs.Running.{ReportsUpdate, UpdateEnds, WatchOf, show_of}
-use Rattle.fwupd_jobs.specs.Setups.{FileOf}
+use Rattle.fwupd_jobs.specs.Setups.{FileOf, any_file}
 use Rattle.fwupd_jobs.specs.declared.command_line.Job.{Job}
 use Rattle.fwupd_jobs.specs.declared.command_line.Job.TheVariants as jobs
 use Rattle.fwupd_jobs.specs.declared.faults.RunFault.{RunFault}
@@ -24,3 +24,23 @@ JobEnds (jobs.Inspect path) files refuses lacks read_before read_now told watche
 JobEnds (jobs.Replay config schedule) files refuses lacks read_before read_now told watched before now = ReplayEnds files config.now schedule.now told before now
 JobEnds (jobs.Run config folder show) files refuses lacks read_before read_now told watched before now =
     UpdateEnds files config.now (show_of show) refuses (lacks folder.now) told watched before now
+
+-- It isn't, and this is so of the fault that is told.
+pub record IsUndone (job : Job) (files : List ℕ → FileOf) (refuses : (trace : List ℕ) → Bool) (lacks : (folder : List ℕ) → (device : ℕ) → Bool) (read_before read_now : Option (List ℕ)) (watched : WatchOf) (before now : OutputOf) : Type 0 where
+  pub told : RunFault
+  pub ends : JobEnds job files refuses lacks read_before read_now told watched before now
+
+-- A status says whether it is: 0, or 1 where it isn't.
+abbrev pub StatusSays : (status : ℕ) → Job → (files : List ℕ → FileOf) → (refuses : (trace : List ℕ) → Bool) → (lacks : (folder : List ℕ) → (device : ℕ) → Bool) → (read_before read_now : Option (List ℕ)) → WatchOf → (before now : OutputOf) → Type 0
+StatusSays status job files refuses lacks read_before read_now watched before now =
+    ((status ≡ 0) × IsDone job files read_before read_now watched before now)
+    ⊎ ((status ≡ 1) × IsUndone job files refuses lacks read_before read_now watched before now)
+
+-- So it says of a job over what the system has, of which nothing is known before.
+pub record SystemSays (status : ℕ) (job : Job) : Type 0 where
+  pub read_before : Option (List ℕ)
+  pub read_now : Option (List ℕ)
+  pub watched : WatchOf
+  pub before : OutputOf
+  pub now : OutputOf
+  pub says : StatusSays status job (λ path. any_file) (λ trace. true) (λ folder device. true) read_before read_now watched before now

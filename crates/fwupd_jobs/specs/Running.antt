@@ -2,6 +2,7 @@
 use Rattle.std.specs.Prelude.{ℕ, suc, ◌≡◌, ◌≢◌, ◌≤◌, ◌-◌, ◌^◌, ◌++◌, ◌⊎◌, Bool, true, List, [], ◌∷◌, Option, None, Some, IfSome, is_some, length, map, option_map, slice_get, take}
 use Rattle.std.specs.List.{AllByRecursion}
 use Rattle.fw_edge.specs.Drives.{AreDriven, all_over, ticks_in}
+use Rattle.fw_edge.specs.Ledgers.{OneFailed}
 use Rattle.fw_edge.specs.declared.driving.EdgeFault.{EdgeFault}
 use Rattle.fw_edge.specs.declared.driving.EdgeFault.TheVariants as edges
 use Rattle.fw_script.specs.Reports.{report_of}
@@ -66,6 +67,10 @@ abbrev pub told_by : WatchFault → RunFault
 told_by watches.Unwritten = faults.Trace
 told_by watches.Memory = faults.Memory
 
+-- A link's fault is told where one failed, and another fault where none did.
+abbrev pub AreToldOf : RunFault → List ℕ → List ℕ → Type 0
+AreToldOf told os ns = (told ≡ faults.Edge edges.Frame → OneFailed os ns) × (told ≢ faults.Edge edges.Frame → ns ≡ os)
+
 -- The updates of the devices before one are started, and its start with package 1 is not allowed.
 pub record IsRefusedStart (w v : WorldOf) : Type 0 where
   pub place : ℕ
@@ -97,11 +102,14 @@ pub record ShownOf : Type 0 where
 abbrev pub shown_of : ShowOf → ShownOf
 shown_of show = record { is_quiet = show.is_quiet; is_traced = is_some show.trace }
 
--- What looks on: its first fault, if it had one, what it shows, and whether it was let end.
+-- What looks on: its first fault, if it had one, what it shows, whether it was let end, how many turns it saw, and the device whose link it
+-- was told of as failed, if any.
 pub record WatchOf : Type 0 where
   pub fault : Option WatchFault
   pub shows : ShownOf
   pub has_ended : Bool
+  pub seen : ℕ
+  pub lost : Option ℕ
 
 -- The packets are written over none of the files of these paths.
 abbrev pub IsApart : (files : List ℕ → FileOf) → ShowOf → List (List ℕ) → Type 0
@@ -143,6 +151,13 @@ pub record IsLost (w : WorldOf) (failures : List ℕ) (device : ℕ) : Type 0 wh
   pub at : slice_get w.sites place ≡ Some site
   pub is : device ≡ site.node.endpoint.eid
 
+-- It is told of the link of a device of this world.
+pub record NamesLost (w : WorldOf) (lost : Option ℕ) : Type 0 where
+  pub place : ℕ
+  pub site : SiteOf
+  pub at : slice_get w.sites place ≡ Some site
+  pub is : lost ≡ Some site.node.endpoint.eid
+
 -- Where the links of a world are driven and the run doesn't end well: the report of the world that was reached is written, or a
 -- beginning of it, or nothing.
 abbrev pub DrivingEnds : (lacks : ℕ → Bool) (w v : WorldOf) → RunFault → WatchOf → (before now : OutputOf) → Type 0
@@ -161,7 +176,7 @@ pub record IsWatched (files : List ℕ → FileOf) (config : List ℕ) (show : S
   pub apart : IsApart files show (config ∷ named.setup.config.packages)
 
 -- The report is written of what an update leaves of the world that a configuration's file is of, and what looks on showed what it
--- is to show, had no fault, and was let end.
+-- is to show, saw each turn, had no fault, was told of no link, and was let end.
 pub record ReportsUpdate (files : List ℕ → FileOf) (config : List ℕ) (show : ShowOf) (watched : WatchOf) (before now : OutputOf) : Type 0 where
   pub world : WorldOf
   pub begins : IsWatched files config show world
@@ -170,10 +185,12 @@ pub record ReportsUpdate (files : List ℕ → FileOf) (config : List ℕ) (show
   pub updated : IsUpdated world left
   pub promised : IsSafeSince world left
   pub seen : watched.fault ≡ None
+  pub turns : Updates world left watched.seen
+  pub none_lost : watched.lost ≡ None
   pub let_end : watched.has_ended ≡ true
   pub written : Prints before now (report_of left)
 
--- It is written of what was reached.
+-- It is written of what was reached, and where a link failed, what looks on was told whose.
 pub record ReportsReached (files : List ℕ → FileOf) (config : List ℕ) (show : ShowOf) (told : RunFault) (watched : WatchOf) (before now : OutputOf) : Type 0 where
   pub world : WorldOf
   pub begins : IsWatched files config show world
@@ -182,6 +199,7 @@ pub record ReportsReached (files : List ℕ → FileOf) (config : List ℕ) (sho
   pub reached : StepsLead world left
   pub promised : IsSafeSince world left
   pub caused : IsCaused world left told watched
+  pub lost : told ≡ faults.Edge edges.Frame → NamesLost left watched.lost
   pub written : Prints before now (report_of left)
 
 -- A beginning of it is.

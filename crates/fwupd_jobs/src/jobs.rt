@@ -1,6 +1,6 @@
 //! A job: what the words of a command line ask for, over any files, reader, links, onlooker and output.
 
-ghost use Rattle.std.specs.Prelude.{IfErr, OnOk};
+ghost use Rattle.std.specs.Prelude.{◌≡◌, ◌⊎◌, IfErr, OnOk, Some};
 ghost use Rattle.fwupd_jobs.specs.Jobs.{IsDone, JobEnds};
 
 use crate::command_line::Job;
@@ -9,7 +9,7 @@ use crate::files::Files;
 use crate::inspecting::inspect_file;
 use crate::output::Output;
 use crate::replaying::replay_files;
-use crate::running::Watch;
+use crate::running::{Watch, WatchFault};
 use crate::updating::{Wires, update_files};
 use fw_edge::Link;
 use std::alloc::Global;
@@ -30,6 +30,7 @@ pub fn perform_job<F: Files, R: Read, L: Link + Drop, S: Wires<L>, V: Watch, W: 
 ) -> Result<(), RunFault>
     ensures ok { OnOk result (IsDone job.now (F.holds files.now) (R.remaining reader.old) (R.remaining reader.new) (V.watched watch.new) output.old output.new) }
     ensures fault { IfErr result (λ e. JobEnds job.now (F.holds files.now) (V.refuses watch.old) (S.lacks wires.old) (R.remaining reader.old) (R.remaining reader.new) e (V.watched watch.new) output.old output.new) }
+    ensures untouched { IfErr result (λ e. e ≡ RunFault.Trace → (watch.new ≡ watch.old) ⊎ ((V.watched watch.new).fault ≡ Some WatchFault.Unwritten)) }
 {
     match job {
         Job::Answer(endpoint) => output.answer(alloc, reader, endpoint),

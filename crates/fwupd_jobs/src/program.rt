@@ -1,18 +1,22 @@
 //! The program: it reads its words, does what they ask for, and says how that ended.
 
-ghost use Rattle.std.specs.Prelude.{◌≡◌, ◌≢◌, ◌⊎◌, ◌≤◌, IfErr, OnErr, OnOk};
+ghost use Rattle.std.specs.Prelude.{◌≡◌, ◌≢◌, ◌⊎◌, ◌≤◌, IfErr};
 ghost use Rattle.std.specs.Process.{exit_status};
 ghost use Rattle.clap.specs.Values.{kind_of};
+ghost use Rattle.fwupd_jobs.specs.Jobs.{StatusSays, SystemSays};
 
 use crate::command_line::{self, Job};
 use crate::faults::RunFault;
-use crate::files::SystemFiles;
+use crate::files::{Files, SystemFiles};
 use crate::jobs::perform_job;
 use crate::output::Output;
+use crate::running::Watch;
 use crate::sockets::Sockets;
+use crate::updating::Wires;
 use crate::watching::Onlookers;
 use clap::error::ErrorKind;
-use std::io;
+use fw_edge::Link;
+use std::io::{self, Read, Write};
 use std::process::ExitCode;
 
 /// Wrong usage.
@@ -26,12 +30,20 @@ fn failed(rt: &HostRuntime, fault: RunFault) -> ExitCode
     ExitCode::FAILURE
 }
 
-/// The status of a job that has ended so; a fault is printed.
-fn status(rt: &HostRuntime, end: Result<(), RunFault>) -> ExitCode
-    ensures ok { OnOk end (exit_status result ≡ 0) }
-    ensures fault { OnErr end (exit_status result ≡ 1) }
+/// Does a job over these files, this reader, links, onlooker and output, and gives the status: 0 where it is done, and 1 where it
+/// isn't, and its fault is printed.
+fn status<F: Files, R: Read, L: Link + Drop, S: Wires<L>, V: Watch, W: Write + Drop>(
+    rt: &HostRuntime,
+    job: &Job<'_>,
+    files: &F,
+    reader: &mut R,
+    wires: &mut S,
+    watch: &mut V,
+    output: &mut Output<W>,
+) -> ExitCode
+    ensures { StatusSays (exit_status result) job.now (F.holds files.now) (V.refuses watch.old) (S.lacks wires.old) (R.remaining reader.old) (R.remaining reader.new) (V.watched watch.new) output.old output.new }
 {
-    match end {
+    match perform_job(rt.alloc(), job, files, reader, wires, watch, output) {
         Ok(()) => ExitCode::SUCCESS,
         Err(fault) => failed(rt, fault),
     }
@@ -40,24 +52,26 @@ fn status(rt: &HostRuntime, end: Result<(), RunFault>) -> ExitCode
 /// Does what the words ask for, with the system's files, standard input and output, sockets, and what looks on, and gives the
 /// status. On a terminal a link's fault is explained below it.
 fn run(rt: &HostRuntime, job: &Job<'_>) -> ExitCode
-    ensures { (exit_status result ≡ 0) ⊎ (exit_status result ≡ 1) }
+    ensures known { (exit_status result ≡ 0) ⊎ (exit_status result ≡ 1) }
+    ensures says { exit_status result ≢ 1 → SystemSays (exit_status result) job.now }
 {
     let mut output = match Output::new(rt.alloc(), io::writer(rt)) {
         Ok(output) => output,
         Err(fault) => return failed(rt, fault),
     };
+    let files = SystemFiles::new(rt);
+    let mut reader = rt.reader();
     let mut sockets = Sockets::new(rt);
     let mut onlookers = Onlookers::new(rt);
-    let end = perform_job(
-        rt.alloc(),
+    let status = status(
+        rt,
         job,
-        &SystemFiles::new(rt),
-        &mut rt.reader(),
+        &files,
+        &mut reader,
         &mut sockets,
         &mut onlookers,
         &mut output,
     );
-    let status = status(rt, end);
     sockets.explain();
     onlookers.explain();
     status

@@ -1,8 +1,9 @@
 //! Updating devices over links.
 
 ghost use Rattle.std.specs.Prelude.{◌≡◌, ◌-◌, ◌^◌, ◌⊎◌, Bool, Err, IfErr, IfSome, List, None, OnOk, Some, length, map, true, ℕ};
-ghost use Rattle.fw_edge.specs.Ledgers.{AllSent, OneFailed, packet_counts};
-ghost use Rattle.fwupd_jobs.specs.Running.{IsCaused, IsRefusedStart, IsUpdated, MayEnd, MayRefuse, Starts, StepsLead, show_of, shown_of, told_by, told_of};
+ghost use Rattle.fw_edge.specs.Ledgers.{AllSent, packet_counts};
+ghost use Rattle.fw_edge.specs.Links.{Rises};
+ghost use Rattle.fwupd_jobs.specs.Running.{AreToldOf, IsCaused, IsRefusedStart, IsUpdated, MayEnd, MayRefuse, Starts, StepsLead, Updates, show_of, shown_of, told_by, told_of};
 
 use crate::command_line::Show;
 use crate::faults::{RunFault, edge_fault};
@@ -25,6 +26,7 @@ pub enum WatchFault {
 
 /// What looks on while devices are updated, from its beginning until it has a fault, which is what each later call ends with.
 pub trait Watch {
+    ghost use Rattle.fw_edge.specs.Links.{Rises};
     ghost use Rattle.fwupd_jobs.specs.Running.{WatchOf};
 
     ghost watched: { Self → WatchOf };
@@ -37,6 +39,7 @@ pub trait Watch {
     /// The file that the packets are to be written to is refused, or `Memory`. It is known before which files may be refused.
     fn begin(&mut self, show: Show<'_>) -> Result<(), WatchFault>
         ensures shows { OnOk result ((watched self.new).shows ≡ shown_of (show_of show.entry)) }
+        ensures anew { OnOk result (((watched self.new).seen ≡ 0) × ((watched self.new).lost ≡ None)) }
         ensures err { IfErr result (λ e. (watched self.new).fault ≡ Some e) }
         ensures refused { IfErr result (λ e. e ≡ WatchFault.Unwritten → MayRefuse (refuses self.old) (show_of show.entry)) };
 
@@ -48,11 +51,17 @@ pub trait Watch {
         ensures ok { OnOk result ((watched self.new).fault ≡ None) }
         ensures err { IfErr result (λ e. (watched self.new).fault ≡ Some e) }
         ensures first { IfSome (watched self.old).fault (λ f. result ≡ Err f) }
-        ensures same { (watched self.new).shows ≡ (watched self.old).shows };
+        ensures same { (watched self.new).shows ≡ (watched self.old).shows }
+        ensures seen { Rises (watched self.old).seen (watched self.new).seen }
+        ensures lost { (watched self.new).lost ≡ (watched self.old).lost };
 
     /// Is told that the link of this device failed.
     fn lose(&mut self, device: u8)
-        ensures { watched self.new ≡ watched self.old };
+        ensures lost { (watched self.new).lost ≡ Some device }
+        ensures fault { (watched self.new).fault ≡ (watched self.old).fault }
+        ensures same { (watched self.new).shows ≡ (watched self.old).shows }
+        ensures seen { (watched self.new).seen ≡ (watched self.old).seen }
+        ensures ended { (watched self.new).has_ended ≡ (watched self.old).has_ended };
 
     /// The run has ended.
     ///
@@ -63,6 +72,8 @@ pub trait Watch {
         ensures err { IfErr result (λ e. (watched self.new).fault ≡ Some e) }
         ensures first { IfSome (watched self.old).fault (λ f. result ≡ Err f) }
         ensures same { (watched self.new).shows ≡ (watched self.old).shows }
+        ensures seen { (watched self.new).seen ≡ (watched self.old).seen }
+        ensures lost { (watched self.new).lost ≡ (watched self.old).lost }
         ensures ended { (watched self.new).has_ended ≡ true };
 }
 
@@ -80,7 +91,7 @@ pub fn watch_fault(fault: WatchFault) -> RunFault
 /// Starts the update of each device with package 1.
 fn start_all(world: &mut World<'_, MemBank>) -> Result<(), RunFault>
     ensures started { OnOk result (Starts world.old world.new) }
-    ensures same { OnOk result (world.new.sites ≡ world.old.sites) }
+    ensures same { world.new.sites ≡ world.old.sites }
     ensures reached { StepsLead world.old world.new }
     ensures fault { IfErr result MayEnd }
     ensures refused { IfErr result (λ e. e ≡ RunFault.Edge EdgeFault.Step → IsRefusedStart world.old world.new) }
@@ -105,6 +116,8 @@ fn start_all(world: &mut World<'_, MemBank>) -> Result<(), RunFault>
 fn broken_off<V: Watch>(world: &World<'_, MemBank>, watch: &mut V, fault: EdgeFault) -> RunFault
     ensures told { result ≡ told_of fault }
     ensures same { (V.watched watch.new).shows ≡ (V.watched watch.old).shows }
+    ensures seen { Rises (V.watched watch.old).seen (V.watched watch.new).seen }
+    ensures lost { (V.watched watch.new).lost ≡ (V.watched watch.old).lost }
 {
     let _ = watch.see(world);
     edge_fault(fault)
@@ -127,11 +140,14 @@ pub fn update_all<L: Link, V: Watch>(
     ensures reached { StepsLead world.old world.new }
     ensures fault { IfErr result MayEnd }
     ensures kept { OnOk result (map (λ l. (L.tally l).failures) links.new ≡ map (λ l. (L.tally l).failures) links.old) }
-    ensures frame { IfErr result (λ e. e ≡ RunFault.Edge EdgeFault.Frame → OneFailed (map (λ l. (L.tally l).failures) links.old) (map (λ l. (L.tally l).failures) links.new)) }
+    ensures failed { IfErr result (λ e. AreToldOf e (map (λ l. (L.tally l).failures) links.old) (map (λ l. (L.tally l).failures) links.new)) }
     ensures step { IfErr result (λ e. e ≡ RunFault.Edge EdgeFault.Step → IsRefusedStart world.old world.new ⊎ (world.new.now ≡ 2 ^ 32 - 1)) }
     ensures sent { OnOk result (AllSent (packet_counts world.old.sites) (packet_counts world.new.sites) (map (λ l. (L.tally l).sent) links.old) (map (λ l. (L.tally l).sent) links.new)) }
+    ensures devices { length links.new ≡ length world.new.sites }
     ensures unwritten { IfErr result (λ e. e ≡ RunFault.Trace → (V.watched watch.new).fault ≡ Some WatchFault.Unwritten) }
     ensures same { (V.watched watch.new).shows ≡ (V.watched watch.old).shows }
+    ensures turns { OnOk result ((V.watched watch.old).seen ≡ 0 → Updates world.old world.new (V.watched watch.new).seen) }
+    ensures lost { (V.watched watch.new).lost ≡ (V.watched watch.old).lost }
 {
     match start_all(world) {
         Ok(()) => {}
@@ -170,10 +186,13 @@ pub fn update_watched<L: Link, V: Watch>(
     ensures reached { StepsLead world.old world.new }
     ensures seen { OnOk result ((V.watched watch.new).fault ≡ None) }
     ensures ended { (V.watched watch.new).has_ended ≡ true }
+    ensures devices { length links.new ≡ length world.new.sites }
     ensures same { (V.watched watch.new).shows ≡ (V.watched watch.old).shows }
+    ensures turns { OnOk result ((V.watched watch.old).seen ≡ 0 → Updates world.old world.new (V.watched watch.new).seen) }
+    ensures lost { (V.watched watch.new).lost ≡ (V.watched watch.old).lost }
     ensures fault { IfErr result (λ e. (e ≡ RunFault.Memory) ⊎ IsCaused world.old world.new e (V.watched watch.new)) }
     ensures kept { OnOk result (map (λ l. (L.tally l).failures) links.new ≡ map (λ l. (L.tally l).failures) links.old) }
-    ensures frame { IfErr result (λ e. e ≡ RunFault.Edge EdgeFault.Frame → OneFailed (map (λ l. (L.tally l).failures) links.old) (map (λ l. (L.tally l).failures) links.new)) }
+    ensures failed { IfErr result (λ e. AreToldOf e (map (λ l. (L.tally l).failures) links.old) (map (λ l. (L.tally l).failures) links.new)) }
     ensures sent { OnOk result (AllSent (packet_counts world.old.sites) (packet_counts world.new.sites) (map (λ l. (L.tally l).sent) links.old) (map (λ l. (L.tally l).sent) links.new)) }
 {
     let end = update_all(alloc, world, links, watch);

@@ -1,19 +1,20 @@
 //! Updating the devices of a configuration.
 
-ghost use Rattle.std.specs.Prelude.{◌≡◌, ◌∷◌, ◌⊎◌, Bool, IfErr, IfOk, IfSome, List, None, OnOk, length, map, string_bytes, true, ℕ};
+ghost use Rattle.std.specs.Prelude.{◌≡◌, ◌∷◌, ◌⊎◌, Bool, IfErr, IfOk, IfSome, List, None, OnOk, Some, length, map, string_bytes, true, ℕ};
+ghost use Rattle.std.specs.List.{AllByRecursion};
 ghost use Rattle.fw_script.specs.Reports.{report_of};
 ghost use Rattle.fwupd_jobs.specs.Outputs.{FailsToPrint, Prints};
-ghost use Rattle.fwupd_jobs.specs.Running.{DrivingEnds, IsApart, IsBarred, IsLost, IsUnlinked, IsUpdated, ReportsUpdate, StepsLead, UpdateEnds, show_of, shown_of};
+ghost use Rattle.fwupd_jobs.specs.Running.{DrivingEnds, IsApart, IsBarred, IsCaused, IsLost, IsUnlinked, IsUpdated, NamesLost, ReportsUpdate, StepsLead, UpdateEnds, Updates, show_of, shown_of};
 
 use crate::command_line::Show;
 use crate::faults::RunFault;
 use crate::files::{Files, is_read};
 use crate::nodes::opening_world;
 use crate::output::Output;
-use crate::running::{Watch, update_watched, watch_fault};
+use crate::running::{Watch, WatchFault, update_watched, watch_fault};
 use crate::setups::{configuration, package_files, packages_in};
 use fd_core::MemBank;
-use fw_edge::Link;
+use fw_edge::{EdgeFault, Link};
 use fw_script::{Config, report};
 use fw_world::{World, packets_are_safe};
 use std::alloc::Global;
@@ -85,7 +86,9 @@ fn begin_apart<F: Files, V: Watch>(
     watch: &mut V,
 ) -> Result<(), RunFault>
     ensures shows { OnOk result ((V.watched watch.new).shows ≡ shown_of (show_of show.entry)) }
+    ensures anew { OnOk result (((V.watched watch.new).seen ≡ 0) × ((V.watched watch.new).lost ≡ None)) }
     ensures apart { OnOk result (IsApart (F.holds files.now) (show_of show.entry) (config.now ∷ map (λ p. string_bytes p) packages.now)) }
+    ensures untouched { IfErr result (λ e. e ≡ RunFault.Trace → (watch.new ≡ watch.old) ⊎ ((V.watched watch.new).fault ≡ Some WatchFault.Unwritten)) }
     ensures fault { IfErr result (λ e. (e ≡ RunFault.Memory)
         ⊎ ((e ≡ RunFault.Trace) × IsBarred (F.holds files.now) (V.refuses watch.old) (show_of show.entry) (config.now ∷ map (λ p. string_bytes p) packages.now) (V.watched watch.new))) }
 {
@@ -102,7 +105,8 @@ fn begin_apart<F: Files, V: Watch>(
 
 /// The first device whose link has failed.
 fn lost_device<L: Link>(world: &World<'_, MemBank>, links: &[L]) -> Option<u8>
-    ensures { IfSome result (λ device. IsLost world.now (map (λ l. (L.tally l).failures) links.now) device) }
+    ensures lost { IfSome result (λ device. IsLost world.now (map (λ l. (L.tally l).failures) links.now) device) }
+    ensures none { result ≡ None → length links.now ≡ length world.now.sites → AllByRecursion (λ n. n ≡ 0) (map (λ l. (L.tally l).failures) links.now) }
 {
     for place in 0..links.len() {
         if links[place].failures() > 0 {
@@ -113,6 +117,50 @@ fn lost_device<L: Link>(world: &World<'_, MemBank>, links: &[L]) -> Option<u8>
         }
     }
     None
+}
+
+/// Tells what looks on of the first device whose link has failed, if one has.
+fn lose_failed<L: Link, V: Watch>(world: &World<'_, MemBank>, links: &[L], watch: &mut V)
+    ensures lost { length links.now ≡ length world.now.sites → AllByRecursion (λ n. n ≡ 0) (map (λ l. (L.tally l).failures) links.now) ⊎ NamesLost world.now (V.watched watch.new).lost }
+    ensures fault { (V.watched watch.new).fault ≡ (V.watched watch.old).fault }
+    ensures same { (V.watched watch.new).shows ≡ (V.watched watch.old).shows }
+    ensures ended { (V.watched watch.new).has_ended ≡ (V.watched watch.old).has_ended }
+{
+    match lost_device(world, links) {
+        Some(device) => watch.lose(device),
+        None => {}
+    }
+}
+
+/// Updates each device of a new world, and lets what looks on end; where a link failed, it is told whose.
+///
+/// # Errors
+/// That of the update, and else what ends the watch.
+fn update_told<L: Link, V: Watch>(
+    alloc: Global,
+    world: &mut World<'_, MemBank>,
+    links: &mut [L],
+    watch: &mut V,
+) -> Result<(), RunFault>
+    requires { length links.old ≡ length world.old.sites }
+    ensures updated { OnOk result (IsUpdated world.old world.new) }
+    ensures reached { StepsLead world.old world.new }
+    ensures seen { OnOk result ((V.watched watch.new).fault ≡ None) }
+    ensures ended { (V.watched watch.new).has_ended ≡ true }
+    ensures same { (V.watched watch.new).shows ≡ (V.watched watch.old).shows }
+    ensures turns { OnOk result ((V.watched watch.old).seen ≡ 0 → Updates world.old world.new (V.watched watch.new).seen) }
+    ensures lost { IfErr result (λ e. e ≡ RunFault.Edge EdgeFault.Frame → NamesLost world.new (V.watched watch.new).lost) }
+    ensures none_lost { OnOk result ((V.watched watch.new).lost ≡ (V.watched watch.old).lost) }
+    ensures fault { IfErr result (λ e. (e ≡ RunFault.Memory) ⊎ IsCaused world.old world.new e (V.watched watch.new)) }
+{
+    match update_watched(alloc, world, links, watch) {
+        Ok(()) => Ok(()),
+        Err(RunFault::Memory) => Err(RunFault::Memory),
+        Err(fault) => {
+            lose_failed(world, links, watch);
+            Err(fault)
+        }
+    }
 }
 
 /// Updates each device of a new world with package 1 over a link of its own, and writes the report of what that leaves.
@@ -127,6 +175,10 @@ fn update_over<L: Link + Drop, S: Wires<L>, V: Watch, W: Write + Drop>(
     ensures updated { OnOk result (IsUpdated world.old world.new) }
     ensures seen { OnOk result ((V.watched watch.new).fault ≡ None) }
     ensures let_end { OnOk result ((V.watched watch.new).has_ended ≡ true) }
+    ensures turns { OnOk result ((V.watched watch.old).seen ≡ 0 → Updates world.old world.new (V.watched watch.new).seen) }
+    ensures lost { IfErr result (λ e. e ≡ RunFault.Edge EdgeFault.Frame → NamesLost world.new (V.watched watch.new).lost) }
+    ensures none_lost { OnOk result ((V.watched watch.new).lost ≡ (V.watched watch.old).lost) }
+    ensures unwritten { IfErr result (λ e. e ≡ RunFault.Trace → (V.watched watch.new).fault ≡ Some WatchFault.Unwritten) }
     ensures same { (V.watched watch.new).shows ≡ (V.watched watch.old).shows }
     ensures written { OnOk result (Prints output.old output.new (report_of world.new)) }
     ensures reached { StepsLead world.old world.new }
@@ -136,13 +188,10 @@ fn update_over<L: Link + Drop, S: Wires<L>, V: Watch, W: Write + Drop>(
         Ok(links) => links,
         Err(fault) => return Err(fault),
     };
-    match update_watched(alloc, world, links.as_mut_slice(), watch) {
+    match update_told(alloc, world, links.as_mut_slice(), watch) {
         Ok(()) => {}
         Err(RunFault::Memory) => return Err(RunFault::Memory),
         Err(fault) => {
-            if let Some(device) = lost_device(world, links.as_slice()) {
-                watch.lose(device);
-            }
             match write_report(alloc, world, output) {
                 Ok(()) => {}
                 Err(other) => return Err(other),
@@ -177,6 +226,7 @@ pub fn update_files<F: Files, L: Link + Drop, S: Wires<L>, V: Watch, W: Write + 
 ) -> Result<(), RunFault>
     ensures ok { OnOk result (ReportsUpdate (F.holds files.now) config.now (show_of show.entry) (V.watched watch.new) output.old output.new) }
     ensures fault { IfErr result (λ e. UpdateEnds (F.holds files.now) config.now (show_of show.entry) (V.refuses watch.old) (S.lacks wires.old folder.now) e (V.watched watch.new) output.old output.new) }
+    ensures untouched { IfErr result (λ e. e ≡ RunFault.Trace → (watch.new ≡ watch.old) ⊎ ((V.watched watch.new).fault ≡ Some WatchFault.Unwritten)) }
 {
     let Config {
         agent,

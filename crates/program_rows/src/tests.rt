@@ -93,6 +93,32 @@ fn what_is_interrupted_is_tried_again_and_each_answer_is_flushed(rt: HostRuntime
     assert!(rt; writer.flushes == 3);
 }
 
+/// Takes what is written, and lets nothing through.
+#[derive(Drop)]
+struct ShutWriter {
+    taken: usize,
+}
+
+impl Write for ShutWriter {
+    fn write(&mut self, buffer: &[u8]) -> io::Result<usize> {
+        self.taken = self.taken.saturating_add(buffer.len());
+        Ok(buffer.len())
+    }
+
+    fn flush(&mut self) -> io::Result<()> {
+        Err(io::Error::from(io::ErrorKind::StorageFull))
+    }
+}
+
+#[test]
+fn a_flush_that_fails_stops_the_run(rt: HostRuntime) {
+    let mut writer = ShutWriter { taken: 0 };
+    let mut input = b"02\n01\n03\n".as_slice();
+    let outcome = answer_stream(rt.alloc(), &mut input, &mut writer, 9, Uuid::nil());
+    assert!(rt; matches!(outcome, Err(AnswerFault::Write)));
+    assert!(rt; writer.taken <= 33);
+}
+
 #[test]
 fn a_broken_writer_stops_the_run(rt: HostRuntime) {
     let mut room = [0u8; 16];

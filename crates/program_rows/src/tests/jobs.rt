@@ -141,7 +141,7 @@ impl Counter {
 }
 
 impl Watch for Counter {
-    ghost watched = { λ c. record { fault = c.fault; shows = record { is_quiet = c.is_quiet; is_traced = c.is_traced }; has_ended = c.has_ended } };
+    ghost watched = { λ c. record { fault = c.fault; shows = record { is_quiet = c.is_quiet; is_traced = c.is_traced }; has_ended = c.has_ended; seen = c.turns; lost = c.lost } };
 
     ghost refuses = { λ c path. true };
 
@@ -154,6 +154,8 @@ impl Watch for Counter {
         }
         self.is_traced = show.trace.is_some();
         self.is_quiet = show.is_quiet;
+        self.turns = 0;
+        self.lost = None;
         Ok(())
     }
 

@@ -19,6 +19,18 @@ returns-in-Err-clause-over g c over =
     (still_on c.args.world.now c.loop-count.world c.turn.new.world c.args.steps.now.items c.loop-count.steps.items c.turn.new.steps.items c.all_over.result
     c.loop-count.invariant.over c.all_over.ensures c.if-all_over.false over).1
 
+pub returns-in-Err-clause-stopped : goal.returns-in-Err-clause-stopped
+returns-in-Err-clause-stopped g c = record {
+  turns = c.loop-count.count;
+  mid = c.loop-count.world;
+  steps = c.loop-count.steps.items;
+  links = links_at c.loop-count.written (map g.L.Link.taken c.loop-count.links) (map g.L.Link.gave c.loop-count.links);
+  count = c.loop-count.invariant.drove.count;
+  turned = c.loop-count.invariant.drove.turned;
+  on = sym c.all_over.ensures ∙ c.if-all_over.false;
+  stops = c.in-Err.ensures.stops;
+}
+
 pub loop-count-preserved : goal.loop-count-preserved
 loop-count-preserved g c = record {
   drives =

@@ -1,7 +1,7 @@
 use Rattle.std.proofs.Common.{◌+◌, [], arith, map, refl}
 use Rattle.fw_world.specs.Promises.{eids_of}
 use Rattle.fw_edge.specs.Links.{links_at}
-use Rattle.fw_edge.proofs.Failing.{failed_from, same_from}
+use Rattle.fw_edge.proofs.Failing.{same_from, told_from}
 use Rattle.fw_edge.proofs.Going.{goes_none, goes_off, goes_sum}
 use Rattle.fw_edge.proofs.Rising.{map_length, rose_all, rose_next, together_next, together_none}
 use Rattle.fw_edge.proofs.Turning.{came_all, came_next, came_none}
@@ -14,8 +14,8 @@ returns-in-Err-clause-drives g c =
 
 pub returns-in-Err-clause-failed : goal.returns-in-Err-clause-failed
 returns-in-Err-clause-failed g c =
-    λ is. failed_from (λ k. (g.L.Link.tally k).failures) (map (λ k. (g.L.Link.tally k).failures) c.args.links.now) c.loop-place.links c.loop-place.place c.index-links-place.result c.read_both.new.link
-    c.loop-place.invariant.kept (omega arith) (c.in-Err.ensures.failed is)
+    told_from c.in-Err.fault (λ k. (g.L.Link.tally k).failures) (map (λ k. (g.L.Link.tally k).failures) c.args.links.now) c.loop-place.links c.loop-place.place c.index-links-place.result c.read_both.new.link
+    c.loop-place.invariant.kept (omega arith) c.in-Err.ensures.failed
 
 pub loop-place-preserved : goal.loop-place-preserved
 loop-place-preserved g c = record {

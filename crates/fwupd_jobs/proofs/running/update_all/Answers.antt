@@ -2,7 +2,7 @@ use Rattle.std.proofs.Common.{◌∙◌, ◌+◌, arith, ap, inl, length, map, r
 use Rattle.fwupd_jobs.specs.Running.{Updates}
 use Rattle.fw_edge.specs.Ledgers.{AllSent, packet_counts}
 use Rattle.fw_edge.proofs.Sending.{sent_none, sent_on}
-use Rattle.fwupd_jobs.proofs.Started.{counted_alike, turned_apart, unwritten_by, updates_more, updates_none, updates_off, updates_reached, watched_apart}
+use Rattle.fwupd_jobs.proofs.Started.{counted_alike, seen_next, turned_apart, unwritten_by, updates_more, updates_none, updates_off, updates_reached, watched_apart}
 use Rattle.fw_edge.specs.declared.driving.EdgeFault.TheVariants as edges
 use Rattle.fwupd_jobs.proofs.running.update_all.Goals as goal
 
@@ -15,6 +15,8 @@ loop-init g c = record {
       subst (λ xs. AllSent (packet_counts c.args.world.now.sites) (packet_counts xs) (map (λ k. (g.L.Link.tally k).sent) c.args.links.now) (map (λ k. (g.L.Link.tally k).sent) c.args.links.now)) (sym c.in-Ok.ensures.same)
       (sent_none (packet_counts c.args.world.now.sites) (map (λ k. (g.L.Link.tally k).sent) c.args.links.now) (counted_alike c.args.world.now.sites (λ k. (g.L.Link.tally k).sent) c.args.links.now c.requires));
   kept = refl;
+  seen = λ none. none;
+  lost = refl;
   shows = refl;
 }
 
@@ -40,8 +42,9 @@ pub returns-in-Err-see-clause-reached : goal.returns-in-Err-see-clause-reached
 returns-in-Err-see-clause-reached g c =
     updates_off c.args.world.now c.loop.world c.drive.new.world c.loop.counter c.loop.steps.items c.drive.new.steps.items c.loop.invariant.updates c.drive.ensures.drives.drives
 
-pub returns-in-Err-see-clause-frame : goal.returns-in-Err-see-clause-frame
-returns-in-Err-see-clause-frame g c e = absurd (watched_apart c.in-Err-see.fault edges.Frame (sym c.watch_fault.ensures.told ∙ e))
+pub returns-in-Err-see-clause-failed : goal.returns-in-Err-see-clause-failed
+returns-in-Err-see-clause-failed g c =
+    (λ e. absurd (watched_apart c.in-Err-see.fault edges.Frame (sym c.watch_fault.ensures.told ∙ e)), λ other. c.in-Ok-drive.ensures.kept ∙ c.loop.invariant.kept)
 
 pub returns-in-Err-see-clause-step : goal.returns-in-Err-see-clause-step
 returns-in-Err-see-clause-step g c e = absurd (watched_apart c.in-Err-see.fault edges.Step (sym c.watch_fault.ensures.told ∙ e))
@@ -70,6 +73,8 @@ loop-preserved g c = record {
       sent_on (packet_counts c.args.world.now.sites) (packet_counts c.loop.world.sites) (packet_counts c.drive.new.world.sites)
       (map (λ k. (g.L.Link.tally k).sent) c.args.links.now) (map (λ k. (g.L.Link.tally k).sent) c.loop.links) (map (λ k. (g.L.Link.tally k).sent) c.drive.new.links) c.loop.invariant.sent c.in-Ok-drive.ensures.sent;
   kept = c.in-Ok-drive.ensures.kept ∙ c.loop.invariant.kept;
+  seen = λ none. seen_next (g.V.Watch.watched c.loop.watch).seen (g.V.Watch.watched c.see.new.self).seen c.loop.counter (omega arith) (c.loop.invariant.seen none) c.see.ensures.seen;
+  lost = c.see.ensures.lost ∙ c.loop.invariant.lost;
   shows = c.see.ensures.same ∙ c.loop.invariant.shows;
 }
 

@@ -11,5 +11,7 @@ invariant-loop g l = record {
   none : l.steps.items ≡ [];
   sent : AllSent (packet_counts l.fn.world.sites) (packet_counts l.world.sites) (map (λ k. (g.L.Link.tally k).sent) l.fn.links) (map (λ k. (g.L.Link.tally k).sent) l.links);
   kept : map (λ k. (g.L.Link.tally k).failures) l.links ≡ map (λ k. (g.L.Link.tally k).failures) l.fn.links;
+  seen : (g.V.Watch.watched l.fn.watch).seen ≡ 0 → (g.V.Watch.watched l.watch).seen ≡ l.counter;
+  lost : (g.V.Watch.watched l.watch).lost ≡ (g.V.Watch.watched l.fn.watch).lost;
   shows : (g.V.Watch.watched l.watch).shows ≡ (g.V.Watch.watched l.fn.watch).shows;
 }

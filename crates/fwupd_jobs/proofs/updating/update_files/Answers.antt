@@ -39,6 +39,8 @@ returns-in-Ok-update_over-clause-ok g c = record {
   updated = c.in-Ok-update_over.ensures.updated;
   promised = safe_reached c.in-Ok-opening_world.world c.update_over.new.world c.packets_are_safe.ensures.law c.in-Ok-opening_world.ensures.opens c.update_over.ensures.reached;
   seen = c.in-Ok-update_over.ensures.seen;
+  turns = c.in-Ok-update_over.ensures.turns c.in-Ok-begin_apart.ensures.anew.0;
+  none_lost = c.in-Ok-update_over.ensures.none_lost ∙ c.in-Ok-begin_apart.ensures.anew.1;
   let_end = c.in-Ok-update_over.ensures.let_end;
   written = c.in-Ok-update_over.ensures.written;
 }
@@ -54,4 +56,5 @@ returns-clause-fault g c =
     (c.update_over.ensures.same ∙ c.in-Ok-begin_apart.ensures.shows)
     c.update_over.ensures.reached
     (safe_reached c.in-Ok-opening_world.world c.update_over.new.world c.packets_are_safe.ensures.law c.in-Ok-opening_world.ensures.opens c.update_over.ensures.reached)
+    c.in-Err-update_over.ensures.lost
     c.in-Err-update_over.ensures.fault

@@ -1,0 +1,14 @@
+use Rattle.std.proofs.Common.{inl, inr}
+use Rattle.fwupd_jobs.proofs.Started.{caused_still, lost_told}
+use Rattle.fwupd_jobs.proofs.updating.update_told.Goals as goal
+
+pub returns-in-Err-clause-lost : goal.returns-in-Err-clause-lost
+returns-in-Err-clause-lost g c e =
+    lost_told (λ k. (g.L.Link.tally k).failures) c.update_watched.new.world c.args.links.now c.update_watched.new.links (g.V.Watch.watched c.lose_failed.new.watch).lost
+    c.in-Err.ensures.devices (c.in-Err.ensures.failed.0 e) c.lose_failed.ensures.lost
+
+pub returns-in-Err-clause-fault : goal.returns-in-Err-clause-fault
+returns-in-Err-clause-fault g c = elim c.in-Err.ensures.fault [
+  | inl e ↦ inl e
+  | inr h ↦ inr (caused_still c.args.world.now c.update_watched.new.world c.in-Err.fault (g.V.Watch.watched c.update_watched.new.watch) (g.V.Watch.watched c.lose_failed.new.watch) c.lose_failed.ensures.fault c.lose_failed.ensures.ended h)
+]
