@@ -34,13 +34,13 @@ pub record SpecComponentOf : Type 0 where
   pub text : List ℕ
   pub path : Option (List ℕ)
 
--- what is asked of a package, and how many lines say it
+-- what is asked of a package, and the number of the line after the last that says it
 pub record PackageSpecOf : Type 0 where
   pub release : List ℕ
   pub version : List ℕ
   pub records : List SpecRecordOf
   pub components : List SpecComponentOf
-  pub lines : ℕ
+  pub next_line : ℕ
 
 -- the same of a value in the program
 abbrev pub spec_descriptor_of : SpecDescriptor → DescriptorOf
@@ -66,7 +66,7 @@ spec_seen p =
       version = p.version.items;
       records = map spec_record_of p.records.items;
       components = map spec_component_of p.components.items;
-      lines = p.lines;
+      next_line = p.next_line;
     }
 
 -- What lines have said so far: the records before the last, and the last, which the lines that follow it describe.
@@ -218,19 +218,19 @@ abbrev pub past_line : ℕ → List SpecRecordOf → Option ℕ
 past_line count [] = None
 past_line count (r ∷ rs) = if is_past count r then Some r.line else past_line count rs
 
--- Behind the last line: a text that isn't said is empty, and a release time that isn't has zeros.
+-- Behind the last line, with the number of the next: a text that isn't said is empty, and a release time that isn't has zeros.
 abbrev pub or_else : List ℕ → Option (List ℕ) → List ℕ
 or_else bytes None = bytes
 or_else bytes (Some said) = said
 
 abbrev pub spec_said : ℕ → SpecDraftOf → PackageSpecOf
-spec_said lines d =
+spec_said next d =
     record {
       release = or_else (repeat 13 (0 ∷ [])) d.release;
       version = or_else [] d.version;
       records = records_of d;
       components = d.components;
-      lines = lines;
+      next_line = next;
     }
 
 abbrev pub unless_past : Option ℕ → PackageSpecOf → Result PackageSpecOf ScriptFault
@@ -238,7 +238,7 @@ unless_past None spec = Ok spec
 unless_past (Some line) spec = Err (record { line = line; cause = causes.Range })
 
 unfoldable pub spec_finished : ℕ → SpecDraftOf → Result PackageSpecOf ScriptFault
-spec_finished lines d = unless_past (past_line (length d.components) (records_of d)) (spec_said lines d)
+spec_finished next d = unless_past (past_line (length d.components) (records_of d)) (spec_said next d)
 
 -- a fault of the line with this number
 abbrev pub at_spec_line : ℕ → (SpecDraftOf → Result PackageSpecOf ScriptFault) → Result SpecDraftOf ScriptCause → Result PackageSpecOf ScriptFault
@@ -247,7 +247,7 @@ at_spec_line number next (Err cause) = Err (record { line = number; cause = caus
 
 -- what lines ask behind what was said before, by so many lines
 abbrev pub spec_from : List (List ℕ) → ℕ → SpecDraftOf → Result PackageSpecOf ScriptFault
-spec_from [] before d = spec_finished before d
+spec_from [] before d = spec_finished (before + 1) d
 spec_from (line ∷ lines) before d = at_spec_line (before + 1) (spec_from lines (before + 1)) (after_spec_line (before + 1) d line)
 
 -- what a text asks of a package, or its first line with a fault and what that is; where there is none, the first record's line

@@ -13,8 +13,8 @@ pub struct PackageSpec {
     pub records: Vec<SpecRecord>,
     /// The components.
     pub components: Vec<SpecComponent>,
-    /// How many lines the text has.
-    pub lines: usize,
+    /// The number of the line after the text's last.
+    pub next_line: usize,
 }
 
 /// A record that is asked for.

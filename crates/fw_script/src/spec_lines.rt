@@ -371,10 +371,10 @@ impl SpecDraft {
         self.say(alloc, number, directive, fields.as_slice())
     }
 
-    /// Ends behind the last line, of this number.
+    /// Ends behind the last line, with the number of the next.
     #[tactic(auto, unfolding(crate::specs::PackageSpecs::spec_finished))]
-    fn finish(self, alloc: Global, lines: usize) -> Result<PackageSpec, ScriptFault>
-        ensures { ReadsAs spec_seen result (spec_finished lines self) }
+    fn finish(self, alloc: Global, next_line: usize) -> Result<PackageSpec, ScriptFault>
+        ensures { ReadsAs spec_seen result (spec_finished next_line self) }
     {
         let SpecDraft {
             version,
@@ -387,7 +387,7 @@ impl SpecDraft {
         if let Some(last) = last {
             let Ok(()) = records.push(last) else {
                 return Err(ScriptFault {
-                    line: lines,
+                    line: next_line,
                     cause: ScriptCause::Memory,
                 });
             };
@@ -406,7 +406,7 @@ impl SpecDraft {
             },
             records,
             components,
-            lines,
+            next_line,
         })
     }
 }
@@ -459,5 +459,5 @@ pub fn read_package_spec(alloc: Global, text: &[u8]) -> Result<PackageSpec, Scri
         }
         rest = after;
     }
-    draft.finish(alloc, line)
+    draft.finish(alloc, line + 1)
 }

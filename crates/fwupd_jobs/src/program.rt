@@ -9,6 +9,7 @@ use crate::faults::RunFault;
 use crate::files::SystemFiles;
 use crate::jobs::perform_job;
 use crate::output::Output;
+use crate::places::SystemPlaces;
 use crate::sockets::Sockets;
 use crate::watching::Onlookers;
 use clap::error::ErrorKind;
@@ -55,6 +56,7 @@ fn run(rt: &HostRuntime, job: &Job<'_>) -> ExitCode
         &mut rt.reader(),
         &mut sockets,
         &mut onlookers,
+        &mut SystemPlaces::new(rt),
         &mut output,
     );
     let status = status(rt, end);
