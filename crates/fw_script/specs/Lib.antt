@@ -1,8 +1,10 @@
 pub mod Configs
 pub mod Faults
 pub mod Lines
+pub mod PackageSpecs
 pub mod Reports
 pub mod Schedules
 pub mod Seen
+pub mod SpecFields
 pub mod Values
 pub mod Whole

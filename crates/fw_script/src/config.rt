@@ -58,7 +58,7 @@ pub(crate) struct Numbers {
 
 /// A component's key.
 #[tactic(auto, unfolding(crate::specs::Configs::key_of))]
-fn read_key(class: &[u8], ident: &[u8]) -> Result<Key, ScriptCause>
+pub(crate) fn read_key(class: &[u8], ident: &[u8]) -> Result<Key, ScriptCause>
     ensures { result ≡ key_of class.now ident.now }
 {
     match both(number_u16(class), number_u16(ident)) {

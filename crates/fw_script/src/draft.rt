@@ -59,7 +59,7 @@ fn read_node(eid_word: &[u8], uuid_word: &[u8]) -> Result<Endpoint, ScriptCause>
 }
 
 /// A file's path.
-fn read_path(alloc: Global, word: &[u8]) -> Result<String, ScriptCause>
+pub(crate) fn read_path(alloc: Global, word: &[u8]) -> Result<String, ScriptCause>
     ensures { Answers (λ path. string_bytes path) result (path_of word.now) }
 {
     match str::from_utf8(word) {

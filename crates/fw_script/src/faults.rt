@@ -78,7 +78,7 @@ impl ScriptCause {
     }
 
     /// The one that stands first in the list.
-    fn earlier(self, other: ScriptCause) -> ScriptCause
+    pub(crate) fn earlier(self, other: ScriptCause) -> ScriptCause
         ensures { result ≡ earlier_of self other }
     {
         if self.rank() <= other.rank() {

@@ -8,12 +8,17 @@ mod draft;
 mod faults;
 mod lines;
 mod names;
+mod package_spec;
 mod reports;
 mod schedule;
+mod spec_fields;
+mod spec_lines;
 mod values;
 
 pub use config::{ComponentConfig, Config, DeviceConfig};
 pub use draft::read_config;
 pub use faults::{ScriptCause, ScriptFault};
+pub use package_spec::{PackageSpec, SpecComponent, SpecDescriptor, SpecNumbers, SpecRecord};
 pub use reports::report;
 pub use schedule::read_schedule;
+pub use spec_lines::read_package_spec;

@@ -27,7 +27,7 @@ fn digits(word: &[u8]) -> Option<u64>
 }
 
 /// Whether a word has nothing but digits.
-fn is_number(word: &[u8]) -> bool
+pub(crate) fn is_number(word: &[u8]) -> bool
     ensures { result ≡ list_all is_ascii_digit word.now }
 {
     word.iter().all(|byte| byte.is_ascii_digit())
@@ -100,7 +100,7 @@ pub fn uuid(word: &[u8]) -> Result<Uuid, ScriptCause>
 }
 
 /// Whether a field stands for nothing.
-fn is_dash(word: &[u8]) -> bool
+pub(crate) fn is_dash(word: &[u8]) -> bool
     ensures { result ≡ stands_for_nothing word.now }
 {
     word == b"-".as_slice()

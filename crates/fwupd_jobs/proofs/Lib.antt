@@ -1,4 +1,5 @@
 mod Answering
+mod Builds
 mod Examined
 mod Making
 mod Packed

@@ -1,6 +1,7 @@
 -- What each job does of those that the words of a command line ask for.
-use Rattle.std.specs.Prelude.{ℕ, ◌≡◌, ◌⊎◌, Bool, true, List, None, Option}
+use Rattle.std.specs.Prelude.{ℕ, ◌≡◌, ◌⊎◌, Bool, true, false, List, None, Option}
 use Rattle.fwupd_jobs.specs.Answering.{AnswerEnds, Answers}
+use Rattle.fwupd_jobs.specs.Built.{BuildEnds, Builds}
 use Rattle.fwupd_jobs.specs.Inspected.{InspectEnds, Inspects}
 use Rattle.fwupd_jobs.specs.Outputs.{OutputOf}
 use Rattle.fwupd_jobs.specs.Replayed.{ReplayEnds, Reports}
@@ -11,11 +12,12 @@ use Rattle.fwupd_jobs.specs.declared.command_line.Job.TheVariants as jobs
 use Rattle.fwupd_jobs.specs.declared.faults.RunFault.{RunFault}
 
 -- A job is done: what it was asked for is written.
-abbrev pub IsDone : Job → (files : List ℕ → FileOf) → (read_before read_now : Option (List ℕ)) → WatchOf → (before now : OutputOf) → Type 0
-IsDone (jobs.Answer endpoint) files read_before read_now watched before now = Answers endpoint read_before read_now before now
-IsDone (jobs.Inspect path) files read_before read_now watched before now = Inspects (files path.now) before now
-IsDone (jobs.Replay config schedule) files read_before read_now watched before now = Reports files config.now schedule.now None before now
-IsDone (jobs.Run config folder show) files read_before read_now watched before now = ReportsUpdate files config.now (show_of show) watched before now
+abbrev pub IsDone : Job → (files : List ℕ → FileOf) → (read_before read_now : Option (List ℕ)) → WatchOf → (is_known : Bool) → (held : List ℕ → Option (List ℕ)) → (before now : OutputOf) → Type 0
+IsDone (jobs.Answer endpoint) files read_before read_now watched is_known held before now = Answers endpoint read_before read_now before now
+IsDone (jobs.Inspect path) files read_before read_now watched is_known held before now = Inspects (files path.now) before now
+IsDone (jobs.Replay config schedule) files read_before read_now watched is_known held before now = Reports files config.now schedule.now None before now
+IsDone (jobs.Run config folder show) files read_before read_now watched is_known held before now = ReportsUpdate files config.now (show_of show) watched before now
+IsDone (jobs.Build spec file) files read_before read_now watched is_known held before now = Builds files spec.now is_known (held file.now) × (now ≡ before)
 
 -- How a job ends that isn't done.
 abbrev pub JobEnds : Job → (files : List ℕ → FileOf) → (refuses : (trace : List ℕ) → Bool) → (lacks : (folder : List ℕ) → (device : ℕ) → Bool) → (read_before read_now : Option (List ℕ)) → RunFault → WatchOf → (before now : OutputOf) → Type 0
@@ -24,6 +26,7 @@ JobEnds (jobs.Inspect path) files refuses lacks read_before read_now told watche
 JobEnds (jobs.Replay config schedule) files refuses lacks read_before read_now told watched before now = ReplayEnds files config.now schedule.now told before now
 JobEnds (jobs.Run config folder show) files refuses lacks read_before read_now told watched before now =
     UpdateEnds files config.now (show_of show) refuses (lacks folder.now) told watched before now
+JobEnds (jobs.Build spec file) files refuses lacks read_before read_now told watched before now = BuildEnds files spec.now told × (now ≡ before)
 
 -- It isn't, and this is so of the fault that is told.
 pub record IsUndone (job : Job) (files : List ℕ → FileOf) (refuses : (trace : List ℕ) → Bool) (lacks : (folder : List ℕ) → (device : ℕ) → Bool) (read_before read_now : Option (List ℕ)) (watched : WatchOf) (before now : OutputOf) : Type 0 where
@@ -31,9 +34,9 @@ pub record IsUndone (job : Job) (files : List ℕ → FileOf) (refuses : (trace 
   pub ends : JobEnds job files refuses lacks read_before read_now told watched before now
 
 -- A status says whether it is: 0, or 1 where it isn't.
-abbrev pub StatusSays : (status : ℕ) → Job → (files : List ℕ → FileOf) → (refuses : (trace : List ℕ) → Bool) → (lacks : (folder : List ℕ) → (device : ℕ) → Bool) → (read_before read_now : Option (List ℕ)) → WatchOf → (before now : OutputOf) → Type 0
-StatusSays status job files refuses lacks read_before read_now watched before now =
-    ((status ≡ 0) × IsDone job files read_before read_now watched before now)
+abbrev pub StatusSays : (status : ℕ) → Job → (files : List ℕ → FileOf) → (refuses : (trace : List ℕ) → Bool) → (lacks : (folder : List ℕ) → (device : ℕ) → Bool) → (read_before read_now : Option (List ℕ)) → WatchOf → (is_known : Bool) → (held : List ℕ → Option (List ℕ)) → (before now : OutputOf) → Type 0
+StatusSays status job files refuses lacks read_before read_now watched is_known held before now =
+    ((status ≡ 0) × IsDone job files read_before read_now watched is_known held before now)
     ⊎ ((status ≡ 1) × IsUndone job files refuses lacks read_before read_now watched before now)
 
 -- So it says of a job over what the system has, of which nothing is known before.
@@ -43,4 +46,4 @@ pub record SystemSays (status : ℕ) (job : Job) : Type 0 where
   pub watched : WatchOf
   pub before : OutputOf
   pub now : OutputOf
-  pub says : StatusSays status job (λ path. any_file) (λ trace. true) (λ folder device. true) read_before read_now watched before now
+  pub says : StatusSays status job (λ path. any_file) (λ trace. true) (λ folder device. true) read_before read_now watched false (λ path. None) before now

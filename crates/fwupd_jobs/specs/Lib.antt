@@ -1,4 +1,5 @@
 pub mod Answering
+pub mod Built
 pub mod Inspected
 pub mod Jobs
 pub mod Nodes

@@ -17,6 +17,8 @@ pub enum Job<'a> {
     Replay(&'a str, &'a str),
     /// Update the devices of the configuration of the first path over sockets in the folder of the second.
     Run(&'a str, &'a str, Show<'a>),
+    /// Build the package that the text in the file of the first path asks for, into the file of the second.
+    Build(&'a str, &'a str),
 }
 
 /// What is shown of a run while it goes on.
@@ -228,6 +230,61 @@ fn run_command<'a>(alloc: Global) -> Result<Command<'a>, clap::Error> {
     Ok(command)
 }
 
+/// What stands below the help of `build`.
+const BUILD_HELP: &str = "\
+Example:
+  fwupd build my.spec my.fwpkg
+
+SPEC has these lines. Words stand one space apart; a TEXT is at most 255 bytes, of which \\xNN is the byte with these two
+upper-case digits; - is the empty text, or none; empty lines, and lines that begin with #, are skipped:
+  version TEXT             the package's version, at most once, before all records and components
+  release HEX              its release time, 13 bytes, in the same way; without one it is zeros
+  record FLAGS TEXT N ..   a record: its option flags, its set text, and its components, which count from 1 and rise
+  descriptor TYPE HEX      a descriptor of the record before; a TYPE is four digits
+  component CLASS IDENT STAMP OPTIONS METHOD TEXT PATH
+                           a component, behind all records; PATH is its image's file
+
+Faults of a text. The first line with one is printed, with the first fault of it that holds:
+  Directive  the line begins with none of these words
+  Fields     a field is left out, or one stands too many
+  Order      the line may not stand here
+  Number     a number isn't all digits, or a path isn't UTF-8 text
+  Hex        bytes aren't an even number of hexadecimal digits, a TYPE isn't four, a release time isn't 13 bytes, or a
+             backslash begins no \\xNN
+  Range      a number is too large, a record's components don't rise, or one of them isn't there
+  Limit      a text is longer than 255 bytes, a record has more than 255 descriptors, or there are more than 255 records;
+             at the line after the last: the header has more than 65535 bytes, or the package more than 4294967295
+
+FILE is written beside its place, as FILE.new, and comes there when it is whole. Where that fails FILE is as it was. A file
+FILE.new that is there already, as a run that was killed leaves it, isn't written over: 'fwupd: output'.
+
+Limits: paths are UTF-8 text, and the images fit into memory.
+
+Status: 0; 1 if standard error says 'fwupd: SPEC: line N: ' and a fault, 'fwupd: PATH: unreadable', 'fwupd: output' or
+'fwupd: memory'; 2 for wrong usage.";
+
+/// The subcommand `build`.
+fn build_command<'a>(alloc: Global) -> Result<Command<'a>, clap::Error> {
+    let spec = Arg::new(alloc, "SPEC")
+        .help("The text that says what the package holds")
+        .required(true)
+        .action(ArgAction::Set);
+    let file = Arg::new(alloc, "FILE")
+        .help("The package's file, which is made or replaced")
+        .required(true)
+        .action(ArgAction::Set);
+    let command = Command::new(alloc, "build")
+        .about("Builds a firmware update package from a text and images")
+        .long_about(
+            "Builds a firmware update package from a text and images.\n\n\
+            The text says what the package holds, and names the files of the images. Nothing is printed.",
+        )
+        .after_long_help(BUILD_HELP)
+        .arg(spec)?
+        .arg(file)?;
+    Ok(command)
+}
+
 /// The whole command line.
 fn command<'a>(alloc: Global) -> Result<Command<'a>, clap::Error> {
     let command = Command::new(alloc, "fwupd")
@@ -238,7 +295,8 @@ fn command<'a>(alloc: Global) -> Result<Command<'a>, clap::Error> {
         .subcommand(answer_command(alloc)?)?
         .subcommand(inspect_command(alloc)?)?
         .subcommand(replay_command(alloc)?)?
-        .subcommand(run_command(alloc)?)?;
+        .subcommand(run_command(alloc)?)?
+        .subcommand(build_command(alloc)?)?;
     Ok(command)
 }
 
@@ -277,6 +335,10 @@ pub fn parse<'a>(alloc: Global, words: &'a [String]) -> Result<Job<'a>, clap::Er
                 is_quiet: matches.get_flag("quiet"),
                 trace: matches.get_str("trace"),
             },
+        )),
+        Some(("build", matches)) => Ok(Job::Build(
+            matches.get_str("SPEC").unwrap_or(""),
+            matches.get_str("FILE").unwrap_or(""),
         )),
         _ => Err(command(alloc)?.error(ErrorKind::MissingSubcommand, "a subcommand is required")?),
     }

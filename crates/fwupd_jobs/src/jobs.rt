@@ -3,11 +3,13 @@
 ghost use Rattle.std.specs.Prelude.{◌≡◌, ◌⊎◌, IfErr, OnOk, Some};
 ghost use Rattle.fwupd_jobs.specs.Jobs.{IsDone, JobEnds};
 
+use crate::building::build_file;
 use crate::command_line::Job;
 use crate::faults::RunFault;
 use crate::files::Files;
 use crate::inspecting::inspect_file;
 use crate::output::Output;
+use crate::places::Places;
 use crate::replaying::replay_files;
 use crate::running::{Watch, WatchFault};
 use crate::updating::{Wires, update_files};
@@ -15,20 +17,30 @@ use fw_edge::Link;
 use std::alloc::Global;
 use std::io::{Read, Write};
 
-/// Does a job. What it reads, it reads of the files; what it answers, of the reader.
+/// Does a job. What it reads, it reads of the files; what it answers, of the reader; a package that it builds comes to its place.
 ///
 /// # Errors
-/// Those of the job: of `Output::answer`, `inspect_file`, `replay_files` or `update_files`.
-pub fn perform_job<F: Files, R: Read, L: Link + Drop, S: Wires<L>, V: Watch, W: Write + Drop>(
+/// Those of the job: of `Output::answer`, `inspect_file`, `replay_files`, `update_files` or `build_file`.
+pub fn perform_job<
+    F: Files,
+    R: Read,
+    L: Link + Drop,
+    S: Wires<L>,
+    V: Watch,
+    B: Write + Drop,
+    P: Places<B>,
+    W: Write + Drop,
+>(
     alloc: Global,
     job: &Job<'_>,
     files: &F,
     reader: &mut R,
     wires: &mut S,
     watch: &mut V,
+    places: &mut P,
     output: &mut Output<W>,
 ) -> Result<(), RunFault>
-    ensures ok { OnOk result (IsDone job.now (F.holds files.now) (R.remaining reader.old) (R.remaining reader.new) (V.watched watch.new) output.old output.new) }
+    ensures ok { OnOk result (IsDone job.now (F.holds files.now) (R.remaining reader.old) (R.remaining reader.new) (V.watched watch.new) (P.is_known places.old) (P.held places.new) output.old output.new) }
     ensures fault { IfErr result (λ e. JobEnds job.now (F.holds files.now) (V.refuses watch.old) (S.lacks wires.old) (R.remaining reader.old) (R.remaining reader.new) e (V.watched watch.new) output.old output.new) }
     ensures untouched { IfErr result (λ e. e ≡ RunFault.Trace → (watch.new ≡ watch.old) ⊎ ((V.watched watch.new).fault ≡ Some WatchFault.Unwritten)) }
 {
@@ -39,5 +51,6 @@ pub fn perform_job<F: Files, R: Read, L: Link + Drop, S: Wires<L>, V: Watch, W: 
         Job::Run(config, folder, show) => {
             update_files(alloc, files, config, folder, *show, wires, watch, output)
         }
+        Job::Build(spec, file) => build_file(alloc, files, spec, file, places),
     }
 }

@@ -10,6 +10,7 @@ use crate::faults::RunFault;
 use crate::files::{Files, SystemFiles};
 use crate::jobs::perform_job;
 use crate::output::Output;
+use crate::places::{Places, SystemPlaces};
 use crate::running::Watch;
 use crate::sockets::Sockets;
 use crate::updating::Wires;
@@ -30,20 +31,30 @@ fn failed(rt: &HostRuntime, fault: RunFault) -> ExitCode
     ExitCode::FAILURE
 }
 
-/// Does a job over these files, this reader, links, onlooker and output, and gives the status: 0 where it is done, and 1 where it
-/// isn't, and its fault is printed.
-fn status<F: Files, R: Read, L: Link + Drop, S: Wires<L>, V: Watch, W: Write + Drop>(
+/// Does a job over these files, this reader, links, onlooker, places and output, and gives the status: 0 where it is done, and 1
+/// where it isn't, and its fault is printed.
+fn status<
+    F: Files,
+    R: Read,
+    L: Link + Drop,
+    S: Wires<L>,
+    V: Watch,
+    B: Write + Drop,
+    P: Places<B>,
+    W: Write + Drop,
+>(
     rt: &HostRuntime,
     job: &Job<'_>,
     files: &F,
     reader: &mut R,
     wires: &mut S,
     watch: &mut V,
+    places: &mut P,
     output: &mut Output<W>,
 ) -> ExitCode
-    ensures { StatusSays (exit_status result) job.now (F.holds files.now) (V.refuses watch.old) (S.lacks wires.old) (R.remaining reader.old) (R.remaining reader.new) (V.watched watch.new) output.old output.new }
+    ensures { StatusSays (exit_status result) job.now (F.holds files.now) (V.refuses watch.old) (S.lacks wires.old) (R.remaining reader.old) (R.remaining reader.new) (V.watched watch.new) (P.is_known places.old) (P.held places.new) output.old output.new }
 {
-    match perform_job(rt.alloc(), job, files, reader, wires, watch, output) {
+    match perform_job(rt.alloc(), job, files, reader, wires, watch, places, output) {
         Ok(()) => ExitCode::SUCCESS,
         Err(fault) => failed(rt, fault),
     }
@@ -70,6 +81,7 @@ fn run(rt: &HostRuntime, job: &Job<'_>) -> ExitCode
         &mut reader,
         &mut sockets,
         &mut onlookers,
+        &mut SystemPlaces::new(rt),
         &mut output,
     );
     sockets.explain();

@@ -27,7 +27,7 @@ pub fn read_fault(alloc: Global, path: &str, fault: FileFault) -> RunFault
 }
 
 /// What is told of a text that is none of its format.
-fn text_fault(alloc: Global, path: &str, fault: ScriptFault) -> RunFault
+pub(crate) fn text_fault(alloc: Global, path: &str, fault: ScriptFault) -> RunFault
     ensures { (result ≡ RunFault.Memory) ⊎ TextFault path.now fault result }
 {
     match (fault.cause, String::from_str(alloc, path)) {

@@ -1,0 +1,117 @@
+-- The package that the text in a file asks for, and what is written of it.
+use Rattle.std.specs.Prelude.{ℕ, ◌≡◌, ◌++◌, ◌⊎◌, List, [], ◌∷◌, Option, None, Some, Ok, Bool, true, IsSomeAnd, length, map, string_bytes}
+use Rattle.std.specs.List.{concat}
+use Rattle.fw_package.specs.Asked.{AskedComponentOf, AskedOf, AskedRecordOf, asked, refusal_of}
+use Rattle.fw_package.specs.Grammar.{IsPackage}
+use Rattle.fw_package.specs.Reading.{package_of}
+use Rattle.fw_package.specs.Writing.{header_bytes}
+use Rattle.fw_package.specs.declared.asked.AskedFault.{AskedFault}
+use Rattle.fw_package.specs.declared.asked.AskedFault.TheVariants as refusals
+use Rattle.fw_script.specs.PackageSpecs.{PackageSpecOf, SpecComponentOf, SpecRecordOf, package_spec_of}
+use Rattle.fw_script.specs.declared.faults.ScriptCause.{ScriptCause}
+use Rattle.fw_script.specs.declared.faults.ScriptCause.TheVariants as causes
+use Rattle.fw_script.specs.declared.faults.ScriptFault.{ScriptFault}
+use Rattle.fwupd_jobs.specs.Setups.{FileOf, IsUnread, MayHold, Says, TextFails}
+use Rattle.fwupd_jobs.specs.declared.faults.RunFault.{RunFault}
+use Rattle.fwupd_jobs.specs.declared.faults.RunFault.TheVariants as faults
+
+-- what is asked of a package by a text, with these images
+abbrev pub record_by : SpecRecordOf → AskedRecordOf
+record_by r = record { flags = r.flags; set_text = r.set_text; descriptors = r.descriptors; uses = r.uses }
+
+abbrev pub component_by : SpecComponentOf → List ℕ → AskedComponentOf
+component_by c image =
+    record {
+      classification = c.numbers.key.classification;
+      identifier = c.numbers.key.identifier;
+      stamp = c.numbers.stamp;
+      options = c.numbers.options;
+      method = c.numbers.method;
+      text = c.text;
+      size = length image;
+    }
+
+abbrev pub components_by : List SpecComponentOf → List (List ℕ) → List AskedComponentOf
+components_by (c ∷ cs) (image ∷ images) = component_by c image ∷ components_by cs images
+components_by cs images = []
+
+abbrev pub asked_by : PackageSpecOf → List (List ℕ) → AskedOf
+asked_by spec images =
+    record {
+      release = spec.release;
+      version = spec.version;
+      records = map record_by spec.records;
+      components = components_by spec.components images;
+    }
+
+-- a component's image: its file's bytes, or none where it has no file
+abbrev pub IsImage : (files : List ℕ → FileOf) → Option (List ℕ) → List ℕ → Type 0
+IsImage files None image = image ≡ []
+IsImage files (Some path) image = MayHold (files path) image
+
+abbrev pub AreImages : (files : List ℕ → FileOf) → List SpecComponentOf → List (List ℕ) → Type 0
+AreImages files [] [] = Unit {0}
+AreImages files (c ∷ cs) (image ∷ images) = IsImage files c.path image × AreImages files cs images
+AreImages files cs images = ⊥
+
+-- Bytes are the package that the text in a file asks for.
+pub record IsBuilt (files : List ℕ → FileOf) (path bytes : List ℕ) : Type 0 where
+  pub spec : PackageSpecOf
+  pub images : List (List ℕ)
+  pub says : Says package_spec_of (files path) spec
+  pub are : AreImages files spec.components images
+  pub written : bytes ≡ header_bytes (asked_by spec images) ++ concat images
+  pub is : IsPackage bytes (asked (asked_by spec images) images)
+  pub reads : package_of bytes ≡ Ok (asked (asked_by spec images) images)
+
+-- An image's file isn't read: the first of these.
+abbrev pub ImageFails : (files : List ℕ → FileOf) → Option (List ℕ) → RunFault → Type 0
+ImageFails files None told = ⊥
+ImageFails files (Some path) told = IsUnread path (files path) told
+
+pub record ImagesFail (files : List ℕ → FileOf) (components : List SpecComponentOf) (told : RunFault) : Type 0 where
+  pub before : List SpecComponentOf
+  pub component : SpecComponentOf
+  pub after : List SpecComponentOf
+  pub images : List (List ℕ)
+  pub is : components ≡ before ++ component ∷ after
+  pub read : AreImages files before images
+  pub fails : ImageFails files component.path told
+
+-- It can't be written, which is told at the line after the last.
+abbrev pub cause_of : AskedFault → ScriptCause
+cause_of refusals.Uses = causes.Range
+cause_of refusals.Limit = causes.Limit
+
+abbrev pub refusal_told : PackageSpecOf → AskedFault → ScriptFault
+refusal_told spec refusal = record { line = spec.next_line; cause = cause_of refusal }
+
+pub record IsRefusal (spec : PackageSpecOf) (images : List (List ℕ)) (told : ScriptFault) : Type 0 where
+  pub refusal : AskedFault
+  pub is : refusal_of (asked_by spec images) ≡ Some refusal
+  pub told_so : told ≡ refusal_told spec refusal
+
+abbrev pub IsRefused : (path : List ℕ) → PackageSpecOf → List (List ℕ) → RunFault → Type 0
+IsRefused path spec images (faults.Text name told) = (string_bytes name ≡ path) × IsRefusal spec images told
+IsRefused path spec images told = ⊥
+
+-- why nothing is built of the text in a file
+pub record SpecFails (files : List ℕ → FileOf) (path : List ℕ) (told : RunFault) : Type 0 where
+  pub spec : PackageSpecOf
+  pub says : Says package_spec_of (files path) spec
+  pub fails : ImagesFail files spec.components told
+
+pub record PackageRefused (files : List ℕ → FileOf) (path : List ℕ) (told : RunFault) : Type 0 where
+  pub spec : PackageSpecOf
+  pub images : List (List ℕ)
+  pub says : Says package_spec_of (files path) spec
+  pub are : AreImages files spec.components images
+  pub refused : IsRefused path spec images told
+
+abbrev pub BuildEnds : (files : List ℕ → FileOf) → (path : List ℕ) → RunFault → Type 0
+BuildEnds files path told =
+    (told ≡ faults.Memory) ⊎ ((told ≡ faults.Output) ⊎ (TextFails package_spec_of files path told ⊎ (SpecFails files path told ⊎ PackageRefused files path told)))
+
+-- Where it is known what a path holds, it holds the package.
+abbrev pub Builds : (files : List ℕ → FileOf) → (path : List ℕ) → (is_known : Bool) → Option (List ℕ) → Type 0
+Builds files path is_known held = is_known ≡ true → IsSomeAnd held (λ bytes. IsBuilt files path bytes)

@@ -1,0 +1,328 @@
+//! Building a package that the text in a file asks for.
+
+ghost use Rattle.std.specs.Prelude.{◌≡◌, ◌⊎◌, ◌++◌, IfErr, IfOk, OnErr, OnOk, map, option_map, slice_get};
+ghost use Rattle.std.specs.Io.KnownBytes.{Appends};
+ghost use Rattle.std.specs.List.{concat};
+ghost use Rattle.fw_package.specs.Asked.{asked_component_of, asked_of, asked_record_of};
+ghost use Rattle.fw_package.specs.Package.{descriptor_of};
+ghost use Rattle.fw_package.specs.Writing.{IsHeaderOf, header_bytes};
+ghost use Rattle.fw_script.specs.PackageSpecs.{package_spec_of, spec_component_of, spec_descriptor_of, spec_record_of, spec_seen};
+ghost use Rattle.fwupd_jobs.specs.Built.{AreImages, BuildEnds, Builds, ImageFails, ImagesFail, IsImage, IsRefused, asked_by, component_by, components_by, record_by, refusal_told};
+ghost use Rattle.fwupd_jobs.specs.Setups.{Says, TextFails, TextFault};
+
+use crate::faults::RunFault;
+use crate::files::Files;
+use crate::places::Places;
+use crate::setups::{read_fault, text_fault};
+use fw_package::{AskedComponent, AskedFault, AskedPackage, AskedRecord, Descriptor, Header};
+use fw_script::{
+    PackageSpec, ScriptCause, ScriptFault, SpecComponent, SpecDescriptor, SpecRecord,
+    read_package_spec,
+};
+use fwupd_base::write_whole;
+use std::alloc::Global;
+use std::io::Write;
+
+/// What the text in the file of a path asks of a package.
+#[tactic(auto, using(crate::proofs::Packed::unread_text))]
+fn package_spec<F: Files>(alloc: Global, files: &F, path: &str) -> Result<PackageSpec, RunFault>
+    ensures says { IfOk result (λ spec. Says package_spec_of (F.holds files.now path.now) (spec_seen spec)) }
+    ensures fault { IfErr result (λ e. (e ≡ RunFault.Memory) ⊎ TextFails package_spec_of (F.holds files.now) path.now e) }
+{
+    let text = match files.contents(alloc, path) {
+        Ok(text) => text,
+        Err(fault) => return Err(read_fault(alloc, path, fault)),
+    };
+    match read_package_spec(alloc, &text) {
+        Ok(spec) => Ok(spec),
+        Err(fault) => Err(text_fault(alloc, path, fault)),
+    }
+}
+
+/// The image of a component.
+fn image<F: Files>(alloc: Global, files: &F, component: &SpecComponent) -> Result<Vec<u8>, RunFault>
+    ensures held { IfOk result (λ image. IsImage (F.holds files.now) (spec_component_of component.now).path image.items) }
+    ensures fault { IfErr result (λ e. (e ≡ RunFault.Memory) ⊎ ImageFails (F.holds files.now) (spec_component_of component.now).path e) }
+{
+    let Some(path) = &component.path else {
+        return Ok(Vec::new(alloc));
+    };
+    match files.contents(alloc, path) {
+        Ok(image) => Ok(image),
+        Err(fault) => Err(read_fault(alloc, path, fault)),
+    }
+}
+
+/// The images of components, one by one.
+fn images<F: Files>(
+    alloc: Global,
+    files: &F,
+    components: &[SpecComponent],
+) -> Result<Vec<Vec<u8>>, RunFault>
+    ensures are { IfOk result (λ images. AreImages (F.holds files.now) (map spec_component_of components.now) (map (λ i. i.items) images.items)) }
+    ensures fault { IfErr result (λ e. (e ≡ RunFault.Memory) ⊎ ImagesFail (F.holds files.now) (map spec_component_of components.now) e) }
+{
+    let mut images = Vec::new(alloc);
+    for component in components {
+        let image = match image(alloc, files, component) {
+            Ok(image) => image,
+            Err(fault) => return Err(fault),
+        };
+        let Ok(()) = images.push(image) else {
+            return Err(RunFault::Memory);
+        };
+    }
+    Ok(images)
+}
+
+/// Descriptors, as they are asked for.
+fn lent_descriptors<'a>(
+    alloc: Global,
+    descriptors: &'a [SpecDescriptor],
+) -> Result<Vec<Descriptor<'a>>, RunFault>
+    ensures are { IfOk result (λ lent. map descriptor_of lent.items ≡ map spec_descriptor_of descriptors.now) }
+    ensures fault { IfErr result (λ e. e ≡ RunFault.Memory) }
+{
+    let mut lent = Vec::new(alloc);
+    for said in descriptors {
+        let descriptor = Descriptor {
+            kind: said.kind,
+            bytes: said.bytes.as_slice(),
+        };
+        let Ok(()) = lent.push(descriptor) else {
+            return Err(RunFault::Memory);
+        };
+    }
+    Ok(lent)
+}
+
+/// The descriptors of records, one by one.
+fn all_descriptors<'a>(
+    alloc: Global,
+    records: &'a [SpecRecord],
+) -> Result<Vec<Vec<Descriptor<'a>>>, RunFault>
+    ensures are { IfOk result (λ lent. map (λ ds. map descriptor_of ds.items) lent.items ≡ map (λ r. map spec_descriptor_of r.descriptors.items) records.now) }
+    ensures fault { IfErr result (λ e. e ≡ RunFault.Memory) }
+{
+    let mut lent = Vec::new(alloc);
+    for said in records {
+        let descriptors = match lent_descriptors(alloc, said.descriptors.as_slice()) {
+            Ok(descriptors) => descriptors,
+            Err(fault) => return Err(fault),
+        };
+        let Ok(()) = lent.push(descriptors) else {
+            return Err(RunFault::Memory);
+        };
+    }
+    Ok(lent)
+}
+
+/// A record, as it is asked for, with its descriptors.
+fn lent_record<'a, 's: 'a>(
+    said: &'s SpecRecord,
+    descriptors: &'a [Descriptor<'s>],
+) -> AskedRecord<'a>
+    requires { map descriptor_of descriptors.now ≡ map spec_descriptor_of said.now.descriptors.items }
+    ensures { asked_record_of result ≡ record_by (spec_record_of said.now) }
+{
+    AskedRecord {
+        flags: said.flags,
+        set_text: said.set_text.as_slice(),
+        descriptors,
+        uses: said.uses.as_slice(),
+    }
+}
+
+/// The descriptors of the record in this place.
+fn own_descriptors<'a, 's: 'a>(
+    all: &'a [Vec<Descriptor<'s>>],
+    place: usize,
+) -> Option<&'a [Descriptor<'s>]>
+    ensures { option_map (λ own. map descriptor_of own.now) result ≡ slice_get (map (λ ds. map descriptor_of ds.items) all.now) place }
+{
+    match all.get(place) {
+        Some(own) => Some(own.as_slice()),
+        None => None,
+    }
+}
+
+/// Records, as they are asked for, with their descriptors.
+fn lent_records<'a, 's: 'a>(
+    alloc: Global,
+    records: &'s [SpecRecord],
+    descriptors: &'a [Vec<Descriptor<'s>>],
+) -> Result<Vec<AskedRecord<'a>>, RunFault>
+    requires { map (λ ds. map descriptor_of ds.items) descriptors.now ≡ map (λ r. map spec_descriptor_of r.descriptors.items) records.now }
+    ensures are { IfOk result (λ lent. map asked_record_of lent.items ≡ map record_by (map spec_record_of records.now)) }
+    ensures fault { IfErr result (λ e. e ≡ RunFault.Memory) }
+{
+    let mut lent = Vec::new(alloc);
+    for (place, said) in records.iter().enumerate() {
+        let Some(own) = own_descriptors(descriptors, place) else {
+            return Err(RunFault::Memory);
+        };
+        let Ok(()) = lent.push(lent_record(said, own)) else {
+            return Err(RunFault::Memory);
+        };
+    }
+    Ok(lent)
+}
+
+/// A component, as it is asked for, with an image of this size.
+fn lent_component<'a>(said: &'a SpecComponent, image: &[u8]) -> AskedComponent<'a>
+    ensures { asked_component_of result ≡ component_by (spec_component_of said.now) image.now }
+{
+    AskedComponent {
+        classification: said.numbers.key.classification,
+        identifier: said.numbers.key.identifier,
+        stamp: said.numbers.stamp,
+        options: said.numbers.options,
+        method: said.numbers.method,
+        text: said.text.as_slice(),
+        size: image.len(),
+    }
+}
+
+/// Components, as they are asked for, with their images.
+fn lent_components<'a>(
+    alloc: Global,
+    components: &'a [SpecComponent],
+    images: &[Vec<u8>],
+) -> Result<Vec<AskedComponent<'a>>, RunFault>
+    ensures are { IfOk result (λ lent. map asked_component_of lent.items ≡ components_by (map spec_component_of components.now) (map (λ i. i.items) images.now)) }
+    ensures fault { IfErr result (λ e. e ≡ RunFault.Memory) }
+{
+    let mut lent = Vec::new(alloc);
+    for (place, said) in components.iter().enumerate() {
+        let Some(image) = images.get(place) else {
+            return Ok(lent);
+        };
+        let Ok(()) = lent.push(lent_component(said, image)) else {
+            return Err(RunFault::Memory);
+        };
+    }
+    Ok(lent)
+}
+
+/// What is told of a package that can't be written, at the line after its text's last.
+fn refused(alloc: Global, path: &str, spec: &PackageSpec, refusal: AskedFault) -> RunFault
+    ensures { (result ≡ RunFault.Memory) ⊎ TextFault path.now (refusal_told (spec_seen spec.now) refusal) result }
+{
+    let cause = match refusal {
+        AskedFault::Uses => ScriptCause::Range,
+        AskedFault::Limit => ScriptCause::Limit,
+    };
+    let line = spec.next_line;
+    text_fault(alloc, path, ScriptFault { line, cause })
+}
+
+/// The package that a text asks for, with these records and components.
+fn asked_package<'a, 'r: 'a, 's: 'r>(
+    spec: &'s PackageSpec,
+    records: &'r [AskedRecord<'r>],
+    components: &'a [AskedComponent<'s>],
+) -> AskedPackage<'a>
+    ensures { asked_of result ≡ record { release = spec.now.release; version = spec.now.version.items; records = map asked_record_of records.now; components = map asked_component_of components.now } }
+{
+    AskedPackage {
+        release: spec.release,
+        version: spec.version.as_slice(),
+        records,
+        components,
+    }
+}
+
+/// The header of the package that a text asks for, with these images.
+fn header_of(
+    alloc: Global,
+    path: &str,
+    spec: &PackageSpec,
+    images: &[Vec<u8>],
+    header: &mut Header,
+) -> Result<(), RunFault>
+    ensures bytes { OnOk result (header.new.items ≡ header_bytes (asked_by (spec_seen spec.now) (map (λ i. i.items) images.now))) }
+    ensures header { OnOk result (IsHeaderOf (asked_by (spec_seen spec.now) (map (λ i. i.items) images.now)) header.new.items) }
+    ensures fault { IfErr result (λ e. (e ≡ RunFault.Memory) ⊎ IsRefused path.now (spec_seen spec.now) (map (λ i. i.items) images.now) e) }
+{
+    let descriptors = match all_descriptors(alloc, spec.records.as_slice()) {
+        Ok(descriptors) => descriptors,
+        Err(fault) => return Err(fault),
+    };
+    let records = match lent_records(alloc, spec.records.as_slice(), descriptors.as_slice()) {
+        Ok(records) => records,
+        Err(fault) => return Err(fault),
+    };
+    let components = match lent_components(alloc, spec.components.as_slice(), images) {
+        Ok(components) => components,
+        Err(fault) => return Err(fault),
+    };
+    let asked = asked_package(spec, records.as_slice(), components.as_slice());
+    match asked.write_header(header) {
+        Ok(()) => Ok(()),
+        Err(refusal) => Err(refused(alloc, path, spec, refusal)),
+    }
+}
+
+/// Writes a header, and images behind it.
+///
+/// # Errors
+/// `Output` where they aren't written whole.
+fn write_parts<W: Write>(writer: &mut W, header: &[u8], images: &[Vec<u8>]) -> Result<(), RunFault>
+    ensures ok { OnOk result (Appends (W.contents writer.old) (W.contents writer.new) (header.now ++ concat (map (λ i. i.items) images.now))) }
+    ensures fault { IfErr result (λ e. e ≡ RunFault.Output) }
+{
+    match write_whole(writer, header) {
+        Ok(()) => {}
+        Err(_) => return Err(RunFault::Output),
+    }
+    for image in images {
+        match write_whole(writer, image) {
+            Ok(()) => {}
+            Err(_) => return Err(RunFault::Output),
+        }
+    }
+    Ok(())
+}
+
+/// Builds the package that the text in a file asks for, into the file of a path: that is the package then. It is as it was where
+/// this fails.
+///
+/// # Errors
+/// Why the text isn't read, or the first image's file that isn't; `Text` with `Limit`, at the line after the last, where the header
+/// has more than 65,535 bytes or the file more than 4,294,967,295; `Output` where the file isn't written; `Memory`.
+pub fn build_file<F: Files, W: Write + Drop, P: Places<W>>(
+    alloc: Global,
+    files: &F,
+    path: &str,
+    file: &str,
+    places: &mut P,
+) -> Result<(), RunFault>
+    ensures ok { OnOk result (Builds (F.holds files.now) path.now (P.is_known places.old) (P.held places.new file.now)) }
+    ensures kept { OnErr result (P.held places.new ≡ P.held places.old) }
+    ensures fault { IfErr result (λ e. BuildEnds (F.holds files.now) path.now e) }
+{
+    let spec = match package_spec(alloc, files, path) {
+        Ok(spec) => spec,
+        Err(fault) => return Err(fault),
+    };
+    let images = match images(alloc, files, spec.components.as_slice()) {
+        Ok(images) => images,
+        Err(fault) => return Err(fault),
+    };
+    let mut header = Header::new();
+    match header_of(alloc, path, &spec, images.as_slice(), &mut header) {
+        Ok(()) => {}
+        Err(fault) => return Err(fault),
+    }
+    let mut beside = match places.begin(file) {
+        Ok(beside) => beside,
+        Err(fault) => return Err(fault),
+    };
+    match write_parts(&mut beside, header.as_slice(), images.as_slice()) {
+        Ok(()) => places.publish(file, beside),
+        Err(fault) => {
+            places.discard(file);
+            Err(fault)
+        }
+    }
+}

@@ -1,0 +1,110 @@
+//! Where files are made: beside their place, to which they come when they are whole.
+
+ghost use Rattle.std.specs.Prelude.{◌≡◌, ◌⊎◌, [], Bool, IfErr, IfOk, List, None, OnErr, OnOk, Option, Some, false, true, ℕ};
+
+use crate::faults::RunFault;
+use std::alloc::Global;
+use std::fs::{self, File};
+use std::io::Write;
+
+/// Where files are made. Where it is known what they hold, that is the bytes that came last to each path, if any did.
+pub trait Places<W: Write + Drop> {
+    ghost is_known: { Self → Bool };
+
+    ghost held: { Self → List ℕ → Option (List ℕ) };
+
+    /// Begins a file beside a path.
+    ///
+    /// # Errors
+    /// `Output` where it can't be made, and `Memory`.
+    fn begin(&mut self, path: &str) -> Result<W, RunFault>
+        ensures empty { IfOk result (λ w. is_known self.old ≡ true → W.contents w ≡ Some []) }
+        ensures kept { held self.new ≡ held self.old }
+        ensures known { is_known self.new ≡ is_known self.old }
+        ensures fault { IfErr result (λ e. (e ≡ RunFault.Memory) ⊎ (e ≡ RunFault.Output)) };
+
+    /// Puts the file that was begun beside a path in its place, whole.
+    ///
+    /// # Errors
+    /// `Output` where that can't be done, and `Memory`: what stands at the path is as it was then.
+    fn publish(&mut self, path: &str, file: W) -> Result<(), RunFault>
+        ensures ok { OnOk result (is_known self.old ≡ true → held self.new path.now ≡ W.contents file) }
+        ensures kept { OnErr result (held self.new ≡ held self.old) }
+        ensures fault { IfErr result (λ e. (e ≡ RunFault.Memory) ⊎ (e ≡ RunFault.Output)) };
+
+    /// Removes the file that was begun beside a path.
+    fn discard(&mut self, path: &str)
+        ensures { held self.new ≡ held self.old };
+}
+
+/// The system's files, of which nothing is known.
+#[derive(Clone, Copy)]
+pub struct SystemPlaces<'a> {
+    rt: &'a HostRuntime,
+}
+
+/// The path beside a path.
+fn beside(alloc: Global, path: &str) -> Result<String, RunFault> {
+    match format!(in alloc; "{path}.new") {
+        Ok(name) => Ok(name),
+        Err(_) => Err(RunFault::Memory),
+    }
+}
+
+impl<'a> SystemPlaces<'a> {
+    /// The places that a runtime reaches.
+    pub fn new(rt: &'a HostRuntime) -> SystemPlaces<'a> {
+        SystemPlaces { rt }
+    }
+
+    /// Puts a file that is whole in its place, once its bytes are on the disk.
+    fn put(&self, name: &str, path: &str, file: &mut File) -> Result<(), RunFault>
+        ensures { IfErr result (λ e. e ≡ RunFault.Output) }
+    {
+        if file.flush().is_err() || file.sync_all().is_err() {
+            return Err(RunFault::Output);
+        }
+        match fs::rename(self.rt, name, path) {
+            Ok(()) => Ok(()),
+            Err(_) => Err(RunFault::Output),
+        }
+    }
+}
+
+impl<'a> Places<File> for SystemPlaces<'a> {
+    ghost is_known = { λ p. false };
+
+    ghost held = { λ p path. None };
+
+    fn begin(&mut self, path: &str) -> Result<File, RunFault> {
+        let name = match beside(self.rt.alloc(), path) {
+            Ok(name) => name,
+            Err(_) => return Err(RunFault::Memory),
+        };
+        match File::create_new(self.rt, name.as_str()) {
+            Ok(file) => Ok(file),
+            Err(_) => Err(RunFault::Output),
+        }
+    }
+
+    fn publish(&mut self, path: &str, file: File) -> Result<(), RunFault> {
+        let name = match beside(self.rt.alloc(), path) {
+            Ok(name) => name,
+            Err(_) => return Err(RunFault::Memory),
+        };
+        let mut file = file;
+        match self.put(&name, path, &mut file) {
+            Ok(()) => Ok(()),
+            Err(_) => {
+                let _ = fs::remove_file(self.rt, name.as_str());
+                Err(RunFault::Output)
+            }
+        }
+    }
+
+    fn discard(&mut self, path: &str) {
+        if let Ok(name) = beside(self.rt.alloc(), path) {
+            let _ = fs::remove_file(self.rt, name.as_str());
+        }
+    }
+}

@@ -1,0 +1,88 @@
+# Packages that are built: byte for byte those that packages.py makes, and each fault of a text.
+built_packages() {
+    local name out
+    for name in one two; do
+        out=$(cd crates/fwupd && fwupd build "data/$name.spec" "$work/$name.fwpkg" 2>&1)
+        compare "build of $name.spec" '0|' "$?|$out"
+        compare "$name.fwpkg, built" '' "$(cmp "$work/$name.fwpkg" "crates/fwupd/data/$name.fwpkg" 2>&1)"
+    done
+    compare 'what stands beside a package' '' "$(ls "$work" | grep '\.new$')"
+}
+
+# Each fault of a text that asks for a package, and what is there after it.
+refused_specs() {
+    local cause text long
+    long=$(printf '%0256d' 0)
+    echo before > "$work/kept"
+    while IFS='|' read -r cause text; do
+        [[ $cause ]] || continue
+        printf "${text//@/$long}" > "$work/spec"
+        row '' "1||fwupd: $work/spec: line $cause" build "$work/spec" "$work/kept"
+    done <<'TABLE'
+1: Directive|versions a
+2: Directive|version a\n record 0 A -
+1: Fields|version
+1: Fields|version a b
+1: Fields|version  a
+1: Fields|version a 
+1: Fields|record 0 A
+1: Fields|component 1 1 1 1 1 v
+1: Fields|component 1 1 1 1 1 v - -
+2: Order|version a\nversion b
+2: Order|record 0 A -\nversion b
+2: Order|record 0 A -\nrelease 00000000000000000000000000
+1: Order|descriptor 0000 -
+2: Order|component 1 1 1 1 1 v -\nrecord 0 A -
+3: Order|record 0 A -\ncomponent 1 1 1 1 1 v -\ndescriptor 0000 -
+1: Number|record x A -
+1: Number|record 0 A 0 x
+1: Number|component x 1 1 1 1 \\\\q -
+1: Hex|version \\\\x4
+1: Hex|version \\\\x4a
+1: Hex|version \\\\q
+1: Hex|release 0000000000000000000000000
+1: Hex|release 000000000000000000000000
+2: Hex|record 0 A -\ndescriptor 000 00
+2: Hex|record 0 A -\ndescriptor 0000 0
+1: Range|record 4294967296 A -
+1: Range|record 0 A 0
+1: Range|record 0 A 2 2
+1: Range|record 0 A 2 1
+1: Range|component 65536 1 1 1 1 v -
+2: Range|# a comment\nrecord 0 A 1 2\ncomponent 1 1 1 1 1 v -
+1: Limit|version @
+1: Limit|record 0 @ -
+1: Limit|component 1 1 1 1 1 @ -
+TABLE
+    compare 'a file whose package is refused' before "$(< "$work/kept")"
+    row '' "1||fwupd: $work/none: unreadable" build "$work/none" "$work/kept"
+    echo "component 1 1 1 1 1 v $work/none" > "$work/spec"
+    row '' "1||fwupd: $work/none: unreadable" build "$work/spec" "$work/kept"
+    : > "$work/spec"
+    row '' '1||fwupd: output' build "$work/spec" "$work/nowhere/kept"
+    compare 'a file that was not built' before "$(< "$work/kept")"
+}
+
+# Limits on how many there are, and of the whole, which is told at the line after the last.
+spec_limits() {
+    { for _ in {1..256}; do echo 'record 0 A -'; done; } > "$work/spec"
+    row '' "1||fwupd: $work/spec: line 256: Limit" build "$work/spec" "$work/kept"
+    { echo 'record 0 A -'; for _ in {1..256}; do echo 'descriptor 0000 -'; done; } > "$work/spec"
+    row '' "1||fwupd: $work/spec: line 257: Limit" build "$work/spec" "$work/kept"
+    { for _ in {1..2979}; do echo 'component 1 1 1 1 1 - -'; done; } > "$work/spec"
+    row '' "1||fwupd: $work/spec: line 2980: Limit" build "$work/spec" "$work/kept"
+    compare 'a file whose package is too large' before "$(< "$work/kept")"
+}
+
+# A text's bytes are inspected as they were asked for, and an empty text asks for an empty package.
+built_texts() {
+    printf 'version a\\x20\\x5C\\x00b\n' > "$work/spec"
+    row '' '0||' build "$work/spec" "$work/made"
+    compare 'the text of a package' 'a \' "$(dd if="$work/made" bs=1 skip=36 count=3 2> /dev/null)"
+    : > "$work/spec"
+    row '' '0||' build "$work/spec" "$work/made"
+    compare 'the size of an empty package' 43 "$(wc -c < "$work/made" | tr -d ' ')"
+    : > "$work/made.new"
+    row '' '1||fwupd: output' build "$work/spec" "$work/made"
+    rm "$work/made.new"
+}
