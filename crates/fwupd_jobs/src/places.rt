@@ -38,9 +38,11 @@ pub trait Places<W: Write + Drop> {
 }
 
 /// The system's files, of which nothing is known.
-#[derive(Clone, Copy)]
+#[derive(Drop)]
 pub struct SystemPlaces<'a> {
     rt: &'a HostRuntime,
+    /// The path of the file that was begun last, until it comes to its place. It is kept so that the end of a build needs no memory.
+    begun: Option<String>,
 }
 
 /// The path beside a path.
@@ -54,7 +56,7 @@ fn beside(alloc: Global, path: &str) -> Result<String, RunFault> {
 impl<'a> SystemPlaces<'a> {
     /// The places that a runtime reaches.
     pub fn new(rt: &'a HostRuntime) -> SystemPlaces<'a> {
-        SystemPlaces { rt }
+        SystemPlaces { rt, begun: None }
     }
 
     /// Puts a file that is whole in its place, once its bytes are on the disk.
@@ -81,16 +83,16 @@ impl<'a> Places<File> for SystemPlaces<'a> {
             Ok(name) => name,
             Err(_) => return Err(RunFault::Memory),
         };
-        match File::create_new(self.rt, name.as_str()) {
-            Ok(file) => Ok(file),
-            Err(_) => Err(RunFault::Output),
-        }
+        let Ok(file) = File::create_new(self.rt, name.as_str()) else {
+            return Err(RunFault::Output);
+        };
+        self.begun = Some(name);
+        Ok(file)
     }
 
     fn publish(&mut self, path: &str, file: File) -> Result<(), RunFault> {
-        let name = match beside(self.rt.alloc(), path) {
-            Ok(name) => name,
-            Err(_) => return Err(RunFault::Memory),
+        let Some(name) = self.begun.take() else {
+            return Err(RunFault::Output);
         };
         let mut file = file;
         match self.put(&name, path, &mut file) {
@@ -102,8 +104,8 @@ impl<'a> Places<File> for SystemPlaces<'a> {
         }
     }
 
-    fn discard(&mut self, path: &str) {
-        if let Ok(name) = beside(self.rt.alloc(), path) {
+    fn discard(&mut self, _path: &str) {
+        if let Some(name) = self.begun.take() {
             let _ = fs::remove_file(self.rt, name.as_str());
         }
     }

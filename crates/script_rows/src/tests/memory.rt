@@ -1,6 +1,6 @@
 //! Texts that are read where memory is refused, and what their faults are called.
 
-use fw_script::{ScriptCause, ScriptFault, read_config, read_schedule};
+use fw_script::{ScriptCause, ScriptFault, read_config, read_package_spec, read_schedule};
 use std::test::Fail;
 
 /// Holds whichever single allocation is refused.
@@ -24,6 +24,20 @@ fn refused_memory_is_told_of_configurations(rt: HostRuntime) {
 fn refused_memory_is_told_of_schedules(rt: HostRuntime) {
     match read_schedule(rt.alloc(), b"tick 4\nsel 4000\nrestart 9\n") {
         Ok(steps) => assert!(rt; steps.len() == 6),
+        Err(fault) => assert!(rt; fault.cause == ScriptCause::Memory),
+    }
+}
+
+/// Holds whichever single allocation is refused.
+#[test]
+fn refused_memory_is_told_of_package_texts(rt: HostRuntime) {
+    let text =
+        b"version 1.0\nrelease 00000000000000000000000000\nrecord 0 \\x41 1 2\ndescriptor 0000 3412\n\
+        record 1 - -\ncomponent 10 1 2 2 0 v2 a\ncomponent 10 2 2 2 0 v2 -\n";
+    match read_package_spec(rt.alloc(), text) {
+        Ok(spec) => assert!(rt;
+            (spec.records.len(), spec.components.len(), spec.next_line) == (2, 2, 8)
+        ),
         Err(fault) => assert!(rt; fault.cause == ScriptCause::Memory),
     }
 }
