@@ -36,14 +36,14 @@ more_lines text front rest is =
     ap less_empty_end is ∙ more_ends front (slice_split (λ b. b == 10) rest) (omega (arith, length-slice_split (λ b. b == 10) rest))
 
 -- fields where one is left out
-pub left_out : (front : List (List ℕ)) (word : List ℕ) (rest : List (List ℕ)) → is_nothing word ≡ true
-    → fields_in (front ++ word ∷ rest) ≡ None
-left_out front word rest nothing =
+pub left_out : (most : ℕ) (front : List (List ℕ)) (word : List ℕ) (rest : List (List ℕ)) → is_nothing word ≡ true
+    → fields_in most (front ++ word ∷ rest) ≡ None
+left_out most front word rest nothing =
     rw (list_any-append is_nothing front (word ∷ rest), nothing) (grind (arith, common_steps))
 
 -- fields where one stands too many
-pub too_many : (front : List (List ℕ)) (word : List ℕ) (rest : List (List ℕ)) → 17 ≤ length front
-    → fields_in (front ++ word ∷ rest) ≡ None
-too_many front word rest full =
-    let many : 17 < length (front ++ word ∷ rest) = omega (arith, length-append front (word ∷ rest)) in
+pub too_many : (most : ℕ) (front : List (List ℕ)) (word : List ℕ) (rest : List (List ℕ)) → most ≤ length front
+    → fields_in most (front ++ word ∷ rest) ≡ None
+too_many most front word rest full =
+    let many : most < length (front ++ word ∷ rest) = omega (arith, length-append front (word ∷ rest)) in
     grind (arith, common_steps)

@@ -335,7 +335,7 @@ named_whole d d2 (Some directive) (Some fields) h e = said_whole d d2 directive 
 
 words_whole : (d d2 : DraftOf) (words : List (List ℕ)) → IsDraft d → configs.words_said d words ≡ Ok d2 → IsDraft d2
 words_whole d d2 [] h e = absurd (cc)
-words_whole d d2 (name ∷ fields) h e = named_whole d d2 (configs.directive_of name) (fields_in fields) h e
+words_whole d d2 (name ∷ fields) h e = named_whole d d2 (configs.directive_of name) (fields_in 6 fields) h e
 
 line_if : (d d2 : DraftOf) (b : Bool) (words : List (List ℕ)) → IsDraft d → (if b then Ok d else configs.words_said d words) ≡ Ok d2 → IsDraft d2
 line_if d d2 true words h e = subst IsDraft {y = d2} (cc) h

@@ -218,7 +218,7 @@ line_named d (Some directive) (Some fields) = line_said d directive fields
 
 abbrev pub words_said : DraftOf → List (List ℕ) → Result DraftOf ScriptCause
 words_said d [] = Err causes.Directive
-words_said d (name ∷ fields) = line_named d (directive_of name) (fields_in fields)
+words_said d (name ∷ fields) = line_named d (directive_of name) (fields_in 6 fields)
 
 -- what lines have said after one more
 unfoldable pub after_line : DraftOf → List ℕ → Result DraftOf ScriptCause

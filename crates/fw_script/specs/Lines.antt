@@ -24,9 +24,9 @@ is_skipped (b ∷ bytes) = b == 35
 abbrev pub words_of : List ℕ → List (List ℕ)
 words_of line = slice_split (λ b. b == 32) line
 
--- The fields behind a line's first word. None is empty, and no line has more than 17.
-abbrev pub fields_in : List (List ℕ) → Option (List (List ℕ))
-fields_in words = if list_any is_nothing words || nat_lt 17 (length words) then None else Some words
+-- The fields behind a line's first word, at most so many. None is empty.
+abbrev pub fields_in : (most : ℕ) → List (List ℕ) → Option (List (List ℕ))
+fields_in most words = if list_any is_nothing words || nat_lt most (length words) then None else Some words
 
 -- the words of what follows a word
 abbrev pub words_from : Option (List ℕ) → List (List ℕ)

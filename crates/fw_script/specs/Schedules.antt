@@ -1,5 +1,5 @@
 -- The text of a schedule: which steps it is.
-use Rattle.std.specs.Prelude.{ℕ, ◌+◌, ◌-◌, ◌^◌, ◌==◌, ◌||◌, Bool, true, false, nat_lt, List, [], ◌∷◌, ◌++◌, Option, None, Some, Result, Ok, Err, codes, if◌then◌else◌, length}
+use Rattle.std.specs.Prelude.{ℕ, ◌+◌, ◌-◌, ◌^◌, ◌==◌, ◌||◌, Bool, false, nat_lt, List, [], ◌∷◌, ◌++◌, Option, None, Some, Result, Ok, Err, codes, if◌then◌else◌, length}
 use Rattle.std.specs.List.{list_any, repeat}
 use Rattle.std.specs.Str.{bytes_eq}
 use Rattle.fd_core.specs.declared.states.Verdict.{Verdict}
@@ -125,9 +125,14 @@ steps_named None fields = Err causes.Directive
 steps_named (Some d) None = Err causes.Fields
 steps_named (Some d) (Some fields) = steps_said d fields
 
+-- how many fields a line has at most
+abbrev pub most_fields : Option Directive → ℕ
+most_fields (Some directives.Miss) = 17
+most_fields d = 6
+
 abbrev pub steps_in : List (List ℕ) → Result (List Step) ScriptCause
 steps_in [] = Err causes.Directive
-steps_in (name ∷ fields) = steps_named (directive_of name) (fields_in fields)
+steps_in (name ∷ fields) = steps_named (directive_of name) (fields_in (most_fields (directive_of name)) fields)
 
 -- the steps of a line
 unfoldable pub steps_of : List ℕ → Result (List Step) ScriptCause

@@ -9,7 +9,7 @@ ghost use Rattle.fw_script.specs.Whole.{AreWhole};
 
 use crate::config::{Config, DeviceConfig, Numbers, read_numbers};
 use crate::faults::{ScriptCause, ScriptFault, both};
-use crate::lines::{fields_after, first_line, first_word, is_skipped};
+use crate::lines::{MAX_FIELDS, fields_after, first_line, first_word, is_skipped};
 use crate::values::{eid, uuid};
 use mctp_ctl::Endpoint;
 use std::alloc::Global;
@@ -313,7 +313,7 @@ impl Draft {
         let Some(directive) = directive_of(name) else {
             return Err(ScriptCause::Directive);
         };
-        let Some(fields) = fields_after(rest) else {
+        let Some(fields) = fields_after::<MAX_FIELDS>(rest) else {
             return Err(ScriptCause::Fields);
         };
         self.say(alloc, directive, fields.as_slice())

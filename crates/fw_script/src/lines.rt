@@ -6,11 +6,8 @@ ghost use Rattle.fw_script.specs.Lines.{fields_in, is_skipped as says_nothing, l
 
 use arrayvec::ArrayVec;
 
-/// The most fields of a line.
-const MAX_FIELDS: usize = 17;
-
-/// The fields of a line behind its first word.
-pub type Fields<'a> = ArrayVec<&'a [u8], MAX_FIELDS>;
+/// The most fields of a line, but for one that lists what it names.
+pub const MAX_FIELDS: usize = 6;
 
 /// Where a byte first stands.
 fn place_of(bytes: &[u8], byte: u8) -> Option<usize>
@@ -65,12 +62,12 @@ pub fn first_word(line: &[u8]) -> (&[u8], Option<&[u8]>)
     }
 }
 
-/// The fields that follow, if none is empty and they aren't too many.
+/// The fields that follow, if none is empty and they are at most `N`.
 #[tactic(auto, using(crate::proofs::Cuts::left_out, crate::proofs::Cuts::too_many))]
-pub fn fields_after(rest: Option<&[u8]>) -> Option<Fields<'_>>
-    ensures { option_map (λ fields. map (λ f. f.now) fields.items) result ≡ fields_in (words_from (option_map (λ r. r.now) rest.entry)) }
+pub fn fields_after<const N: usize>(rest: Option<&[u8]>) -> Option<ArrayVec<&[u8], N>>
+    ensures { option_map (λ fields. map (λ f. f.now) fields.items) result ≡ fields_in N (words_from (option_map (λ r. r.now) rest.entry)) }
 {
-    let mut fields = Fields::new();
+    let mut fields = ArrayVec::new();
     let mut left = rest;
     while let Some(words) = left {
         let (word, after) = first_word(words);

@@ -1,14 +1,15 @@
 //! Schedules: the steps of a world, a line each.
 
-ghost use Rattle.std.specs.Prelude.{◌≡◌, ◌≢◌, ◌≤◌, ◌<◌, ◌+◌, ◌++◌, ◌∷◌, [], Err, IfErr, IfOk, Ok, OnOk, length, map};
+ghost use Rattle.std.specs.Prelude.{◌≡◌, ◌≢◌, ◌≤◌, ◌<◌, ◌+◌, ◌++◌, ◌∷◌, [], Err, IfErr, IfOk, Ok, OnOk, Some, length, map, option_map};
 ghost use Rattle.std.specs.List.{repeat};
 ghost use Rattle.fw_script.specs.Faults.{Answers, ReadsAs};
-ghost use Rattle.fw_script.specs.Schedules.{delivery as delivery_of, directive_of as directive_named, eids_from, has_twice as stands_twice, only_eid_of, place_of as place_in, script_of, step_of, steps_of, steps_said, ticks_of, verdict_of, with_eid as with_eid_of, with_line};
+ghost use Rattle.fw_script.specs.Schedules.{delivery as delivery_of, directive_of as directive_named, eids_from, has_twice as stands_twice, only_eid_of, place_of as place_in, script_of, step_of, steps_named, steps_of, steps_said, ticks_of, verdict_of, with_eid as with_eid_of, with_line};
+ghost use Rattle.fw_script.specs.Lines.{fields_in, words_from};
 ghost use Rattle.fw_script.specs.Seen.{seen_eids};
 ghost use Rattle.fw_world.specs.Worlds.{full_tick};
 
 use crate::faults::{ScriptCause, ScriptFault, both};
-use crate::lines::{fields_after, first_line, first_word, is_skipped};
+use crate::lines::{MAX_FIELDS, fields_after, first_line, first_word, is_skipped};
 use crate::values::{bytes, eid, number_in};
 use fd_core::Verdict;
 use fw_world::{LogRequest, Missed, Step};
@@ -306,6 +307,22 @@ fn push_said(
     Ok(())
 }
 
+/// Appends the steps that what follows a line's first word says, which is at most `N` fields.
+fn push_fields<const N: usize>(
+    alloc: Global,
+    directive: Directive,
+    rest: Option<&[u8]>,
+    steps: &mut Vec<Step>,
+) -> Result<(), ScriptCause>
+    requires { N ≤ 17 }
+    ensures { Answers (λ _. steps.new.items) result (with_line steps.old.items (steps_named (Some directive) (fields_in N (words_from (option_map (λ r. r.now) rest.entry))))) }
+{
+    let Some(fields) = fields_after::<N>(rest) else {
+        return Err(ScriptCause::Fields);
+    };
+    push_said(alloc, directive, fields.as_slice(), steps)
+}
+
 /// Appends the steps of a line.
 #[tactic(auto, unfolding(crate::specs::Schedules::steps_of))]
 fn push_line(alloc: Global, line: &[u8], steps: &mut Vec<Step>) -> Result<(), ScriptCause>
@@ -318,10 +335,17 @@ fn push_line(alloc: Global, line: &[u8], steps: &mut Vec<Step>) -> Result<(), Sc
     let Some(directive) = directive_of(name) else {
         return Err(ScriptCause::Directive);
     };
-    let Some(fields) = fields_after(rest) else {
-        return Err(ScriptCause::Fields);
-    };
-    push_said(alloc, directive, fields.as_slice(), steps)
+    match directive {
+        Directive::Miss => push_fields::<MAX_MISSED>(alloc, directive, rest, steps),
+        Directive::Tick
+        | Directive::Deliver
+        | Directive::Start
+        | Directive::Cancel
+        | Directive::Activate
+        | Directive::Verdict
+        | Directive::Restart
+        | Directive::Sel => push_fields::<MAX_FIELDS>(alloc, directive, rest, steps),
+    }
 }
 
 /// Reads a schedule: its steps in their order, of which `tick N` is N; `miss EID ..` is a tick that these nodes miss.

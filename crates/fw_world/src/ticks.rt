@@ -7,5 +7,5 @@ ghost use Rattle.fw_world.specs.Worlds.{counts};
 pub(crate) fn counts(missed: &[u8], eid: u8) -> bool
     ensures { result ≡ counts missed.now eid }
 {
-    !missed.contains(&eid)
+    missed.is_empty() || !missed.contains(&eid)
 }

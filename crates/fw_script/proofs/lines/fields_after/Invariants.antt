@@ -5,10 +5,10 @@ use Rattle.fw_script.proofs.lines.fields_after.Given as goal
 
 -- the words that are left, behind those that were passed, are those of all
 abbrev pub invariant-loop-left : goal.invariant-loop-left
-invariant-loop-left l = record {
+invariant-loop-left g l = record {
   passed : map (λ f. f.now) l.fields.items ++ words_from (option_map (λ r. r.now) l.left) ≡ words_from (option_map (λ r. r.now) l.fn.rest);
   kept : list_any is_nothing (map (λ f. f.now) l.fields.items) ≡ false;
-  few : length l.fields.items ≤ 17;
+  few : length l.fields.items ≤ g.row.N;
 }
 
 abbrev left_over : Option (Bor (List ℕ)) → ℕ
@@ -16,4 +16,4 @@ left_over None = 0
 left_over (Some rest) = length rest.now + 1
 
 abbrev pub decreases-loop-left : goal.decreases-loop-left
-decreases-loop-left l = left_over l.left
+decreases-loop-left g l = left_over l.left

@@ -1,5 +1,4 @@
 use Rattle.std.proofs.Common.{◌≡◌, append_assoc, ap, refl}
-use Rattle.arrayvec.specs.declared.array_vec.ArrayVec.{ArrayVec}
 use Rattle.fw_world.specs.declared.step.Step.{Step}
 use Rattle.fw_world.specs.declared.step.Step.TheVariants as steps
 use Rattle.fw_world.specs.Worlds.{full_tick}
