@@ -26,8 +26,8 @@ use fd_core::Bank;
 ///
 /// # Errors
 /// The number of the step that isn't taken, counted from 0, and why: `NoSuchNode`, then `NoSuchPacket`, then `Dead`; for the
-/// operator's calls `NoSuchPackage` before `Busy`, and `NotReady`; `NotNow` for a verdict; `NoSuchNode`, `ClockEnd`, `ClockSlow` for a tick; and `Memory` for
-/// a step that might be taken. The world is then the one after the steps before it.
+/// operator's calls `NoSuchPackage` before `Busy`, and `NotReady`; `NotNow` for a verdict; `ClockEnd`, then `ClockSlow` for a tick;
+/// and `Memory` for a step that might be taken. The world is then the one after the steps before it.
 pub fn replay<B: Bank + Drop>(
     world: &mut World<'_, B>,
     steps: &[Step],
