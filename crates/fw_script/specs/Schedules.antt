@@ -127,8 +127,16 @@ steps_named (Some d) (Some fields) = steps_said d fields
 
 -- how many fields a line has at most
 abbrev pub most_fields : Option Directive → ℕ
+most_fields None = 6
+most_fields (Some directives.Tick) = 6
 most_fields (Some directives.Miss) = 17
-most_fields d = 6
+most_fields (Some directives.Deliver) = 6
+most_fields (Some directives.Start) = 6
+most_fields (Some directives.Cancel) = 6
+most_fields (Some directives.Activate) = 6
+most_fields (Some directives.Verdict) = 6
+most_fields (Some directives.Restart) = 6
+most_fields (Some directives.Sel) = 6
 
 abbrev pub steps_in : List (List ℕ) → Result (List Step) ScriptCause
 steps_in [] = Err causes.Directive

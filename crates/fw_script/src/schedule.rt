@@ -307,20 +307,21 @@ fn push_said(
     Ok(())
 }
 
-/// Appends the steps that what follows a line's first word says, which is at most `N` fields.
-fn push_fields<const N: usize>(
-    alloc: Global,
-    directive: Directive,
-    rest: Option<&[u8]>,
-    steps: &mut Vec<Step>,
-) -> Result<(), ScriptCause>
-    requires { N ≤ 17 }
-    ensures { Answers (λ _. steps.new.items) result (with_line steps.old.items (steps_named (Some directive) (fields_in N (words_from (option_map (λ r. r.now) rest.entry))))) }
+/// Appends the tick that the nodes behind a line's first word miss.
+fn push_miss(rest: Option<&[u8]>, steps: &mut Vec<Step>) -> Result<(), ScriptCause>
+    ensures { Answers (λ _. steps.new.items) result (with_line steps.old.items (steps_named (Some Directive.Miss) (fields_in 17 (words_from (option_map (λ r. r.now) rest.entry))))) }
 {
-    let Some(fields) = fields_after::<N>(rest) else {
+    let Some(fields) = fields_after::<MAX_MISSED>(rest) else {
         return Err(ScriptCause::Fields);
     };
-    push_said(alloc, directive, fields.as_slice(), steps)
+    let step = match miss(fields.as_slice()) {
+        Ok(step) => step,
+        Err(cause) => return Err(cause),
+    };
+    let Ok(()) = steps.push(step) else {
+        return Err(ScriptCause::Memory);
+    };
+    Ok(())
 }
 
 /// Appends the steps of a line.
@@ -335,17 +336,13 @@ fn push_line(alloc: Global, line: &[u8], steps: &mut Vec<Step>) -> Result<(), Sc
     let Some(directive) = directive_of(name) else {
         return Err(ScriptCause::Directive);
     };
-    match directive {
-        Directive::Miss => push_fields::<MAX_MISSED>(alloc, directive, rest, steps),
-        Directive::Tick
-        | Directive::Deliver
-        | Directive::Start
-        | Directive::Cancel
-        | Directive::Activate
-        | Directive::Verdict
-        | Directive::Restart
-        | Directive::Sel => push_fields::<MAX_FIELDS>(alloc, directive, rest, steps),
+    if let Directive::Miss = directive {
+        return push_miss(rest, steps);
     }
+    let Some(fields) = fields_after::<MAX_FIELDS>(rest) else {
+        return Err(ScriptCause::Fields);
+    };
+    push_said(alloc, directive, fields.as_slice(), steps)
 }
 
 /// Reads a schedule: its steps in their order, of which `tick N` is N; `miss EID ..` is a tick that these nodes miss.
