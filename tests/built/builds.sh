@@ -1,4 +1,4 @@
-# Packages that are built: byte for byte those that packages.py makes, and each fault of a text.
+# Packages that are built from the texts of the data folder, byte for byte those that stand beside them, and each fault of a text.
 built_packages() {
     local name out
     for name in one two; do
@@ -6,6 +6,10 @@ built_packages() {
         compare "build of $name.spec" '0|' "$?|$out"
         compare "$name.fwpkg, built" '' "$(cmp "$work/$name.fwpkg" "crates/fwupd/data/$name.fwpkg" 2>&1)"
     done
+    # behind the images of this package, at 434, five bytes more stand in the data folder
+    out=$(cd crates/fwupd && fwupd build data/two-records.spec "$work/two-records.fwpkg" 2>&1)
+    compare 'build of two-records.spec' '0|' "$?|$out"
+    compare 'two-records.fwpkg, built' '' "$(cmp "$work/two-records.fwpkg" <(head -c 434 crates/fwupd/data/two-records.fwpkg) 2>&1)"
     compare 'what stands beside a package' '' "$(ls "$work" | grep '\.new$')"
 }
 
