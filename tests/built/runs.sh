@@ -95,9 +95,12 @@ on_a_terminal() {
 # again, by the ends of its requests of 240 bytes.
 far_on_a_terminal() {
     local shown device
-    (cd "$work" && PYTHONPATH=$top/crates/fwupd/data python3 -B -c '
-import packages
-open("large", "wb").write(packages.package([(10, ident, 2, 2, b"v2", packages.counted(1 << 20)) for ident in (1, 2, 3)]))')
+    python3 -c 'import sys; sys.stdout.buffer.write(bytes(range(256)) * 4096)' > "$work/large.image"
+    {
+        printf 'record 0 A 1 2 3\ndescriptor 0000 3412\n'
+        printf "component 10 %s 2 2 0 v2 $work/large.image\n" 1 2 3
+    } > "$work/large.spec"
+    fwupd build "$work/large.spec" "$work/large"
     echo 'agent 8 00000000-0000-0000-0000-000000000000' > "$work/large.config"
     for device in 9 10 11 12; do
         printf 'device %s 00000000-0000-0000-0000-000000000000\ndescriptor 0000 3412\n' "$device"
