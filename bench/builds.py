@@ -1,50 +1,14 @@
 #!/usr/bin/env python3
 """Builds packages from random texts with PROGRAM, and compares each byte with a writer of its own (DSP0267 1.0): builds.py PROGRAM
-[COUNT [SEED]]. Each package is inspected as well. It prints how many were the same."""
+[COUNT [SEED]]. Each package is inspected and planned as well, for a device that its first record may be for. It prints how many were
+the same."""
 import pathlib
 import random
-import struct
 import subprocess
 import sys
 import tempfile
-import zlib
 
-IDENTIFIER = bytes.fromhex("F018878CCB7D49439800A02F059ACA02")
-
-
-def text(rng):
-    """A text of up to 255 bytes, most often a short one."""
-    return rng.randbytes(rng.choice([0, 1, 2, 5, 12, rng.randrange(256)]))
-
-
-def spelled(word):
-    """A text as a word of the format."""
-    if not word:
-        return "-"
-    plain = lambda b: 0x21 <= b <= 0x7E and b not in b"\\-"
-    return "".join(chr(b) if plain(b) else f"\\x{b:02X}" for b in word)
-
-
-def written(release, version, records, components):
-    """The bytes of the package."""
-    bitmap = max(1, (len(components) + 7) // 8)
-    body = bytes([len(records)])
-    for flags, set_text, descriptors, uses in records:
-        bits = bytearray(bitmap)
-        for k in uses:
-            bits[k // 8] |= 1 << k % 8
-        part = bytes([len(descriptors)]) + struct.pack("<IBBH", flags, 1, len(set_text), 0) + bits + set_text
-        for kind, data in descriptors:
-            part += struct.pack("<HH", kind, len(data)) + data
-        body += struct.pack("<H", len(part) + 2) + part
-    body += struct.pack("<H", len(components))
-    size = 36 + len(version) + len(body) + sum(22 + len(c[5]) for c in components) + 4
-    offset = size
-    for kind, ident, stamp, options, method, name, image in components:
-        body += struct.pack("<HHIHHIIBB", kind, ident, stamp, options, method, offset, len(image), 1, len(name)) + name
-        offset += len(image)
-    head = IDENTIFIER + struct.pack("<BH", 1, size) + release + struct.pack("<HBB", 8 * bitmap, 1, len(version)) + version
-    return head + body + struct.pack("<I", zlib.crc32(head + body)) + b"".join(c[6] for c in components)
+from packages import config, foretold, spec, text, written
 
 
 def asked(rng):
@@ -62,17 +26,16 @@ def asked(rng):
     return rng.randbytes(13), text(rng), records, components
 
 
-def spec(folder, release, version, records, components):
-    """The text that asks for it, whose images are in the folder."""
-    lines = [f"version {spelled(version)}", f"release {release.hex()}"]
-    for flags, set_text, descriptors, uses in records:
-        lines.append(f"record {flags} {spelled(set_text)} {' '.join(str(k + 1) for k in uses) or '-'}")
-        lines += [f"descriptor {kind:04X} {data.hex() or '-'}" for kind, data in descriptors]
-    for place, (kind, ident, stamp, options, method, name, image) in enumerate(components):
-        path = folder / f"{place}.image"
-        path.write_bytes(image)
-        lines.append(f"component {kind} {ident} {stamp} {options} {method} {spelled(name)} {path if image else '-'}")
-    return "\n".join(lines) + "\n"
+def device(records, components):
+    """A device with the first record's descriptors, as far as they fit, and the components that the record uses first."""
+    descriptors, room = [], 246
+    for kind, data in records[0][2] if records else []:
+        if 4 + len(data) <= room:
+            room -= 4 + len(data)
+            descriptors.append((kind, data))
+    used = [components[k] for k in records[0][3]] if records else []
+    running = {(kind, ident): (stamp & 0xFFFFFFF0, b"1.0") for kind, ident, stamp, *_ in used[:3]}
+    return 9, descriptors, running or {(10, 1): (1, b"1.0")}
 
 
 def main():
@@ -88,6 +51,11 @@ def main():
             if (folder / "package").read_bytes() != written(*wanted):
                 sys.exit(f"builds: text {place} of seed {seed} is built otherwise")
             subprocess.run([program, "inspect", folder / "package"], check=True, stdout=subprocess.DEVNULL)
+            devices = [device(*wanted[2:])]
+            (folder / "config").write_text(config(devices, [folder / "package"]))
+            planned = subprocess.run([program, "plan", folder / "config"], check=True, stdout=subprocess.PIPE, text=True)
+            if planned.stdout != foretold(1, *wanted[2:], devices):
+                sys.exit(f"builds: text {place} of seed {seed} is planned otherwise")
             same += 1
     print(f"builds: {same} of {count} are the same")
 

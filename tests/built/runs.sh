@@ -91,6 +91,24 @@ on_a_terminal() {
 9.sock: No such file or directory (os error 2)' "$(shown_by run --quiet data/worlds/one.config "$work/none" | tr -d '\r')"
 }
 
+# What is said on a terminal beneath a fault: the system's reason, the line of a package, and that of a step. Help whose reader is gone
+# says nothing.
+explained() {
+    compare 'why a file is not read' 'fwupd: none: unreadable
+none: No such file or directory (os error 2)' "$(shown_by inspect none | tr -d '\r')"
+    { grep -v '^package' crates/fwupd/data/worlds/one.config; printf 'package data/one.fwpkg\n# the second\npackage %s\n' "$work/short"; } > "$work/pair.config"
+    printf 'no package' > "$work/short"
+    for job in plan "run --quiet"; do
+        compare "which package is none, by $job" "fwupd: package: Short
+$work/pair.config: line $(wc -l < "$work/pair.config"): $work/short" "$(shown_by $job "$work/pair.config" $([[ $job == plan ]] || echo "$work") | tr -d '\r')"
+    done
+    printf '# three units\ntick 3\n\nverdict 9 verify-ok\n' > "$work/late.schedule"
+    compare 'which line a step stands in' "fwupd: step 4: Refused:NotNow
+$work/late.schedule: line 4: verdict 9 verify-ok" "$(shown_by replay data/worlds/one.config "$work/late.schedule" | tr -d '\r')"
+    compare 'nothing is said elsewhere' 'fwupd: none: unreadable' "$(fwupd inspect none 2>&1)"
+    compare 'help whose reader is gone' 0 "$({ { sleep 0.2; fwupd --help 2>&3; echo $? >&3; } | true; } 3>&1)"
+}
+
 # What is shown of a longer run, in which four devices load three images of a MiB each: how far the first device is, again and
 # again, by the ends of its requests of 240 bytes.
 far_on_a_terminal() {

@@ -9,6 +9,7 @@ pub mod Going
 mod Latest
 mod Naming
 mod Overs
+mod Parts
 mod Pieces
 pub mod Rising
 pub mod Sending

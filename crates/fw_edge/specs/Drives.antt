@@ -1,5 +1,5 @@
 -- What a run over links does.
-use Rattle.std.specs.Prelude.{ℕ, ◌≡◌, ◌≤◌, ◌+◌, ◌++◌, ◌==◌, ◌&&◌, Bool, true, false, IsSomeAnd, length, List, [], ◌∷◌, Option, Some, None}
+use Rattle.std.specs.Prelude.{ℕ, ◌≡◌, ◌+◌, ◌++◌, ◌==◌, ◌&&◌, Bool, true, false, IsSomeAnd, length, List, [], ◌∷◌, Option, Some, None}
 use Rattle.std.specs.List.{list_all, sum_by}
 use Rattle.exch_lane.specs.Lanes.{Lives, numbered}
 use Rattle.fd_core.specs.declared.states.Verdict.{Verdict}

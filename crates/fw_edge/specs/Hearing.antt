@@ -1,5 +1,5 @@
 -- Which packet of a pair comes where a frame comes.
-use Rattle.std.specs.Prelude.{ℕ, ◌≡◌, ◌≤◌, ◌+◌, IsSomeAnd, List, Option, None, Some}
+use Rattle.std.specs.Prelude.{ℕ, ◌≡◌, ◌≤◌, IsSomeAnd, List, Option, None, Some}
 use Rattle.exch_lane.specs.Lanes.{Lives, Sent, numbered}
 use Rattle.fw_world.specs.Worlds.{WorldOf, packets_of}
 

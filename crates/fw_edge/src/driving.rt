@@ -1,10 +1,11 @@
 //! The run of a world over links.
 
-ghost use Rattle.std.specs.Prelude.{◌≡◌, ◌≤◌, ◌<◌, ◌+◌, ◌-◌, ◌*◌, ◌^◌, IfErr, IfOk, OnErr, OnOk, length, map, true};
+ghost use Rattle.std.specs.Prelude.{◌≡◌, ◌≤◌, ◌<◌, ◌+◌, ◌-◌, IfErr, IfOk, OnOk, length, true};
 ghost use Rattle.fw_edge.specs.Drives.{Drives, DrivesLiving, Goes, all_over, delivers_in, ticks_in};
 ghost use Rattle.fw_edge.specs.Links.{links_at};
 ghost use Rattle.fw_edge.specs.Turns.{Drove, Stopped, StopsTurn, Turned};
-ghost use Rattle.fw_edge.specs.Ledgers.{AllRose, AllSent, AreGiven, AreToldOf, RoseTogether, packet_counts};
+ghost use Rattle.fw_edge.specs.Ledgers.{packet_counts};
+ghost use Rattle.fw_edge.specs.Outcomes.{PartDone, RunDone, RunStopped, TurnStopped};
 
 use crate::link::Link;
 use crate::outgoing::sent_at;
@@ -61,17 +62,9 @@ fn turn<B: Bank + Drop, L: Link>(
     requires few { length links.old ≤ 16 }
     requires written { length written.old ≡ length links.old }
     requires all { written.old ≡ packet_counts world.old.sites }
-    ensures turned { IfOk result (λ f. Turned world.old steps.old.items (links_at written.old (map L.taken links.old) (map L.gave links.old)) world.new steps.new.items (links_at written.new (map L.taken links.new) (map L.gave links.new)) (f.known + f.foreign)) }
-    ensures goes { IfOk result (λ f. Goes world.old steps.old.items world.new steps.new.items 1 f.known) }
-    ensures few { IfOk result (λ f. f.known + f.foreign ≤ 1055) }
-    ensures kept { IfOk result (λ f. map (λ l. (L.tally l).failures) links.new ≡ map (λ l. (L.tally l).failures) links.old) }
-    ensures asked { IfOk result (λ f. AllRose 2 (map (λ l. (L.tally l).asked) links.old) (map (λ l. (L.tally l).asked) links.new)) }
-    ensures given { IfOk result (λ f. RoseTogether (f.known + f.foreign) (map (λ l. (L.tally l).given) links.old) (map (λ l. (L.tally l).given) links.new)) }
-    ensures sent { OnOk result (AllSent written.old written.new (map (λ l. (L.tally l).sent) links.old) (map (λ l. (L.tally l).sent) links.new)) }
+    ensures done { IfOk result (λ f. PartDone L.tally L.taken L.gave Turned 1 1055 world.old steps.old.items written.old links.old world.new steps.new.items written.new links.new f.known f.foreign) }
     ensures all { OnOk result (written.new ≡ packet_counts world.new.sites) }
-    ensures drives { OnErr result (Drives world.old steps.old.items world.new steps.new.items) }
-    ensures failed { IfErr result (λ e. AreToldOf e (map (λ l. (L.tally l).failures) links.old) (map (λ l. (L.tally l).failures) links.new)) }
-    ensures stops { IfErr result (λ e. StopsTurn e world.old steps.old.items world.new steps.new.items) }
+    ensures stopped { IfErr result (λ e. TurnStopped L.tally e world.old steps.old.items links.old world.new steps.new.items links.new) }
     ensures links { length links.new ≡ length links.old }
     ensures written { length written.new ≡ length written.old }
 {
@@ -106,20 +99,11 @@ fn take_turns<B: Bank + Drop, L: Link>(
     requires written { length written.old ≡ length links.old }
     requires all { written.old ≡ packet_counts world.old.sites }
     ensures drives { Drives world.old steps.old.items world.new steps.new.items }
-    ensures drove { IfOk result (λ d. Drove d.turns world.old steps.old.items (links_at written.old (map L.taken links.old) (map L.gave links.old)) world.new steps.new.items (links_at written.new (map L.taken links.new) (map L.gave links.new)) d.foreign) }
-    ensures ticks { IfOk result (λ d. ticks_in steps.new.items ≡ ticks_in steps.old.items + d.turns) }
-    ensures within { IfOk result (λ d. d.turns ≤ turns) }
-    ensures ended { IfOk result (λ d. d.turns < turns → all_over world.new ≡ true) }
+    ensures done { IfOk result (λ d. RunDone L.tally L.taken L.gave turns world.old steps.old.items written.old links.old world.new steps.new.items written.new links.new d.turns d.foreign) }
     ensures over { all_over world.old ≡ true → steps.new.items ≡ steps.old.items }
-    ensures kept { OnOk result (map (λ l. (L.tally l).failures) links.new ≡ map (λ l. (L.tally l).failures) links.old) }
-    ensures asked { IfOk result (λ d. AllRose (2 * d.turns) (map (λ l. (L.tally l).asked) links.old) (map (λ l. (L.tally l).asked) links.new)) }
-    ensures given { IfOk result (λ d. AreGiven (delivers_in steps.old.items) (delivers_in steps.new.items) d.foreign (map (λ l. (L.tally l).given) links.old) (map (λ l. (L.tally l).given) links.new)) }
-    ensures sent { OnOk result (AllSent (packet_counts world.old.sites) (packet_counts world.new.sites) (map (λ l. (L.tally l).sent) links.old) (map (λ l. (L.tally l).sent) links.new)) }
-    ensures links { length links.new ≡ length links.old }
     ensures all { OnOk result (written.new ≡ packet_counts world.new.sites) }
-    ensures failed { IfErr result (λ e. AreToldOf e (map (λ l. (L.tally l).failures) links.old) (map (λ l. (L.tally l).failures) links.new)) }
-    ensures step { IfErr result (λ e. e ≡ EdgeFault.Step → world.new.now ≡ 2 ^ 32 - 1) }
-    ensures stopped { IfErr result (λ e. Stopped e world.old steps.old.items (links_at written.old (map L.taken links.old) (map L.gave links.old)) world.new steps.new.items) }
+    ensures stopped { IfErr result (λ e. RunStopped L.tally L.taken L.gave e world.old steps.old.items written.old links.old world.new steps.new.items links.new) }
+    ensures links { length links.new ≡ length links.old }
 {
     let mut foreign = 0;
     for count in 0..turns {
@@ -157,19 +141,10 @@ pub fn drive<B: Bank + Drop, L: Link>(
 ) -> Result<Driven, EdgeFault>
     requires { length links.old ≡ length world.old.sites }
     ensures drives { DrivesLiving world.old steps.old.items world.new steps.new.items }
-    ensures drove { IfOk result (λ d. Drove d.turns world.old steps.old.items (links_at (packet_counts world.old.sites) (map L.taken links.old) (map L.gave links.old)) world.new steps.new.items (links_at (packet_counts world.new.sites) (map L.taken links.new) (map L.gave links.new)) d.foreign) }
-    ensures ticks { IfOk result (λ d. ticks_in steps.new.items ≡ ticks_in steps.old.items + d.turns) }
-    ensures within { IfOk result (λ d. d.turns ≤ turns) }
-    ensures ended { IfOk result (λ d. d.turns < turns → all_over world.new ≡ true) }
+    ensures done { IfOk result (λ d. RunDone L.tally L.taken L.gave turns world.old steps.old.items (packet_counts world.old.sites) links.old world.new steps.new.items (packet_counts world.new.sites) links.new d.turns d.foreign) }
     ensures over { all_over world.old ≡ true → steps.new.items ≡ steps.old.items }
-    ensures kept { OnOk result (map (λ l. (L.tally l).failures) links.new ≡ map (λ l. (L.tally l).failures) links.old) }
-    ensures asked { IfOk result (λ d. AllRose (2 * d.turns) (map (λ l. (L.tally l).asked) links.old) (map (λ l. (L.tally l).asked) links.new)) }
-    ensures given { IfOk result (λ d. AreGiven (delivers_in steps.old.items) (delivers_in steps.new.items) d.foreign (map (λ l. (L.tally l).given) links.old) (map (λ l. (L.tally l).given) links.new)) }
-    ensures sent { OnOk result (AllSent (packet_counts world.old.sites) (packet_counts world.new.sites) (map (λ l. (L.tally l).sent) links.old) (map (λ l. (L.tally l).sent) links.new)) }
+    ensures stopped { IfErr result (λ e. RunStopped L.tally L.taken L.gave e world.old steps.old.items (packet_counts world.old.sites) links.old world.new steps.new.items links.new) }
     ensures devices { length links.new ≡ length world.new.sites }
-    ensures failed { IfErr result (λ e. AreToldOf e (map (λ l. (L.tally l).failures) links.old) (map (λ l. (L.tally l).failures) links.new)) }
-    ensures step { IfErr result (λ e. e ≡ EdgeFault.Step → world.new.now ≡ 2 ^ 32 - 1) }
-    ensures stopped { IfErr result (λ e. Stopped e world.old steps.old.items (links_at (packet_counts world.old.sites) (map L.taken links.old) (map L.gave links.old)) world.new steps.new.items) }
 {
     let mut written = all_sent(world);
     take_turns(world, links, written.as_mut_slice(), turns, steps)

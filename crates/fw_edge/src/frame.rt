@@ -1,6 +1,6 @@
 //! Packets as frames in a stream of bytes.
 
-ghost use Rattle.std.specs.Prelude.{[], ◌≡◌, ◌≤◌, ◌∷◌, ◌++◌, IfErr, IfOk, OnOk, length};
+ghost use Rattle.std.specs.Prelude.{[], ◌≡◌, ◌≤◌, ◌∷◌, IfErr, IfOk, OnOk, length};
 ghost use Rattle.std.specs.Io.KnownBytes.{Appends, Consumes};
 ghost use Rattle.byteorder.specs.Endian.{little_bytes};
 ghost use Rattle.fw_edge.specs.Frames.{ReadStops, WriteStops, frame_of, frames_of};
@@ -53,7 +53,7 @@ pub fn read_frame<R: Read>(reader: &mut R) -> Result<RawPacket, FrameFault>
 {
     let head = match read_up_to(reader, LENGTH_SIZE) {
         Ok(head) => head,
-        Err(fault) => return Err(fault),
+        Err(_) => return Err(FrameFault::Io),
     };
     if head.is_empty() {
         return Err(FrameFault::End);
@@ -67,7 +67,7 @@ pub fn read_frame<R: Read>(reader: &mut R) -> Result<RawPacket, FrameFault>
     }
     let packet = match read_up_to(reader, size) {
         Ok(packet) => packet,
-        Err(fault) => return Err(fault),
+        Err(_) => return Err(FrameFault::Io),
     };
     if packet.len() < size {
         return Err(FrameFault::Cut);
@@ -103,6 +103,6 @@ pub fn write_frame<W: Write>(writer: &mut W, packet: &RawPacket) -> Result<(), F
     let frame = frame(packet);
     match write_whole(writer, frame.as_slice()) {
         Ok(()) => Ok(()),
-        Err(fault) => Err(fault),
+        Err(_) => Err(FrameFault::Io),
     }
 }

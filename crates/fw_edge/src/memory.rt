@@ -1,6 +1,7 @@
 //! A link in memory.
 
-ghost use Rattle.std.specs.Prelude.{[], ◌≡◌, ◌++◌, ◌∷◌, IfErr, IfNone, IfOk, IsOk, None, Ok, OnErr, OnOk, false, is_some, map, option_to_list, true};
+ghost use Rattle.std.specs.Prelude.{[], ◌≤◌, ◌≡◌, ◌++◌, ◌∷◌, IfErr, IfNone, IfOk, IsOk, None, Ok, OnErr, OnOk, false, is_some, map, option_to_list, true};
+ghost use Rattle.std.specs.VecDeque.{deque_capacity, deque_len};
 ghost use Rattle.fw_edge.specs.Links.{Asks, Fails, Sends};
 
 use crate::frame::FrameFault;
@@ -47,6 +48,8 @@ impl MemLink {
         ensures not_up { side ≡ Side.Agent → self.new.up.items ≡ self.old.up.items }
         ensures not_down { side ≡ Side.Device → self.new.down.items ≡ self.old.down.items }
         ensures refused { result ≡ false → (self.new.up.items ≡ self.old.up.items) × (self.new.down.items ≡ self.old.down.items) }
+        ensures full_down { side ≡ Side.Agent → result ≡ false → deque_capacity self.old.down ≤ deque_len self.old.down }
+        ensures full_up { side ≡ Side.Device → result ≡ false → deque_capacity self.old.up ≤ deque_len self.old.up }
     {
         match side {
             Side::Agent => self.down.push_back(packet).is_ok(),
@@ -91,6 +94,8 @@ impl Link for MemLink {
         ensures not_down { side ≡ Side.Device → self.new.down.items ≡ self.old.down.items }
         ensures fault { IfErr result (λ e. e ≡ FrameFault.Io) }
         ensures refused { OnErr result ((self.new.up.items ≡ self.old.up.items) × (self.new.down.items ≡ self.old.down.items)) }
+        ensures full_down { side ≡ Side.Agent → OnErr result (deque_capacity self.old.down ≤ deque_len self.old.down) }
+        ensures full_up { side ≡ Side.Device → OnErr result (deque_capacity self.old.up ≤ deque_len self.old.up) }
     {
         if !self.put(side, copy_of(packet)) {
             self.tally.fail();

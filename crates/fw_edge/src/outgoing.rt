@@ -1,8 +1,9 @@
 //! Packets of a world, written to its links.
 
-ghost use Rattle.std.specs.Prelude.{◌≡◌, ◌≤◌, ◌<◌, ◌+◌, ◌-◌, ◌^◌, IfErr, OnErr, OnOk, length, map, slice_get};
-ghost use Rattle.fw_edge.specs.Ledgers.{AllSent, HasFailed, NoneFell, OneFailed, Writes, packet_counts};
+ghost use Rattle.std.specs.Prelude.{◌≡◌, ◌<◌, ◌+◌, ◌-◌, IfErr, OnOk, length, map, slice_get};
+ghost use Rattle.fw_edge.specs.Ledgers.{NoneFell, packet_counts};
 ghost use Rattle.fw_edge.specs.Links.{end_of, links_at};
+ghost use Rattle.fw_edge.specs.Outcomes.{LinkRefused, LinkWrote, LinksRefused, LinksWrote};
 ghost use Rattle.fw_edge.specs.Outgoing.{TookAll, TookAt, WritesOut};
 ghost use Rattle.fw_world.specs.Worlds.{packets_at};
 
@@ -27,11 +28,9 @@ fn end_of(packet: &SentPacket, device: u8) -> Side
 
 /// Writes these packets of a pair to its link, each at its sender's end.
 fn write_each<L: Link>(link: &mut L, packets: &[SentPacket], device: u8) -> Result<(), EdgeFault>
-    ensures ok { OnOk result (Writes (length packets.now) (L.tally link.old) (L.tally link.new)) }
     ensures took { OnOk result (TookAll device (L.taken link.old) (map (λ p. p.bytes.items) packets.now) (L.taken link.new)) }
-    ensures gave { OnOk result (L.gave link.new ≡ L.gave link.old) }
-    ensures fault { IfErr result (λ e. e ≡ EdgeFault.Frame) }
-    ensures failed { OnErr result (HasFailed (L.tally link.old).failures (L.tally link.new).failures) }
+    ensures wrote { OnOk result (LinkWrote L.tally L.gave (length packets.now) link.old link.new) }
+    ensures refused { IfErr result (λ e. LinkRefused L.tally e link.old link.new) }
 {
     for packet in packets {
         match link.send(end_of(packet, device), &packet.bytes) {
@@ -60,13 +59,8 @@ fn write_at<B: Bank + Drop, L: Link>(
     written: usize,
 ) -> Result<(), EdgeFault>
     ensures took { OnOk result (TookAt (slice_get world.now.sites place) written (L.taken link.old) (L.taken link.new)) }
-    ensures gave { OnOk result (L.gave link.new ≡ L.gave link.old) }
-    ensures kept { OnOk result ((L.tally link.new).failures ≡ (L.tally link.old).failures) }
-    ensures asked { OnOk result ((L.tally link.new).asked ≡ (L.tally link.old).asked) }
-    ensures given { OnOk result ((L.tally link.new).given ≡ (L.tally link.old).given) }
-    ensures sent { OnOk result ((L.tally link.new).sent < 2 ^ 64 - 1 → (L.tally link.new).sent ≡ (L.tally link.old).sent + (length (packets_at (slice_get world.now.sites place)) - written)) }
-    ensures fault { IfErr result (λ e. e ≡ EdgeFault.Frame) }
-    ensures failed { OnErr result (HasFailed (L.tally link.old).failures (L.tally link.new).failures) }
+    ensures wrote { OnOk result (LinkWrote L.tally L.gave (length (packets_at (slice_get world.now.sites place)) - written) link.old link.new) }
+    ensures refused { IfErr result (λ e. LinkRefused L.tally e link.old link.new) }
 {
     let (Some(node), Some(packets)) = (world.device_at(place), world.packets_at(place)) else {
         return Ok(());
@@ -90,13 +84,8 @@ pub(crate) fn write_out<B: Bank + Drop, L: Link>(
     requires each { length written.old ≡ length links.old }
     requires within { NoneFell written.old (packet_counts world.now.sites) }
     ensures out { OnOk result (WritesOut world.now (links_at written.old (map L.taken links.old) (map L.gave links.old)) (links_at written.new (map L.taken links.new) (map L.gave links.new))) }
-    ensures sent { OnOk result (AllSent written.old written.new (map (λ l. (L.tally l).sent) links.old) (map (λ l. (L.tally l).sent) links.new)) }
-    ensures all { OnOk result (written.new ≡ packet_counts world.now.sites) }
-    ensures kept { OnOk result (map (λ l. (L.tally l).failures) links.new ≡ map (λ l. (L.tally l).failures) links.old) }
-    ensures asked { OnOk result (map (λ l. (L.tally l).asked) links.new ≡ map (λ l. (L.tally l).asked) links.old) }
-    ensures given { OnOk result (map (λ l. (L.tally l).given) links.new ≡ map (λ l. (L.tally l).given) links.old) }
-    ensures fault { IfErr result (λ e. e ≡ EdgeFault.Frame) }
-    ensures failed { OnErr result (OneFailed (map (λ l. (L.tally l).failures) links.old) (map (λ l. (L.tally l).failures) links.new)) }
+    ensures wrote { OnOk result (LinksWrote L.tally written.old written.new links.old links.new) }
+    ensures refused { IfErr result (λ e. LinksRefused L.tally e links.old links.new) }
     ensures links { length links.new ≡ length links.old }
     ensures written { length written.new ≡ length written.old }
 {

@@ -1,21 +1,25 @@
 //! Reads and writes of several bytes, which are tried again where they are interrupted.
 
-ghost use Rattle.std.specs.Prelude.{◌≡◌, ◌<◌, ◌≤◌, length, IfErr, IfOk, OnOk};
+ghost use Rattle.std.specs.Prelude.{◌≢◌, ◌<◌, ◌≤◌, length, IfErr, IfOk, OnErr, OnOk};
 ghost use Rattle.std.specs.Io.KnownBytes.{Appends, Consumes, IsAtEnd};
+ghost use Rattle.std.specs.IoError.{error_kind};
 ghost use Rattle.fw_edge.specs.Frames.{BeginsOf, PartOf};
 
-use crate::frame::FrameFault;
 use mctp_wire::RawPacket;
-use std::io::{ErrorKind, Read, Write};
+use std::io::{self, ErrorKind, Read, Write};
 
 /// Reads so many bytes, fewer only where the reader is at its end.
-pub(crate) fn read_up_to<R: Read>(reader: &mut R, size: usize) -> Result<RawPacket, FrameFault>
+///
+/// # Errors
+/// Why the reader failed, which isn't that it was interrupted.
+pub(crate) fn read_up_to<R: Read>(reader: &mut R, size: usize) -> io::Result<RawPacket>
     requires some { 1 ≤ size }
     requires fits { size ≤ 68 }
     ensures bytes { IfOk result (λ b. Consumes (R.remaining reader.old) (R.remaining reader.new) b.items) }
     ensures within { IfOk result (λ b. length b.items ≤ size) }
     ensures end { IfOk result (λ b. length b.items < size → IsAtEnd (R.remaining reader.new)) }
-    ensures fault { IfErr result (λ e. (e ≡ FrameFault.Io) × PartOf (R.remaining reader.old) (R.remaining reader.new) size) }
+    ensures part { OnErr result (PartOf (R.remaining reader.old) (R.remaining reader.new) size) }
+    ensures retried { IfErr result (λ e. error_kind e ≢ ErrorKind.Interrupted) }
 {
     let mut held = RawPacket::new();
     let mut piece = [0; 68];
@@ -31,18 +35,22 @@ pub(crate) fn read_up_to<R: Read>(reader: &mut R, size: usize) -> Result<RawPack
             }
             Err(error) => {
                 if error.kind() != ErrorKind::Interrupted {
-                    return Err(FrameFault::Io);
+                    return Err(error);
                 }
             }
         }
     }
-    Err(FrameFault::Io)
+    Err(io::Error::from(ErrorKind::TimedOut))
 }
 
 /// Writes all these bytes.
-pub(crate) fn write_whole<W: Write>(writer: &mut W, bytes: &[u8]) -> Result<(), FrameFault>
+///
+/// # Errors
+/// Why the writer failed, which isn't that it was interrupted; or `WriteZero` where it takes no more bytes.
+pub(crate) fn write_whole<W: Write>(writer: &mut W, bytes: &[u8]) -> io::Result<()>
     ensures ok { OnOk result (Appends (W.contents writer.old) (W.contents writer.new) bytes.now) }
-    ensures fault { IfErr result (λ e. (e ≡ FrameFault.Io) × BeginsOf (W.contents writer.old) (W.contents writer.new) bytes.now) }
+    ensures begun { OnErr result (BeginsOf (W.contents writer.old) (W.contents writer.new) bytes.now) }
+    ensures retried { IfErr result (λ e. error_kind e ≢ ErrorKind.Interrupted) }
 {
     let mut written = 0;
     for _ in 0..u64::MAX {
@@ -50,14 +58,14 @@ pub(crate) fn write_whole<W: Write>(writer: &mut W, bytes: &[u8]) -> Result<(), 
             return Ok(());
         }
         match writer.write(&bytes[written..]) {
-            Ok(0) => return Err(FrameFault::Io),
+            Ok(0) => return Err(io::Error::from(ErrorKind::WriteZero)),
             Ok(count) => written += count,
             Err(error) => {
                 if error.kind() != ErrorKind::Interrupted {
-                    return Err(FrameFault::Io);
+                    return Err(error);
                 }
             }
         }
     }
-    Err(FrameFault::Io)
+    Err(io::Error::from(ErrorKind::TimedOut))
 }

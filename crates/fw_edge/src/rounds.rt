@@ -1,11 +1,12 @@
 //! Rounds of a turn: what was sent goes out, and a frame is read at each end.
 
-ghost use Rattle.std.specs.Prelude.{[], ◌∷◌, ◌≡◌, ◌≢◌, ◌≤◌, ◌<◌, ◌+◌, ◌⊎◌, IfErr, IfOk, IfSome, None, OnErr, OnOk, length, map, slice_get};
+ghost use Rattle.std.specs.Prelude.{[], ◌∷◌, ◌≡◌, ◌≤◌, ◌<◌, ◌+◌, ◌⊎◌, IfErr, IfOk, None, OnOk, length, slice_get};
 ghost use Rattle.fw_edge.specs.Links.{links_at};
 ghost use Rattle.fw_edge.specs.Turns.{Came, CameAt, Exchanged, HandsOver, RoundOf, Rounds, both_ends, eid_in, node_at};
 ghost use Rattle.fw_edge.specs.Drives.{Drives, Goes};
 ghost use Rattle.fw_edge.specs.Hearing.{IsHeard};
-ghost use Rattle.fw_edge.specs.Ledgers.{AllRose, AllSent, AreToldOf, IsToldOf, NoneFell, Reads, RoseTogether, packet_counts};
+ghost use Rattle.fw_edge.specs.Ledgers.{NoneFell, packet_counts};
+ghost use Rattle.fw_edge.specs.Outcomes.{EndsRead, LinkStopped, PartDone, PartStopped, RoundRead, StepsStopped};
 ghost use Rattle.fw_world.specs.Promises.{eids_of};
 ghost use Rattle.fw_world.specs.Replays.{may_step};
 ghost use Rattle.fw_world.specs.declared.step.Step.{Step};
@@ -90,8 +91,7 @@ fn hand_over<B: Bank + Drop>(
     ensures goes { IfOk result (λ f. Goes world.old steps.old.items world.new steps.new.items 0 f.known) }
     ensures one { IfOk result (λ f. f.known + f.foreign ≡ 1) }
     ensures over { OnOk result (HandsOver world.old steps.old.items device end packet.now.items world.new steps.new.items) }
-    ensures drives { OnErr result (Drives world.old steps.old.items world.new steps.new.items) }
-    ensures fault { IfErr result (λ e. e ≡ EdgeFault.Memory) }
+    ensures stopped { IfErr result (λ e. StepsStopped e world.old steps.old.items world.new steps.new.items) }
 {
     let Some(number) = heard(world, device, packet) else {
         return Ok(Frames {
@@ -118,14 +118,8 @@ fn read_end<B: Bank + Drop, L: Link>(
     link: &mut L,
     steps: &mut Vec<Step>,
 ) -> Result<Frames, EdgeFault>
-    ensures goes { IfOk result (λ f. Goes world.old steps.old.items world.new steps.new.items 0 f.known) }
-    ensures few { IfOk result (λ f. f.known + f.foreign ≤ 1) }
-    ensures came { IfOk result (λ f. CameAt world.old steps.old.items (L.gave link.old) ((device, end) ∷ []) world.new steps.new.items (L.gave link.new) (f.known + f.foreign)) }
-    ensures took_none { OnOk result (L.taken link.new ≡ L.taken link.old) }
-    ensures reads { IfOk result (λ f. Reads 1 (f.known + f.foreign) (L.tally link.old) (L.tally link.new)) }
-    ensures drives { OnErr result (Drives world.old steps.old.items world.new steps.new.items) }
-    ensures fault { IfErr result (λ e. e ≢ EdgeFault.Step) }
-    ensures failed { IfErr result (λ e. IsToldOf e (L.tally link.old).failures (L.tally link.new).failures) }
+    ensures read { IfOk result (λ f. EndsRead L.tally L.taken L.gave ((device, end) ∷ []) 1 world.old steps.old.items link.old world.new steps.new.items link.new f.known f.foreign) }
+    ensures stopped { IfErr result (λ e. LinkStopped L.tally e world.old steps.old.items link.old world.new steps.new.items link.new) }
 {
     let frame = match link.receive(end) {
         Ok(frame) => frame,
@@ -147,14 +141,8 @@ fn read_both<B: Bank + Drop, L: Link>(
     link: &mut L,
     steps: &mut Vec<Step>,
 ) -> Result<Frames, EdgeFault>
-    ensures goes { IfOk result (λ f. Goes world.old steps.old.items world.new steps.new.items 0 f.known) }
-    ensures few { IfOk result (λ f. f.known + f.foreign ≤ 2) }
-    ensures came { IfOk result (λ f. CameAt world.old steps.old.items (L.gave link.old) (both_ends device) world.new steps.new.items (L.gave link.new) (f.known + f.foreign)) }
-    ensures took_none { OnOk result (L.taken link.new ≡ L.taken link.old) }
-    ensures reads { IfOk result (λ f. Reads 2 (f.known + f.foreign) (L.tally link.old) (L.tally link.new)) }
-    ensures drives { OnErr result (Drives world.old steps.old.items world.new steps.new.items) }
-    ensures fault { IfErr result (λ e. e ≢ EdgeFault.Step) }
-    ensures failed { IfErr result (λ e. IsToldOf e (L.tally link.old).failures (L.tally link.new).failures) }
+    ensures read { IfOk result (λ f. EndsRead L.tally L.taken L.gave (both_ends device) 2 world.old steps.old.items link.old world.new steps.new.items link.new f.known f.foreign) }
+    ensures stopped { IfErr result (λ e. LinkStopped L.tally e world.old steps.old.items link.old world.new steps.new.items link.new) }
 {
     let first = match read_end(world, device, Side::Device, link, steps) {
         Ok(frames) => frames,
@@ -185,16 +173,8 @@ fn read_round<B: Bank + Drop, L: Link>(
 ) -> Result<Frames, EdgeFault>
     requires few { length links.old ≤ 16 }
     requires devices { length links.old ≡ length world.old.sites }
-    ensures came { IfOk result (λ f. Came (length (eids_of world.old.sites)) (eids_of world.old.sites) world.old steps.old.items (links_at [] (map L.taken links.old) (map L.gave links.old)) world.new steps.new.items (links_at [] (map L.taken links.new) (map L.gave links.new)) (f.known + f.foreign)) }
-    ensures goes { IfOk result (λ f. Goes world.old steps.old.items world.new steps.new.items 0 f.known) }
-    ensures few { IfOk result (λ f. f.known + f.foreign ≤ 32) }
-    ensures kept { IfOk result (λ f. map (λ l. (L.tally l).failures) links.new ≡ map (λ l. (L.tally l).failures) links.old) }
-    ensures asked { IfOk result (λ f. AllRose 2 (map (λ l. (L.tally l).asked) links.old) (map (λ l. (L.tally l).asked) links.new)) }
-    ensures given { IfOk result (λ f. RoseTogether (f.known + f.foreign) (map (λ l. (L.tally l).given) links.old) (map (λ l. (L.tally l).given) links.new)) }
-    ensures sent { OnOk result (map (λ l. (L.tally l).sent) links.new ≡ map (λ l. (L.tally l).sent) links.old) }
-    ensures drives { OnErr result (Drives world.old steps.old.items world.new steps.new.items) }
-    ensures fault { IfErr result (λ e. e ≢ EdgeFault.Step) }
-    ensures failed { IfErr result (λ e. AreToldOf e (map (λ l. (L.tally l).failures) links.old) (map (λ l. (L.tally l).failures) links.new)) }
+    ensures read { IfOk result (λ f. RoundRead L.tally L.taken L.gave world.old steps.old.items links.old world.new steps.new.items links.new f.known f.foreign) }
+    ensures stopped { IfErr result (λ e. PartStopped L.tally e world.old steps.old.items links.old world.new steps.new.items links.new) }
     ensures links { length links.new ≡ length links.old }
 {
     let mut frames = Frames::none();
@@ -219,17 +199,9 @@ fn round<B: Bank + Drop, L: Link>(
     requires few { length links.old ≤ 16 }
     requires written { length written.old ≡ length links.old }
     requires within { NoneFell written.old (packet_counts world.old.sites) }
-    ensures round { IfOk result (λ f. RoundOf (eids_of world.old.sites) world.old steps.old.items (links_at written.old (map L.taken links.old) (map L.gave links.old)) world.new steps.new.items (links_at written.new (map L.taken links.new) (map L.gave links.new)) (f.known + f.foreign)) }
-    ensures goes { IfOk result (λ f. Goes world.old steps.old.items world.new steps.new.items 0 f.known) }
-    ensures few { IfOk result (λ f. f.known + f.foreign ≤ 32) }
-    ensures kept { IfOk result (λ f. map (λ l. (L.tally l).failures) links.new ≡ map (λ l. (L.tally l).failures) links.old) }
-    ensures asked { IfOk result (λ f. AllRose 2 (map (λ l. (L.tally l).asked) links.old) (map (λ l. (L.tally l).asked) links.new)) }
-    ensures given { IfOk result (λ f. RoseTogether (f.known + f.foreign) (map (λ l. (L.tally l).given) links.old) (map (λ l. (L.tally l).given) links.new)) }
-    ensures sent { OnOk result (AllSent written.old written.new (map (λ l. (L.tally l).sent) links.old) (map (λ l. (L.tally l).sent) links.new)) }
+    ensures done { IfOk result (λ f. PartDone L.tally L.taken L.gave (RoundOf (eids_of world.old.sites)) 0 32 world.old steps.old.items written.old links.old world.new steps.new.items written.new links.new f.known f.foreign) }
     ensures within { OnOk result (NoneFell written.new (packet_counts world.new.sites)) }
-    ensures drives { OnErr result (Drives world.old steps.old.items world.new steps.new.items) }
-    ensures fault { IfErr result (λ e. e ≢ EdgeFault.Step) }
-    ensures failed { IfErr result (λ e. AreToldOf e (map (λ l. (L.tally l).failures) links.old) (map (λ l. (L.tally l).failures) links.new)) }
+    ensures stopped { IfErr result (λ e. PartStopped L.tally e world.old steps.old.items links.old world.new steps.new.items links.new) }
     ensures links { length links.new ≡ length links.old }
     ensures written { length written.new ≡ length written.old }
 {
@@ -254,17 +226,9 @@ fn rounds<B: Bank + Drop, L: Link>(
     requires few { length links.old ≤ 16 }
     requires written { length written.old ≡ length links.old }
     requires within { NoneFell written.old (packet_counts world.old.sites) }
-    ensures rounds { IfOk result (λ f. Rounds (eids_of world.old.sites) world.old steps.old.items (links_at written.old (map L.taken links.old) (map L.gave links.old)) world.new steps.new.items (links_at written.new (map L.taken links.new) (map L.gave links.new)) (f.known + f.foreign)) }
-    ensures goes { IfOk result (λ f. Goes world.old steps.old.items world.new steps.new.items 0 f.known) }
-    ensures few { IfOk result (λ f. f.known + f.foreign ≤ 1055) }
-    ensures kept { IfOk result (λ f. map (λ l. (L.tally l).failures) links.new ≡ map (λ l. (L.tally l).failures) links.old) }
-    ensures asked { IfOk result (λ f. AllRose 2 (map (λ l. (L.tally l).asked) links.old) (map (λ l. (L.tally l).asked) links.new)) }
-    ensures given { IfOk result (λ f. RoseTogether (f.known + f.foreign) (map (λ l. (L.tally l).given) links.old) (map (λ l. (L.tally l).given) links.new)) }
-    ensures sent { OnOk result (AllSent written.old written.new (map (λ l. (L.tally l).sent) links.old) (map (λ l. (L.tally l).sent) links.new)) }
+    ensures done { IfOk result (λ f. PartDone L.tally L.taken L.gave (Rounds (eids_of world.old.sites)) 0 1055 world.old steps.old.items written.old links.old world.new steps.new.items written.new links.new f.known f.foreign) }
     ensures within { OnOk result (NoneFell written.new (packet_counts world.new.sites)) }
-    ensures drives { OnErr result (Drives world.old steps.old.items world.new steps.new.items) }
-    ensures fault { IfErr result (λ e. e ≢ EdgeFault.Step) }
-    ensures failed { IfErr result (λ e. AreToldOf e (map (λ l. (L.tally l).failures) links.old) (map (λ l. (L.tally l).failures) links.new)) }
+    ensures stopped { IfErr result (λ e. PartStopped L.tally e world.old steps.old.items links.old world.new steps.new.items links.new) }
     ensures links { length links.new ≡ length links.old }
     ensures written { length written.new ≡ length written.old }
 {
@@ -292,17 +256,9 @@ pub(crate) fn exchange<B: Bank + Drop, L: Link>(
     requires few { length links.old ≤ 16 }
     requires written { length written.old ≡ length links.old }
     requires within { NoneFell written.old (packet_counts world.old.sites) }
-    ensures exchanged { IfOk result (λ f. Exchanged (eids_of world.old.sites) world.old steps.old.items (links_at written.old (map L.taken links.old) (map L.gave links.old)) world.new steps.new.items (links_at written.new (map L.taken links.new) (map L.gave links.new)) (f.known + f.foreign)) }
-    ensures goes { IfOk result (λ f. Goes world.old steps.old.items world.new steps.new.items 0 f.known) }
-    ensures few { IfOk result (λ f. f.known + f.foreign ≤ 1055) }
-    ensures kept { IfOk result (λ f. map (λ l. (L.tally l).failures) links.new ≡ map (λ l. (L.tally l).failures) links.old) }
-    ensures asked { IfOk result (λ f. AllRose 2 (map (λ l. (L.tally l).asked) links.old) (map (λ l. (L.tally l).asked) links.new)) }
-    ensures given { IfOk result (λ f. RoseTogether (f.known + f.foreign) (map (λ l. (L.tally l).given) links.old) (map (λ l. (L.tally l).given) links.new)) }
-    ensures sent { OnOk result (AllSent written.old written.new (map (λ l. (L.tally l).sent) links.old) (map (λ l. (L.tally l).sent) links.new)) }
+    ensures done { IfOk result (λ f. PartDone L.tally L.taken L.gave (Exchanged (eids_of world.old.sites)) 0 1055 world.old steps.old.items written.old links.old world.new steps.new.items written.new links.new f.known f.foreign) }
     ensures all { OnOk result (written.new ≡ packet_counts world.new.sites) }
-    ensures drives { OnErr result (Drives world.old steps.old.items world.new steps.new.items) }
-    ensures fault { IfErr result (λ e. e ≢ EdgeFault.Step) }
-    ensures failed { IfErr result (λ e. AreToldOf e (map (λ l. (L.tally l).failures) links.old) (map (λ l. (L.tally l).failures) links.new)) }
+    ensures stopped { IfErr result (λ e. PartStopped L.tally e world.old steps.old.items links.old world.new steps.new.items links.new) }
     ensures links { length links.new ≡ length links.old }
     ensures written { length written.new ≡ length written.old }
 {

@@ -1,8 +1,9 @@
 //! Steps of a run, each taken and listed.
 
-ghost use Rattle.std.specs.Prelude.{[], ◌≡◌, ◌≢◌, ◌-◌, ◌^◌, ◌++◌, ◌∷◌, IfErr, IfSome, None, OnErr, OnOk, Some, is_some, length, slice_get, true};
+ghost use Rattle.std.specs.Prelude.{[], ◌≡◌, ◌≢◌, ◌-◌, ◌^◌, ◌++◌, ◌∷◌, IfErr, IfSome, None, OnErr, OnOk, Some, is_some, slice_get, true, vec_capacity, vec_len};
 ghost use Rattle.fw_edge.specs.Drives.{Drives, Goes, all_over, deliver_in, is_driven, is_good, is_over, tick_in};
 ghost use Rattle.fw_edge.specs.Ledgers.{packet_counts};
+ghost use Rattle.fw_edge.specs.Outcomes.{LacksMemory, SentNone, StepsStopped};
 ghost use Rattle.fw_edge.specs.Turns.{TakesAll, TakesIf, activation_for, all_due, awaited_in, due_at, verdict_for};
 ghost use Rattle.fw_node.specs.Agents.{half_for, ready_for};
 ghost use Rattle.fw_world.specs.Promises.{eids_of};
@@ -33,6 +34,7 @@ pub(crate) fn take<B: Bank + Drop>(
     ensures same { OnErr result (world.new ≡ world.old) }
     ensures unlisted { OnErr result (steps.new.items ≡ steps.old.items) }
     ensures fault { IfErr result (λ e. e ≡ EdgeFault.Memory) }
+    ensures lacked { OnErr result (LacksMemory step (vec_len steps.old) (vec_capacity steps.old) (vec_capacity steps.new)) }
 {
     let Ok(()) = steps.reserve(1) else {
         return Err(EdgeFault::Memory);
@@ -106,10 +108,8 @@ fn judge<B: Bank + Drop>(
     steps: &mut Vec<Step>,
 ) -> Result<(), EdgeFault>
     ensures due { OnOk result (TakesIf world.old steps.old.items (due_at verdict_for world.old (slice_get world.old.sites place)) world.new steps.new.items) }
-    ensures goes { OnOk result (Goes world.old steps.old.items world.new steps.new.items 0 0) }
-    ensures sent { OnOk result (packet_counts world.new.sites ≡ packet_counts world.old.sites) }
-    ensures drives { OnErr result (Drives world.old steps.old.items world.new steps.new.items) }
-    ensures fault { IfErr result (λ e. e ≡ EdgeFault.Memory) }
+    ensures quiet { OnOk result (SentNone world.old steps.old.items world.new steps.new.items) }
+    ensures stopped { IfErr result (λ e. StepsStopped e world.old steps.old.items world.new steps.new.items) }
 {
     let Some(node) = world.device_at(place) else {
         return Ok(());
@@ -129,10 +129,8 @@ fn activate<B: Bank + Drop>(
     steps: &mut Vec<Step>,
 ) -> Result<(), EdgeFault>
     ensures due { OnOk result (TakesIf world.old steps.old.items (due_at activation_for world.old (slice_get world.old.sites place)) world.new steps.new.items) }
-    ensures goes { OnOk result (Goes world.old steps.old.items world.new steps.new.items 0 0) }
-    ensures sent { OnOk result (packet_counts world.new.sites ≡ packet_counts world.old.sites) }
-    ensures drives { OnErr result (Drives world.old steps.old.items world.new steps.new.items) }
-    ensures fault { IfErr result (λ e. e ≡ EdgeFault.Memory) }
+    ensures quiet { OnOk result (SentNone world.old steps.old.items world.new steps.new.items) }
+    ensures stopped { IfErr result (λ e. StepsStopped e world.old steps.old.items world.new steps.new.items) }
 {
     let Some(node) = world.device_at(place) else {
         return Ok(());
@@ -150,10 +148,8 @@ pub(crate) fn judge_all<B: Bank + Drop>(
     steps: &mut Vec<Step>,
 ) -> Result<(), EdgeFault>
     ensures due { OnOk result (TakesAll world.old steps.old.items (all_due verdict_for world.old (eids_of world.old.sites)) world.new steps.new.items) }
-    ensures goes { OnOk result (Goes world.old steps.old.items world.new steps.new.items 0 0) }
-    ensures sent { OnOk result (packet_counts world.new.sites ≡ packet_counts world.old.sites) }
-    ensures drives { OnErr result (Drives world.old steps.old.items world.new steps.new.items) }
-    ensures fault { IfErr result (λ e. e ≡ EdgeFault.Memory) }
+    ensures quiet { OnOk result (SentNone world.old steps.old.items world.new steps.new.items) }
+    ensures stopped { IfErr result (λ e. StepsStopped e world.old steps.old.items world.new steps.new.items) }
 {
     world.is_promised();
     for place in 0..world.device_count() {
@@ -171,10 +167,8 @@ pub(crate) fn activate_all<B: Bank + Drop>(
     steps: &mut Vec<Step>,
 ) -> Result<(), EdgeFault>
     ensures due { OnOk result (TakesAll world.old steps.old.items (all_due activation_for world.old (eids_of world.old.sites)) world.new steps.new.items) }
-    ensures goes { OnOk result (Goes world.old steps.old.items world.new steps.new.items 0 0) }
-    ensures sent { OnOk result (packet_counts world.new.sites ≡ packet_counts world.old.sites) }
-    ensures drives { OnErr result (Drives world.old steps.old.items world.new steps.new.items) }
-    ensures fault { IfErr result (λ e. e ≡ EdgeFault.Memory) }
+    ensures quiet { OnOk result (SentNone world.old steps.old.items world.new steps.new.items) }
+    ensures stopped { IfErr result (λ e. StepsStopped e world.old steps.old.items world.new steps.new.items) }
 {
     world.is_promised();
     for place in 0..world.device_count() {

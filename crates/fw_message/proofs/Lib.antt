@@ -2,6 +2,7 @@ mod Activating
 mod Allowing
 pub mod Apart
 pub mod Applied
+mod Cases
 mod Closings
 mod Completing
 pub mod Counted

@@ -1,5 +1,6 @@
 //! What holds of every run of messages.
 
+ghost use Rattle.fw_message.specs.Cases.{HistoriesAreJudged};
 ghost use Rattle.fw_message.specs.Laws.{MessagesAreSafe};
 ghost use Rattle.fw_message.specs.RunLaws.{RunsGrow, RunsJoin, RunsStayTied};
 ghost use Rattle.fw_message.specs.WorldLaws.{WorldsAreSafe, WorldsStaySafe};
@@ -35,3 +36,9 @@ pub fn runs_stay_tied()
 {
     worlds_are_safe();
 }
+
+/// The definitions of a safe and of a tied history, tried by hand: both hold of the worked update at each moment, and each thing that
+/// they are to refuse is refused.
+pub fn histories_are_judged()
+    ensures { HistoriesAreJudged }
+{}

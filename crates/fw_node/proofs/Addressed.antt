@@ -2,11 +2,13 @@
 use Rattle.std.proofs.Common.{◌≡◌, ◌+◌, ℕ, zero, suc, Bool, true, false, List, [], ◌∷◌, drop, length, map, nat_le, take, inl, inr, Option, Some, None, refl, sym, subst, arith}
 use Rattle.std.specs.List.{AllByRecursion}
 use Rattle.fw_package.specs.Package.{PackageText}
+use Rattle.ua_core.specs.Session.{TimedOf}
 use Rattle.fwup_wire.specs.Commands.{command_bytes, command_code}
 use Rattle.fwup_wire.specs.Values.{CommandOf}
 use Rattle.mctp_reasm.specs.Pieces.{MessageOf, Route, message_route, piece, pieces_from, spelled}
 use Rattle.pldm_exch.specs.Caller.{CallerState, Open, begun, caller_tick, may_begin, sends_at, ticked}
-use Rattle.fw_node.specs.Agents.{IsAddressed, IsFor, PartOf, grown, half_in, waited}
+use Rattle.fw_node.specs.AgentViews.{half_in}
+use Rattle.fw_node.specs.Agents.{IsAddressed, IsFor, grown, waited}
 use Rattle.fw_node.specs.BothEnds.{IsAsking}
 use Rattle.fw_node.specs.Cores.{session_core}
 use Rattle.fw_node.specs.Halves.{CoreOf, HalfOf, begins_if, begins_wish, last_part, unwished_abandoned, with_caller}
@@ -15,6 +17,7 @@ use Rattle.fw_node.proofs.AgentTicks.{ticked_sent}
 use Rattle.fw_node.proofs.OneATick.{bool_cases, settled_is, tick_is}
 use Rattle.std.proofs.lemmas.Bool.Decides.{eqb_tells}
 use Rattle.std.proofs.lemmas.List.{append-nil}
+use Rattle.fw_node.specs.declared.half.Half.{Half}
 
 -- each piece of a message goes where the message goes
 first_if : (last : Bool) (r : Route) (n : ℕ) (bytes : List ℕ) (ps : List (List ℕ)) → AllByRecursion (IsFor r.dest) ps
@@ -64,7 +67,7 @@ last_for core h peer is =
     wish_for (core.wish h.core) (with_caller h (unwished_abandoned (core.wish h.core) h.asker.caller)) peer settled.asks
 
 -- both parts of a tick
-pub addressed : (packages : List PackageText) (p : PartOf) → IsAsking p.ends.asking.peer p.ends.asking.caller → IsAddressed packages (half_in 0 p)
+pub addressed : (packages : List PackageText) (p : Half TimedOf) → IsAsking p.ends.asking.peer p.ends.asking.caller → IsAddressed packages (half_in 0 p)
 addressed packages p h = record {
   sent = ticked_sent packages 0 p (omega arith);
   again = again_for p.ends.asking.caller h;

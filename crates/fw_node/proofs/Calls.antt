@@ -6,103 +6,104 @@ use Rattle.std.proofs.lemmas.Option.{slice_get-map}
 use Rattle.fw_package.specs.Package.{PackageText}
 use Rattle.sel_core.specs.Log.{LogOf}
 use Rattle.ua_core.specs.Session.{SessionOf, TimedOf}
-use Rattle.fw_node.specs.Agents.{AgentOf, PartOf, activates, agent_becomes, becomes_at, free_for, free_in, half_at, half_for, half_in, place_of, ready_for, ready_in}
-use Rattle.fw_node.specs.AgentViews.{agent_of, part_activated, part_free, part_noted, part_put, part_ready, parts_called, parts_noted}
+use Rattle.fw_node.specs.Agents.{AgentOf, activates, agent_becomes, becomes_at, free_for, free_in, half_at, half_for, place_of, ready_for, ready_in}
+use Rattle.fw_node.specs.AgentViews.{agent_of, half_activated, half_free, half_in, half_noted, half_put, half_ready, halves_called, halves_noted}
 use Rattle.fw_node.specs.Halves.{HalfOf}
 use Rattle.fw_node.specs.Notes.{noted}
-use Rattle.fw_node.specs.declared.desk.Desk.{Desk}
+use Rattle.fw_node.specs.declared.identity.Identity.{Identity}
 use Rattle.fw_node.proofs.Places.{place_any}
+use Rattle.fw_node.specs.declared.half.Half.{Half}
 
 -- the half for a device whose place was found
-pub half_found : (deaf : ℕ) (d : Desk) (ps : List PartOf) (eid place : ℕ) → Some place ≡ place_of (map (half_in 0) ps) eid
-    → half_for (agent_of deaf d ps) eid ≡ option_map (half_in deaf) (slice_get ps place)
-half_found deaf d ps eid place is =
+pub half_found : (deaf : ℕ) (d : Identity) (l : LogOf) (ps : List (Half TimedOf)) (eid place : ℕ) → Some place ≡ place_of (map (half_in 0) ps) eid
+    → half_for (agent_of deaf d l ps) eid ≡ option_map (half_in deaf) (slice_get ps place)
+half_found deaf d l ps eid place is =
     ap (half_at (map (half_in deaf) ps)) (place_any deaf 0 ps eid ∙ sym is) ∙ slice_get-map (half_in deaf) ps place
 
-pub half_lost : (deaf : ℕ) (d : Desk) (ps : List PartOf) (eid : ℕ) → None ≡ place_of (map (half_in 0) ps) eid
-    → half_for (agent_of deaf d ps) eid ≡ None
-half_lost deaf d ps eid is = ap (half_at (map (half_in deaf) ps)) (place_any deaf 0 ps eid ∙ sym is)
+pub half_lost : (deaf : ℕ) (d : Identity) (l : LogOf) (ps : List (Half TimedOf)) (eid : ℕ) → None ≡ place_of (map (half_in 0) ps) eid
+    → half_for (agent_of deaf d l ps) eid ≡ None
+half_lost deaf d l ps eid is = ap (half_at (map (half_in deaf) ps)) (place_any deaf 0 ps eid ∙ sym is)
 
 pub known_found : (o : Option (HalfOf TimedOf)) → is_some o ≡ true → o ≡ None → ⊥
 known_found None known lost = absurd (cc)
 known_found (Some h) known lost = absurd (cc)
 
 -- a call of the part there
-put_there : (deaf now place : ℕ) (d : Desk) (ps : List PartOf) (call : PartOf → PartOf) (step : HalfOf TimedOf → HalfOf TimedOf) (o : Option PartOf)
-    → ((p : PartOf) → half_in deaf (call p) ≡ step (half_in deaf p))
+put_there : (deaf now place : ℕ) (d : Identity) (l : LogOf) (ps : List (Half TimedOf)) (call : Half TimedOf → Half TimedOf) (step : HalfOf TimedOf → HalfOf TimedOf) (o : Option (Half TimedOf))
+    → ((p : Half TimedOf) → half_in deaf (call p) ≡ step (half_in deaf p))
     → ◌≡◌ {A = AgentOf}
-    (record { endpoint = d.endpoint; tid = d.tid; deaf = deaf; halves = map (half_in deaf) (part_put ps place call o); log = part_noted d.log now call o })
-    (becomes_at (agent_of deaf d ps) now step (Some place) (option_map (half_in deaf) o))
-put_there deaf now place d ps call step None same = refl
-put_there deaf now place d ps call step (Some p) same =
-    ap (λ hs. record { endpoint = d.endpoint; tid = d.tid; deaf = deaf; halves = hs; log = noted d.log now p.ends.asking.peer p.session (call p).session }) (map-set (half_in deaf) ps place (call p))
-    ∙ ap (λ h. record { endpoint = d.endpoint; tid = d.tid; deaf = deaf; halves = slice_set (map (half_in deaf) ps) place h; log = noted d.log now p.ends.asking.peer p.session h.core }) (same p)
+    (record { endpoint = d.endpoint; tid = d.tid; deaf = deaf; halves = map (half_in deaf) (half_put ps place call o); log = half_noted l now call o })
+    (becomes_at (agent_of deaf d l ps) now step (Some place) (option_map (half_in deaf) o))
+put_there deaf now place d l ps call step None same = refl
+put_there deaf now place d l ps call step (Some p) same =
+    ap (λ hs. record { endpoint = d.endpoint; tid = d.tid; deaf = deaf; halves = hs; log = noted l now p.ends.asking.peer p.core (call p).core }) (map-set (half_in deaf) ps place (call p))
+    ∙ ap (λ h. record { endpoint = d.endpoint; tid = d.tid; deaf = deaf; halves = slice_set (map (half_in deaf) ps) place h; log = noted l now p.ends.asking.peer p.core h.core }) (same p)
 
-called_there : (deaf now eid place : ℕ) (d : Desk) (ps : List PartOf) (call : PartOf → PartOf) (step : HalfOf TimedOf → HalfOf TimedOf)
+called_there : (deaf now eid place : ℕ) (d : Identity) (l : LogOf) (ps : List (Half TimedOf)) (call : Half TimedOf → Half TimedOf) (step : HalfOf TimedOf → HalfOf TimedOf)
     → Some place ≡ place_of (map (half_in 0) ps) eid
-    → ((p : PartOf) → half_in deaf (call p) ≡ step (half_in deaf p))
+    → ((p : Half TimedOf) → half_in deaf (call p) ≡ step (half_in deaf p))
     → ◌≡◌ {A = AgentOf}
-    (record { endpoint = d.endpoint; tid = d.tid; deaf = deaf; halves = map (half_in deaf) (parts_called ps place call); log = parts_noted d.log now ps place call })
-    (agent_becomes (agent_of deaf d ps) now eid step)
-called_there deaf now eid place d ps call step is same =
-    put_there deaf now place d ps call step (slice_get ps place) same
-    ∙ ap (becomes_at (agent_of deaf d ps) now step (Some place)) (sym (half_found deaf d ps eid place is))
-    ∙ ap (λ o. becomes_at (agent_of deaf d ps) now step o (half_for (agent_of deaf d ps) eid)) (is ∙ place_any 0 deaf ps eid)
+    (record { endpoint = d.endpoint; tid = d.tid; deaf = deaf; halves = map (half_in deaf) (halves_called ps place call); log = halves_noted l now ps place call })
+    (agent_becomes (agent_of deaf d l ps) now eid step)
+called_there deaf now eid place d l ps call step is same =
+    put_there deaf now place d l ps call step (slice_get ps place) same
+    ∙ ap (becomes_at (agent_of deaf d l ps) now step (Some place)) (sym (half_found deaf d l ps eid place is))
+    ∙ ap (λ o. becomes_at (agent_of deaf d l ps) now step o (half_for (agent_of deaf d l ps) eid)) (is ∙ place_any 0 deaf ps eid)
 
 -- the same, by what the code leaves
-pub calls_place : (deaf now eid place : ℕ) (d : Desk) (log : LogOf) (ps qs : List PartOf) (call : PartOf → PartOf) (step : HalfOf TimedOf → HalfOf TimedOf)
+pub calls_place : (deaf now eid place : ℕ) (d : Identity) (l log : LogOf) (ps qs : List (Half TimedOf)) (call : Half TimedOf → Half TimedOf) (step : HalfOf TimedOf → HalfOf TimedOf)
     → Some place ≡ place_of (map (half_in 0) ps) eid
-    → ((p : PartOf) → half_in deaf (call p) ≡ step (half_in deaf p))
-    → qs ≡ parts_called ps place call → log ≡ parts_noted d.log now ps place call
-    → ◌≡◌ {A = AgentOf} (record { endpoint = d.endpoint; tid = d.tid; deaf = deaf; halves = map (half_in deaf) qs; log = log }) (agent_becomes (agent_of deaf d ps) now eid step)
-calls_place deaf now eid place d log ps qs call step is same parts notes =
-    rw (parts, notes) (called_there deaf now eid place d ps call step is same)
+    → ((p : Half TimedOf) → half_in deaf (call p) ≡ step (half_in deaf p))
+    → qs ≡ halves_called ps place call → log ≡ halves_noted l now ps place call
+    → ◌≡◌ {A = AgentOf} (record { endpoint = d.endpoint; tid = d.tid; deaf = deaf; halves = map (half_in deaf) qs; log = log }) (agent_becomes (agent_of deaf d l ps) now eid step)
+calls_place deaf now eid place d l log ps qs call step is same parts notes =
+    rw (parts, notes) (called_there deaf now eid place d l ps call step is same)
 
-pub calls_nobody : (deaf now eid : ℕ) (d : Desk) (ps : List PartOf) (step : HalfOf TimedOf → HalfOf TimedOf) → None ≡ place_of (map (half_in 0) ps) eid
-    → agent_of deaf d ps ≡ agent_becomes (agent_of deaf d ps) now eid step
-calls_nobody deaf now eid d ps step is =
-    ap (λ o. becomes_at (agent_of deaf d ps) now step o (half_for (agent_of deaf d ps) eid)) (is ∙ place_any 0 deaf ps eid)
+pub calls_nobody : (deaf now eid : ℕ) (d : Identity) (l : LogOf) (ps : List (Half TimedOf)) (step : HalfOf TimedOf → HalfOf TimedOf) → None ≡ place_of (map (half_in 0) ps) eid
+    → agent_of deaf d l ps ≡ agent_becomes (agent_of deaf d l ps) now eid step
+calls_nobody deaf now eid d l ps step is =
+    ap (λ o. becomes_at (agent_of deaf d l ps) now step o (half_for (agent_of deaf d l ps) eid)) (is ∙ place_any 0 deaf ps eid)
 
 -- whether it is free, and whether it is ready
-free_of : (deaf : ℕ) (o : Option PartOf) → free_in (option_map (half_in deaf) o) ≡ part_free o
+free_of : (deaf : ℕ) (o : Option (Half TimedOf)) → free_in (option_map (half_in deaf) o) ≡ half_free o
 free_of deaf None = refl
 free_of deaf (Some p) = refl
 
-pub free_there : (deaf eid place : ℕ) (d : Desk) (ps : List PartOf) → Some place ≡ place_of (map (half_in 0) ps) eid
-    → free_for (agent_of deaf d ps) eid ≡ part_free (slice_get ps place)
-free_there deaf eid place d ps is = ap free_in (half_found deaf d ps eid place is) ∙ free_of deaf (slice_get ps place)
+pub free_there : (deaf eid place : ℕ) (d : Identity) (l : LogOf) (ps : List (Half TimedOf)) → Some place ≡ place_of (map (half_in 0) ps) eid
+    → free_for (agent_of deaf d l ps) eid ≡ half_free (slice_get ps place)
+free_there deaf eid place d l ps is = ap free_in (half_found deaf d l ps eid place is) ∙ free_of deaf (slice_get ps place)
 
-ready_of : (deaf : ℕ) (o : Option PartOf) → ready_in (option_map (half_in deaf) o) ≡ part_ready o
+ready_of : (deaf : ℕ) (o : Option (Half TimedOf)) → ready_in (option_map (half_in deaf) o) ≡ half_ready o
 ready_of deaf None = refl
 ready_of deaf (Some p) = refl
 
-pub ready_there : (deaf eid place : ℕ) (d : Desk) (ps : List PartOf) → Some place ≡ place_of (map (half_in 0) ps) eid
-    → ready_for (agent_of deaf d ps) eid ≡ part_ready (slice_get ps place)
-ready_there deaf eid place d ps is = ap ready_in (half_found deaf d ps eid place is) ∙ ready_of deaf (slice_get ps place)
+pub ready_there : (deaf eid place : ℕ) (d : Identity) (l : LogOf) (ps : List (Half TimedOf)) → Some place ≡ place_of (map (half_in 0) ps) eid
+    → ready_for (agent_of deaf d l ps) eid ≡ half_ready (slice_get ps place)
+ready_there deaf eid place d l ps is = ap ready_in (half_found deaf d l ps eid place is) ∙ ready_of deaf (slice_get ps place)
 
-pub ready_nobody : (deaf eid : ℕ) (d : Desk) (ps : List PartOf) → None ≡ place_of (map (half_in 0) ps) eid
-    → ready_for (agent_of deaf d ps) eid ≡ None
-ready_nobody deaf eid d ps is = ap ready_in (half_lost deaf d ps eid is)
+pub ready_nobody : (deaf eid : ℕ) (d : Identity) (l : LogOf) (ps : List (Half TimedOf)) → None ≡ place_of (map (half_in 0) ps) eid
+    → ready_for (agent_of deaf d l ps) eid ≡ None
+ready_nobody deaf eid d l ps is = ap ready_in (half_lost deaf d l ps eid is)
 
 -- an activation, where it is ready
-activated_there : (packages : List PackageText) (deaf now eid place : ℕ) (d : Desk) (log : LogOf) (ps qs : List PartOf) (o : Option SessionOf)
+activated_there : (packages : List PackageText) (deaf now eid place : ℕ) (d : Identity) (l log : LogOf) (ps qs : List (Half TimedOf)) (o : Option SessionOf)
     → Some place ≡ place_of (map (half_in 0) ps) eid
-    → option_map (λ s. parts_called ps place (part_activated packages s)) o ≡ Some qs
-    → option_map (λ s. parts_noted d.log now ps place (part_activated packages s)) o ≡ Some log
-    → option_map {U = AgentOf} (λ s. agent_becomes (agent_of deaf d ps) now eid (λ h. activates packages h s)) o
+    → option_map (λ s. halves_called ps place (half_activated packages s)) o ≡ Some qs
+    → option_map (λ s. halves_noted l now ps place (half_activated packages s)) o ≡ Some log
+    → option_map {U = AgentOf} (λ s. agent_becomes (agent_of deaf d l ps) now eid (λ h. activates packages h s)) o
     ≡ Some (record { endpoint = d.endpoint; tid = d.tid; deaf = deaf; halves = map (half_in deaf) qs; log = log })
-activated_there packages deaf now eid place d log ps qs None is parts notes = absurd (cc)
-activated_there packages deaf now eid place d log ps qs (Some s) is parts notes =
-    let new : qs ≡ parts_called ps place (part_activated packages s) = cc in
-    let written : log ≡ parts_noted d.log now ps place (part_activated packages s) = cc in
-    ap (λ n. Some n) (sym (calls_place deaf now eid place d log ps qs (part_activated packages s) (λ h. activates packages h s) is (λ p. refl) new written))
+activated_there packages deaf now eid place d l log ps qs None is parts notes = absurd (cc)
+activated_there packages deaf now eid place d l log ps qs (Some s) is parts notes =
+    let new : qs ≡ halves_called ps place (half_activated packages s) = cc in
+    let written : log ≡ halves_noted l now ps place (half_activated packages s) = cc in
+    ap (λ n. Some n) (sym (calls_place deaf now eid place d l log ps qs (half_activated packages s) (λ h. activates packages h s) is (λ p. refl) new written))
 
-pub activates_place : (packages : List PackageText) (deaf now eid place : ℕ) (d : Desk) (log : LogOf) (ps qs : List PartOf)
+pub activates_place : (packages : List PackageText) (deaf now eid place : ℕ) (d : Identity) (l log : LogOf) (ps qs : List (Half TimedOf))
     → Some place ≡ place_of (map (half_in 0) ps) eid
-    → option_map (λ s. parts_called ps place (part_activated packages s)) (part_ready (slice_get ps place)) ≡ Some qs
-    → option_map (λ s. parts_noted d.log now ps place (part_activated packages s)) (part_ready (slice_get ps place)) ≡ Some log
-    → option_map {U = AgentOf} (λ s. agent_becomes (agent_of deaf d ps) now eid (λ h. activates packages h s)) (ready_for (agent_of deaf d ps) eid)
+    → option_map (λ s. halves_called ps place (half_activated packages s)) (half_ready (slice_get ps place)) ≡ Some qs
+    → option_map (λ s. halves_noted l now ps place (half_activated packages s)) (half_ready (slice_get ps place)) ≡ Some log
+    → option_map {U = AgentOf} (λ s. agent_becomes (agent_of deaf d l ps) now eid (λ h. activates packages h s)) (ready_for (agent_of deaf d l ps) eid)
     ≡ Some (record { endpoint = d.endpoint; tid = d.tid; deaf = deaf; halves = map (half_in deaf) qs; log = log })
-activates_place packages deaf now eid place d log ps qs is parts notes =
-    ap (option_map {U = AgentOf} (λ s. agent_becomes (agent_of deaf d ps) now eid (λ h. activates packages h s))) (ready_there deaf eid place d ps is)
-    ∙ activated_there packages deaf now eid place d log ps qs (part_ready (slice_get ps place)) is parts notes
+activates_place packages deaf now eid place d l log ps qs is parts notes =
+    ap (option_map {U = AgentOf} (λ s. agent_becomes (agent_of deaf d l ps) now eid (λ h. activates packages h s))) (ready_there deaf eid place d l ps is)
+    ∙ activated_there packages deaf now eid place d l log ps qs (half_ready (slice_get ps place)) is parts notes

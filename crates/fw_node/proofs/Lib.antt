@@ -2,12 +2,12 @@ mod Addressed
 mod AgentTicks
 mod Calls
 mod Controls
+mod HalfHears
 pub mod Loops
 mod NodeHears
 mod NodeServes
 pub mod NodeTicks
 mod OneATick
-mod PartHears
 mod Places
 mod Rows
 mod Speaking

@@ -49,19 +49,17 @@ hearing_brings core works c e bytes own peer =
     ap (half_hears_by core works (half_of 0 c e) (asking_row e.asking bytes)) (taker_is e.asking.own e.asking.peer e.answering bytes own peer)
     ∙ rows_bring core works 0 c e (asking_row e.asking bytes) (answering_row e.answering bytes)
 
--- the same for a node whose count of deaf ticks is at its end, by what its ends say
-pub hears_brings : {C : Type 0} (core : CoreOf C) (works : Bool) (deaf : ℕ) (c : C) (e new : EndsOf) (bytes : List ℕ) (i : IncomingOf) → deaf ≡ 0
+-- the same, by what its ends say
+pub hears_brings : {C : Type 0} (core : CoreOf C) (works : Bool) (c : C) (e new : EndsOf) (bytes : List ℕ) (i : IncomingOf)
     → e.answering.own ≡ e.asking.own → e.answering.peer ≡ e.asking.peer
     → i ≡ incoming (asking_row e.asking bytes) (answering_row e.answering bytes)
     → new.asking ≡ asking_after e.asking (asking_row e.asking bytes)
     → new.answering ≡ answering_after (asking_row e.asking bytes) e.answering (answering_row e.answering bytes)
-    → half_hears core works (half_of deaf c e) bytes ≡ half_brings core works (half_of deaf c new) i
-hears_brings core works deaf c e new bytes i hears own peer brings asking answering =
+    → half_hears core works (half_of 0 c e) bytes ≡ half_brings core works (half_of 0 c new) i
+hears_brings core works c e new bytes i own peer brings asking answering =
     let arow = asking_row e.asking bytes in
     let trow = answering_row e.answering bytes in
-    ap (λ d. half_hears core works (half_of d c e) bytes) hears
-    ∙ hearing_brings core works c e bytes own peer
+    hearing_brings core works c e bytes own peer
     ∙ ap (λ x. half_brings core works (half_of 0 c (record { asking = x; answering = answering_after arow e.answering trow })) (incoming arow trow)) (sym asking)
     ∙ ap (λ y. half_brings core works (half_of 0 c (record { asking = new.asking; answering = y })) (incoming arow trow)) (sym answering)
     ∙ ap (half_brings core works (half_of 0 c new)) (sym brings)
-    ∙ ap (λ d. half_brings core works (half_of d c new) i) (sym hears)

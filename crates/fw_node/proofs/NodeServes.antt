@@ -1,5 +1,5 @@
 -- What a node makes of a firmware update request.
-use Rattle.std.proofs.Common.{◌≡◌, ◌∷◌, [], ℕ, Bool, ◌≤◌, List, length, Option, Some, Result, Ok, Err, refl, sym}
+use Rattle.std.proofs.Common.{◌≡◌, ◌∷◌, [], ℕ, Bool, ◌≤◌, List, length, Option, Some, Result, Ok, Err, refl}
 use Rattle.mctp_reasm.specs.Held.{Held}
 use Rattle.std.proofs.lemmas.Bool.{eq-eqb}
 use Rattle.mctp_ctl.specs.declared.answers.Endpoint.{Endpoint}
@@ -51,11 +51,4 @@ told core works h r five is =
 pub heard_again : (k : CommandOf) (a : AnswerOf) (bytes : List ℕ) → bytes ≡ answer_bytes a → answer_in (command_code k) bytes ≡ Some a → length bytes ≤ 252 → IsHeardAgain k a
 heard_again k a bytes is reads fits = record { reads = rw is at reads; fits = rw is at fits }
 
--- a command that was read
-pub answered_read : {C : Type 0} (core : CoreOf C) (quiet works : Bool) (c : C) (read : Result CommandOf ℕ) (k : CommandOf) → Ok k ≡ read
-    → IsHeardAgain k (core.take c k quiet works).answer → IsAnswered core quiet works c read
-answered_read core quiet works c read k is told = rw (sym is) told
-
 pub ruleset node_serves = (taken, told)
-
-pub ruleset part_serves = (answered_read, heard_again)

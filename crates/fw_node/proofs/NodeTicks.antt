@@ -1,4 +1,4 @@
--- A tick of a device node, as the code goes.
+-- A tick of a half, as the code goes.
 use Rattle.std.proofs.Common.{◌≡◌, ◌∙◌, ◌≤◌, ◌++◌, [], Bool, true, false, List, Option, Some, None, refl}
 use Rattle.std.proofs.lemmas.Bool.{le-leb}
 use Rattle.std.proofs.lemmas.List.{append-nil}
@@ -9,8 +9,7 @@ use Rattle.pldm_exch.specs.declared.caller.CallTick.{CallTick}
 use Rattle.pldm_exch.specs.declared.caller.CallTick.TheVariants as ticks
 use Rattle.fwup_wire.specs.Values.{CommandOf}
 use Rattle.pldm_exch.specs.Sides.{asker_called}
-use Rattle.fw_node.specs.Halves.{CoreOf, HalfOf, Ticked, aged, begins_if, begins_wish, called, half_counts, idled, last_part, unwished_abandoned, with_caller}
-use Rattle.fw_node.specs.Cores.{TimedDevice, device_core}
+use Rattle.fw_node.specs.Halves.{CoreOf, HalfOf, Ticked, aged, begins_if, begins_wish, called, half_grows, half_ticks, half_waits, idled, last_part, silenced, unwished_abandoned, with_caller}
 use Rattle.fw_node.specs.Packets.{all_packets, packets_of, sent_by}
 
 -- what was sent before stands before what is sent at last
@@ -28,17 +27,17 @@ wished_behind (Some c) h ms = begun_behind (may_begin h.asker.caller) h c ms
 pub last_behind : {C : Type 0} (f : CoreOf C) (h : HalfOf C) (ms : List MessageOf) → last_part f h ms ≡ behind ms (last_part f h [])
 last_behind f h ms = wished_behind (f.wish h.core) (with_caller h (unwished_abandoned (f.wish h.core) h.asker.caller)) ms
 
-by_call : (h : HalfOf TimedDevice) (t : CallTick)
-    → called device_core (aged h) (asker_called (aged h).asker t) ≡ last_part device_core (idled device_core (aged h)) (sent_by t)
-by_call h ticks.Nothing = refl
-by_call h (ticks.Send m) = refl
-by_call h ticks.GaveUp = refl
+by_call : {C : Type 0} (core : CoreOf C) (h : HalfOf C) (t : CallTick)
+    → called core (aged h) (asker_called (aged h).asker t) ≡ last_part core (idled core (record (aged h) { core = silenced core t h.core })) (sent_by t)
+by_call core h ticks.Nothing = refl
+by_call core h (ticks.Send m) = refl
+by_call core h ticks.GaveUp = refl
 
-pub hearing_tick : (h : HalfOf TimedDevice) → h.asker.deaf ≤ 1 → h.taker.deaf ≤ 1
-    → half_counts device_core h ≡ behind (sent_by (caller_tick h.asker.caller).1) (last_part device_core (idled device_core (aged h)) [])
-hearing_tick h ask take =
-    rw (le-leb h.asker.deaf 1 ask, le-leb h.taker.deaf 1 take) (by_call h (caller_tick h.asker.caller).1)
-    ∙ last_behind device_core (idled device_core (aged h)) (sent_by (caller_tick h.asker.caller).1)
+pub hearing_tick : {C : Type 0} (core : CoreOf C) (h : HalfOf C) → h.asker.deaf ≤ 1 → h.taker.deaf ≤ 1
+    → half_ticks core true h ≡ behind (sent_by (caller_tick h.asker.caller).1) (half_waits core (half_grows core h))
+hearing_tick core h ask take =
+    rw (le-leb h.asker.deaf 1 ask, le-leb h.taker.deaf 1 take) (by_call core h (caller_tick h.asker.caller).1)
+    ∙ last_behind core (idled core (half_grows core h)) (sent_by (caller_tick h.asker.caller).1)
 
 pub packets_behind : (ms ns : List MessageOf) → all_packets (ms ++ ns) ≡ all_packets ms ++ all_packets ns
 packets_behind ms ns = flat_map-append packets_of ms ns

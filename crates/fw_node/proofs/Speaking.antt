@@ -6,60 +6,62 @@ use Rattle.std.proofs.lemmas.Bool.{ne_eqb}
 use Rattle.std.proofs.lemmas.List.{append-nil, drop_all, map-append, take_all, take_more}
 use Rattle.mctp_wire.specs.Packet as wire
 use Rattle.fw_package.specs.Package.{PackageText}
+use Rattle.sel_core.specs.Log.{LogOf}
 use Rattle.ua_core.specs.Session.{TimedOf}
-use Rattle.fw_node.specs.Agents.{HalfMaySpeak, PartOf, SpeaksHearing, half_at, half_for, half_in, hearer, place_heard, place_of}
-use Rattle.fw_node.specs.AgentViews.{agent_of, part_restarted}
+use Rattle.fw_node.specs.Agents.{HalfMaySpeak, SpeaksHearing, half_at, half_for, hearer, place_heard, place_of}
+use Rattle.fw_node.specs.AgentViews.{agent_of, half_in, half_restarted}
 use Rattle.fw_node.specs.Cores.{session_core}
 use Rattle.fw_node.specs.Halves.{HalfOf, half_hears}
 use Rattle.fw_node.specs.Nodes.{IsTold}
-use Rattle.fw_node.specs.declared.desk.Desk.{Desk}
+use Rattle.fw_node.specs.declared.identity.Identity.{Identity}
 use Rattle.fw_node.proofs.Calls.{half_found, half_lost}
+use Rattle.fw_node.specs.declared.half.Half.{Half}
 
 -- what is true of every part's half is true of the one that hears
-all_there : (deaf : ℕ) (P : HalfOf TimedOf → Type 0) (ps : List PartOf) (i : ℕ) → ((p : PartOf) → P (half_in deaf p)) → IfSome (slice_get (map (half_in deaf) ps) i) P
+all_there : (deaf : ℕ) (P : HalfOf TimedOf → Type 0) (ps : List (Half TimedOf)) (i : ℕ) → ((p : Half TimedOf) → P (half_in deaf p)) → IfSome (slice_get (map (half_in deaf) ps) i) P
 all_there deaf P [] i all = tt
 all_there deaf P (p ∷ ps) zero all = all p
 all_there deaf P (p ∷ ps) (suc i) all = all_there deaf P ps i all
 
-all_at : (deaf : ℕ) (P : HalfOf TimedOf → Type 0) (ps : List PartOf) (o : Option ℕ) → ((p : PartOf) → P (half_in deaf p)) → IfSome (half_at (map (half_in deaf) ps) o) P
+all_at : (deaf : ℕ) (P : HalfOf TimedOf → Type 0) (ps : List (Half TimedOf)) (o : Option ℕ) → ((p : Half TimedOf) → P (half_in deaf p)) → IfSome (half_at (map (half_in deaf) ps) o) P
 all_at deaf P ps None all = tt
 all_at deaf P ps (Some i) all = all_there deaf P ps i all
 
 -- a deaf half makes nothing of a packet
-deaf_told : (packages : List PackageText) (deaf : ℕ) (bytes : List ℕ) (p : PartOf) → 0 < deaf → IsTold (half_hears (session_core packages) true (half_in deaf p) bytes)
+deaf_told : (packages : List PackageText) (deaf : ℕ) (bytes : List ℕ) (p : Half TimedOf) → 0 < deaf → IsTold (half_hears (session_core packages) true (half_in deaf p) bytes)
 deaf_told packages deaf bytes p more = rw (ne_eqb deaf 0 (λ e. absurd (omega (arith, e, more)))) tt
 
-deaf_speaks : (packages : List PackageText) (deaf : ℕ) (d : Desk) (ps : List PartOf) (bytes : List ℕ) (p : PartOf) → 0 < deaf
-    → SpeaksHearing packages (agent_of deaf d ps) bytes (half_in deaf p)
-deaf_speaks packages deaf d ps bytes p more = rw (ne_eqb deaf 0 (λ e. absurd (omega (arith, e, more)))) (inl refl)
+deaf_speaks : (packages : List PackageText) (deaf : ℕ) (d : Identity) (l : LogOf) (ps : List (Half TimedOf)) (bytes : List ℕ) (p : Half TimedOf) → 0 < deaf
+    → SpeaksHearing packages (agent_of deaf d l ps) bytes (half_in deaf p)
+deaf_speaks packages deaf d l ps bytes p more = rw (ne_eqb deaf 0 (λ e. absurd (omega (arith, e, more)))) (inl refl)
 
-pub told_deaf : (packages : List PackageText) (deaf : ℕ) (d : Desk) (ps : List PartOf) (bytes : List ℕ) → 0 < deaf
-    → IfSome (hearer (agent_of deaf d ps) bytes) (λ h. IsTold (half_hears (session_core packages) true h bytes))
-told_deaf packages deaf d ps bytes more =
+pub told_deaf : (packages : List PackageText) (deaf : ℕ) (d : Identity) (l : LogOf) (ps : List (Half TimedOf)) (bytes : List ℕ) → 0 < deaf
+    → IfSome (hearer (agent_of deaf d l ps) bytes) (λ h. IsTold (half_hears (session_core packages) true h bytes))
+told_deaf packages deaf d l ps bytes more =
     all_at deaf (λ h. IsTold (half_hears (session_core packages) true h bytes)) ps (place_heard (map (half_in deaf) ps) (wire.packet_of bytes)) (λ p. deaf_told packages deaf bytes p more)
 
-pub speaks_deaf : (packages : List PackageText) (deaf : ℕ) (d : Desk) (ps : List PartOf) (bytes : List ℕ) → 0 < deaf
-    → IfSome (hearer (agent_of deaf d ps) bytes) (SpeaksHearing packages (agent_of deaf d ps) bytes)
-speaks_deaf packages deaf d ps bytes more =
-    all_at deaf (SpeaksHearing packages (agent_of deaf d ps) bytes) ps (place_heard (map (half_in deaf) ps) (wire.packet_of bytes)) (λ p. deaf_speaks packages deaf d ps bytes p more)
+pub speaks_deaf : (packages : List PackageText) (deaf : ℕ) (d : Identity) (l : LogOf) (ps : List (Half TimedOf)) (bytes : List ℕ) → 0 < deaf
+    → IfSome (hearer (agent_of deaf d l ps) bytes) (SpeaksHearing packages (agent_of deaf d l ps) bytes)
+speaks_deaf packages deaf d l ps bytes more =
+    all_at deaf (SpeaksHearing packages (agent_of deaf d l ps) bytes) ps (place_heard (map (half_in deaf) ps) (wire.packet_of bytes)) (λ p. deaf_speaks packages deaf d l ps bytes p more)
 
 -- the half that hears, by its place
-pub hearer_there : (d : Desk) (ps : List PartOf) (bytes : List ℕ) (o : Option ℕ) (P : HalfOf TimedOf → Type 0)
-    → o ≡ place_heard (map (half_in 0) ps) (wire.packet_of bytes) → IfSome (half_at (map (half_in 0) ps) o) P → IfSome (hearer (agent_of 0 d ps) bytes) P
-hearer_there d ps bytes o P is h = subst (λ x. IfSome (half_at (map (half_in 0) ps) x) P) is h
+pub hearer_there : (d : Identity) (l : LogOf) (ps : List (Half TimedOf)) (bytes : List ℕ) (o : Option ℕ) (P : HalfOf TimedOf → Type 0)
+    → o ≡ place_heard (map (half_in 0) ps) (wire.packet_of bytes) → IfSome (half_at (map (half_in 0) ps) o) P → IfSome (hearer (agent_of 0 d l ps) bytes) P
+hearer_there d l ps bytes o P is h = subst (λ x. IfSome (half_at (map (half_in 0) ps) x) P) is h
 
 -- the half for a device, by its part
-said_of : (deaf : ℕ) (P : HalfOf TimedOf → Type 0) (o : Option PartOf) (h : Option (HalfOf TimedOf)) → h ≡ option_map (half_in deaf) o → IfSome o (λ p. P (half_in deaf p)) → IfSome h P
+said_of : (deaf : ℕ) (P : HalfOf TimedOf → Type 0) (o : Option (Half TimedOf)) (h : Option (HalfOf TimedOf)) → h ≡ option_map (half_in deaf) o → IfSome o (λ p. P (half_in deaf p)) → IfSome h P
 said_of deaf P None h is said = rw is tt
 said_of deaf P (Some p) h is said = rw is said
 
-pub said_there : (deaf eid place : ℕ) (d : Desk) (ps : List PartOf) (P : HalfOf TimedOf → Type 0) → Some place ≡ place_of (map (half_in 0) ps) eid
-    → IfSome (slice_get ps place) (λ p. P (half_in deaf p)) → IfSome (half_for (agent_of deaf d ps) eid) P
-said_there deaf eid place d ps P is said = said_of deaf P (slice_get ps place) (half_for (agent_of deaf d ps) eid) (half_found deaf d ps eid place is) said
+pub said_there : (deaf eid place : ℕ) (d : Identity) (l : LogOf) (ps : List (Half TimedOf)) (P : HalfOf TimedOf → Type 0) → Some place ≡ place_of (map (half_in 0) ps) eid
+    → IfSome (slice_get ps place) (λ p. P (half_in deaf p)) → IfSome (half_for (agent_of deaf d l ps) eid) P
+said_there deaf eid place d l ps P is said = said_of deaf P (slice_get ps place) (half_for (agent_of deaf d l ps) eid) (half_found deaf d l ps eid place is) said
 
-pub said_nobody : (deaf eid : ℕ) (d : Desk) (ps : List PartOf) (P : HalfOf TimedOf → Type 0) → None ≡ place_of (map (half_in 0) ps) eid
-    → IfSome (half_for (agent_of deaf d ps) eid) P
-said_nobody deaf eid d ps P is = rw (half_lost deaf d ps eid is) tt
+pub said_nobody : (deaf eid : ℕ) (d : Identity) (l : LogOf) (ps : List (Half TimedOf)) (P : HalfOf TimedOf → Type 0) → None ≡ place_of (map (half_in 0) ps) eid
+    → IfSome (half_for (agent_of deaf d l ps) eid) P
+said_nobody deaf eid d l ps P is = rw (half_lost deaf d l ps eid is) tt
 
 -- of one half more
 said_more : (P : HalfOf TimedOf → Type 0) (hs : List (HalfOf TimedOf)) (h : HalfOf TimedOf) → AllByRecursion P hs → P h → AllByRecursion P (hs ++ h ∷ [])
@@ -85,6 +87,6 @@ said_all P f hs gs i end is said =
     subst (AllByRecursion P) (sym (is ∙ ap (λ l. map f (take i hs) ++ l) (drop_all i hs end) ∙ append-nil (map f (take i hs)))) said
 
 -- a session that started anew wishes nothing
-pub said_anew : (packages : List PackageText) (ps : List PartOf) → AllByRecursion (HalfMaySpeak packages) (map (half_in 40) (map part_restarted ps))
+pub said_anew : (packages : List PackageText) (ps : List (Half TimedOf)) → AllByRecursion (HalfMaySpeak packages) (map (half_in 40) (map half_restarted ps))
 said_anew packages [] = tt
 said_anew packages (p ∷ ps) = (tt, said_anew packages ps)

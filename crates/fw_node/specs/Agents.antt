@@ -9,26 +9,16 @@ use Rattle.mctp_wire.specs.declared.layout.Head.{Head}
 use Rattle.pldm_base.specs.declared.terminus.Role.TheVariants as roles
 use Rattle.pldm_exch.specs.Caller.{caller_tick}
 use Rattle.pldm_exch.specs.declared.caller.CallTick.{CallTick}
-use Rattle.pldm_exch.specs.declared.caller.CallTick.TheVariants as ticks
 use Rattle.fw_package.specs.Package.{PackageText}
 use Rattle.sel_core.specs.Log.{LogOf, new_log, sel_restart}
 use Rattle.ua_core.specs.Calls.{agent_activated, agent_cancelled, agent_started, is_free, may_cancel, new_session}
 use Rattle.ua_core.specs.Session.{SessionOf, TimedOf}
-use Rattle.fw_node.specs.BothEnds.{EndsOf, ends_new}
+use Rattle.fw_node.specs.BothEnds.{ends_new}
 use Rattle.fw_node.specs.Cores.{session_core}
-use Rattle.fw_node.specs.Halves.{HalfOf, aged, half_hears, half_restarts, half_ticks, idled, last_part, recast}
+use Rattle.fw_node.specs.Halves.{HalfOf, half_grows, half_hears, half_restarts, half_ticks, half_waits, idled, recast, silenced}
 use Rattle.fw_node.specs.Nodes.{MaySpeak, NodeHeard, SpeaksAfter, finished, half_of}
 use Rattle.fw_node.specs.Notes.{noted}
 use Rattle.fw_node.specs.Packets.{all_packets, sent_by}
-
--- the agent's part for a device, as the code has it: both ends, and the session
-pub record PartOf : Type 0 where
-  pub ends : EndsOf
-  pub session : TimedOf
-
--- the agent's half for a device, of a node that is deaf for so long
-abbrev pub half_in : (deaf : ℕ) → PartOf → HalfOf TimedOf
-half_in deaf p = half_of deaf p.session p.ends
 
 -- The agent: its endpoint, its terminus identifier, the ticks that it is still deaf, its halves, and the event log.
 pub record AgentOf : Type 0 where
@@ -118,34 +108,25 @@ agent_hears packages n bytes now =
     hears_at packages n bytes now (place_heard n.halves (wire.packet_of bytes)) (half_at n.halves (place_heard n.halves (wire.packet_of bytes)))
     else agent_unmoved n
 
--- A tick's parts of a half that hears. First what is held and kept grows older, and the open request is sent again or given
--- up; then the session's idle tick; at last what isn't wished is given up, and what is wished begins.
+-- The parts of a tick of one of its halves, each in the general words of a half.
 abbrev pub silent_by : CallTick → TimedOf → List PackageText → TimedOf
-silent_by ticks.GaveUp s packages = (session_core packages).silent s
-silent_by call s packages = s
+silent_by call s packages = silenced (session_core packages) call s
 
 abbrev pub grown : List PackageText → HalfOf TimedOf → HalfOf TimedOf
-grown packages h = record (aged h) { core = silent_by (caller_tick h.asker.caller).1 h.core packages }
+grown packages h = half_grows (session_core packages) h
 
 abbrev pub waited : List PackageText → HalfOf TimedOf → HalfOf TimedOf
 waited packages h = idled (session_core packages) h
 
-abbrev pub asked_last : List PackageText → HalfOf TimedOf → HalfOf TimedOf
-asked_last packages h = (last_part (session_core packages) h []).half
-
--- both of these
 abbrev pub ended : List PackageText → HalfOf TimedOf → HalfOf TimedOf
-ended packages h = asked_last packages (waited packages h)
+ended packages h = (half_waits (session_core packages) h).half
 
 -- the packets of each part
 abbrev pub again_packets : HalfOf TimedOf → List (List ℕ)
 again_packets h = all_packets (sent_by (caller_tick h.asker.caller).1)
 
-abbrev pub asked_packets : List PackageText → HalfOf TimedOf → List (List ℕ)
-asked_packets packages h = all_packets (last_part (session_core packages) h []).sent
-
 abbrev pub ended_packets : List PackageText → HalfOf TimedOf → List (List ℕ)
-ended_packets packages h = asked_packets packages (waited packages h)
+ended_packets packages h = all_packets (half_waits (session_core packages) h).sent
 
 -- a packet is for this endpoint
 abbrev pub IsFor : ℕ → List ℕ → Type 0
@@ -159,7 +140,7 @@ pub record IsAddressed (packages : List PackageText) (h : HalfOf TimedOf) : Type
 
 -- the messages of the requests that begin then
 abbrev pub begins : List PackageText → HalfOf TimedOf → List MessageOf
-begins packages h = (last_part (session_core packages) (waited packages h) []).sent
+begins packages h = (half_waits (session_core packages) h).sent
 
 -- The log after a part of a tick, which is done for all halves in order: what happened to each session is noted.
 abbrev pub notes : (HalfOf TimedOf → HalfOf TimedOf) → (now : ℕ) → LogOf → List (HalfOf TimedOf) → LogOf

@@ -14,6 +14,8 @@ use Rattle.pldm_exch.specs.Caller.{CallerState, Heard, Open, abandoned, begun, c
 use Rattle.pldm_exch.specs.Ends.{AnsweringOf, AskerOf, TakerOf, asker_new, taker_new}
 use Rattle.pldm_exch.specs.Kept.{answerer_tick, kept_with}
 use Rattle.pldm_exch.specs.Requests.{RequestOf, reply_message}
+use Rattle.pldm_exch.specs.declared.caller.CallTick.{CallTick}
+use Rattle.pldm_exch.specs.declared.caller.CallTick.TheVariants as ticks
 use Rattle.pldm_exch.specs.Sides.{AskerRow, AskerTick, BroughtOf, TakerRow, asker_counts, asker_row, brought_in, requests_in, taker_counts, taker_row}
 
 -- what a core makes of a command
@@ -125,6 +127,19 @@ aged h = record h {
 
 abbrev pub idled : {C : Type 0} → CoreOf C → HalfOf C → HalfOf C
 idled core h = record h { core = core.ticked h.core }
+
+-- A tick's parts of a half that hears. First what is held and kept grows older, and the open request is sent again or given
+-- up; the core is told of one that was given up.
+abbrev pub silenced : {C : Type 0} → CoreOf C → CallTick → C → C
+silenced core ticks.GaveUp c = core.silent c
+silenced core call c = c
+
+abbrev pub half_grows : {C : Type 0} → CoreOf C → HalfOf C → HalfOf C
+half_grows core h = record (aged h) { core = silenced core (caller_tick h.asker.caller).1 h.core }
+
+-- Then comes the core's own tick; at last what isn't wished is given up, and what is wished begins.
+abbrev pub half_waits : {C : Type 0} → CoreOf C → HalfOf C → Ticked C
+half_waits core h = last_part core (idled core h) []
 
 -- What a packet is for a half: it went through, and these messages are sent; the core took this command, likewise; a new
 -- request of another PLDM type is to be answered; or a whole message is no PLDM request.

@@ -5,17 +5,18 @@ ghost use Rattle.mctp_wire.specs.Packet.{packet_of as packet_read};
 ghost use Rattle.fw_package.specs.Package.{PackageText};
 ghost use Rattle.sel_core.specs.Log.{sel_after, sel_reply};
 ghost use Rattle.ua_core.specs.Calls.{agent_activated, is_free};
-ghost use Rattle.fw_node.specs.Agents.{AgentOf, HalfMaySpeak, IsAddressed, IsDeafFor, PartOf, SpeaksHearing, activates, free_for, hearer, ready_for, again_packets, agent_becomes, agent_hears, agent_restarts, agent_tick_sends, agent_ticks, asked_last, asked_packets, becomes_at, begins, cancels, ended, ended_packets, grown, half_at, half_for, half_in, hears_at, new_agent, new_half, notes, place_from, place_heard, place_of, starts, waited};
-ghost use Rattle.fw_node.specs.AgentViews.{agent_of, part_activated, part_cancelled, part_free, part_ready, part_restarted, part_started, parts_called, parts_noted};
+ghost use Rattle.fw_node.specs.Agents.{AgentOf, HalfMaySpeak, IsAddressed, IsDeafFor, SpeaksHearing, activates, free_for, hearer, ready_for, again_packets, agent_becomes, agent_hears, agent_restarts, agent_tick_sends, agent_ticks, becomes_at, begins, cancels, ended, ended_packets, grown, half_at, half_for, hears_at, new_agent, new_half, notes, place_from, place_heard, place_of, starts, waited};
+ghost use Rattle.fw_node.specs.AgentViews.{agent_of, half_in, half_activated, half_cancelled, half_free, half_ready, half_restarted, half_started, halves_called, halves_noted};
 ghost use Rattle.fw_node.specs.Cores.{session_core};
 ghost use Rattle.fw_node.specs.Halves.{half_hears, half_restarts, half_ticks};
 ghost use Rattle.fw_node.specs.Nodes.{IsTold, MaySpeak};
 ghost use Rattle.std.specs.List.{AllByRecursion};
 ghost use Rattle.fw_node.specs.Packets.{all_packets};
 
-use crate::desk::{Desk, note};
+use crate::half::Half;
+use crate::identity::Identity;
+use crate::noting::{activate, cancel, grow, hear, start, wait};
 use crate::outbox::Outbox;
-use crate::part::Part;
 use fw_package::Package;
 use mctp_ctl::Endpoint;
 use pldm_base::Tid;
@@ -30,21 +31,22 @@ use ua_core::{NotReady, Session, StartFault};
 /// operator may start updates with.
 #[derive(Drop)]
 pub struct AgentNode {
-    desk: Desk,
+    identity: Identity,
     deaf: u8,
-    parts: Vec<Part>,
+    halves: Vec<Half<Session>>,
+    log: Sel,
 }
 
 impl Model for AgentNode {
     ghost use Rattle.std.specs.Prelude.{◌≤◌, length};
     ghost use Rattle.fw_node.specs.Agents.{AgentOf};
-    ghost use Rattle.fw_node.specs.AgentViews.{agent_of, part_restarted};
+    ghost use Rattle.fw_node.specs.AgentViews.{agent_of, half_restarted};
 
     ghost Value = { AgentOf };
 
-    ghost view = { λ n. agent_of n.deaf n.desk n.parts.items };
+    ghost view = { λ n. agent_of n.deaf n.identity n.log n.halves.items };
 
-    ghost invariant = { λ n. length n.parts.items ≤ 16 };
+    ghost invariant = { λ n. length n.halves.items ≤ 16 };
 }
 
 impl AgentNode {
@@ -59,16 +61,16 @@ impl AgentNode {
         let Ok(log) = Sel::new(alloc) else {
             return Err(AllocError);
         };
-        let parts = parts_for(alloc, endpoint.eid, devices)?;
-        let desk = Desk {
+        let halves = halves_for(alloc, endpoint.eid, devices)?;
+        let identity = Identity {
             endpoint,
             tid: Tid::unassigned(),
-            log,
         };
         Ok(AgentNode {
-            desk,
+            identity,
             deaf: 0,
-            parts,
+            halves,
+            log,
         })
     }
 
@@ -76,7 +78,7 @@ impl AgentNode {
     pub fn eid(&self) -> u8
         ensures { result ≡ self.now.endpoint.eid }
     {
-        self.desk.endpoint.eid
+        self.identity.endpoint.eid
     }
 
     /// Whether it drops every packet, since it started anew less than 40 ticks ago.
@@ -91,7 +93,7 @@ impl AgentNode {
     pub fn log(&self) -> &Sel
         ensures { result.now ≡ self.now.log }
     {
-        &self.desk.log
+        &self.log
     }
 
     /// The session with a device, if it is one of the agent's.
@@ -100,7 +102,7 @@ impl AgentNode {
         ensures session { option_map (λ s. s.now) result ≡ option_map (λ h. h.core) (half_for self.now eid) }
         ensures known { is_some result ≡ is_some (half_for self.now eid) }
     {
-        session_in(self.parts.as_slice(), eid)
+        session_in(self.halves.as_slice(), eid)
     }
 
     /// Hears the bytes of a packet, and puts what it sends into an empty outbox. A packet to another endpoint or of none of
@@ -122,13 +124,14 @@ impl AgentNode {
         if self.deaf > 0 {
             return;
         }
-        let Some(place) = sender_of(self.parts.as_slice(), bytes) else {
+        let Some(place) = sender_of(self.halves.as_slice(), bytes) else {
             return;
         };
         hear_at(
-            self.parts.as_mut_slice(),
+            self.halves.as_mut_slice(),
             place,
-            &mut self.desk,
+            &mut self.identity,
+            &mut self.log,
             packages,
             bytes,
             now,
@@ -153,15 +156,15 @@ impl AgentNode {
         }
         self.deaf = 0;
         grow_all(
-            self.parts.as_mut_slice(),
-            &mut self.desk.log,
+            self.halves.as_mut_slice(),
+            &mut self.log,
             packages,
             now,
             outbox,
         );
         wait_all(
-            self.parts.as_mut_slice(),
-            &mut self.desk.log,
+            self.halves.as_mut_slice(),
+            &mut self.log,
             packages,
             now,
             outbox,
@@ -187,13 +190,13 @@ impl AgentNode {
         ensures kept { OnErr result (self.new ≡ self.old) }
         ensures spoken { OnOk result (IfSome (half_for self.old eid) (λ h. HalfMaySpeak packages.now (starts packages.now h number))) }
     {
-        let Some(place) = place_of(self.parts.as_slice(), eid) else {
+        let Some(place) = place_of(self.halves.as_slice(), eid) else {
             return Err(StartFault::Busy);
         };
         match start_at(
-            self.parts.as_mut_slice(),
+            self.halves.as_mut_slice(),
             place,
-            &mut self.desk.log,
+            &mut self.log,
             packages,
             number,
             now,
@@ -210,13 +213,13 @@ impl AgentNode {
         ensures cancelled { self.new ≡ agent_becomes self.old now eid (cancels packages.now) }
         ensures spoken { IfSome (half_for self.old eid) (λ h. HalfMaySpeak packages.now (cancels packages.now h)) }
     {
-        let Some(place) = place_of(self.parts.as_slice(), eid) else {
+        let Some(place) = place_of(self.halves.as_slice(), eid) else {
             return;
         };
         cancel_at(
-            self.parts.as_mut_slice(),
+            self.halves.as_mut_slice(),
             place,
-            &mut self.desk.log,
+            &mut self.log,
             packages,
             now,
         );
@@ -237,13 +240,13 @@ impl AgentNode {
         ensures kept { OnErr result (self.new ≡ self.old) }
         ensures spoken { OnOk result (IfSome (half_for self.old eid) (λ h. IfSome (ready_for self.old eid) (λ s. HalfMaySpeak packages.now (activates packages.now h s)))) }
     {
-        let Some(place) = place_of(self.parts.as_slice(), eid) else {
+        let Some(place) = place_of(self.halves.as_slice(), eid) else {
             return Err(NotReady);
         };
         match activate_at(
-            self.parts.as_mut_slice(),
+            self.halves.as_mut_slice(),
             place,
-            &mut self.desk.log,
+            &mut self.log,
             packages,
             now,
         ) {
@@ -259,9 +262,9 @@ impl AgentNode {
         ensures restarted { (packages : List PackageText) → self.new ≡ agent_restarts packages self.old }
         ensures spoken { (packages : List PackageText) → AllByRecursion (HalfMaySpeak packages) self.new.halves }
     {
-        restart_all(self.parts.as_mut_slice());
-        self.desk.tid = Tid::unassigned();
-        self.desk.log.restart();
+        restart_all(self.halves.as_mut_slice());
+        self.identity.tid = Tid::unassigned();
+        self.log.restart();
         self.deaf = DEAF;
     }
 
@@ -271,28 +274,28 @@ impl AgentNode {
         ensures reply { result.items ≡ sel_reply self.old.log command «data».now now }
         ensures after { self.new ≡ record self.old { log = sel_after self.old.log command «data».now now } }
     {
-        self.desk.log.request(command, data, now)
+        self.log.request(command, data, now)
     }
 }
 
-/// The parts for devices with these endpoint identifiers.
-fn parts_for(alloc: Global, own: u8, devices: &[u8]) -> Result<Vec<Part>, AllocError>
-    ensures { IfOk result (λ parts. map (half_in 0) parts.items ≡ map (new_half own) devices.now) }
+/// The halves for devices with these endpoint identifiers.
+fn halves_for(alloc: Global, own: u8, devices: &[u8]) -> Result<Vec<Half<Session>>, AllocError>
+    ensures { IfOk result (λ halves. map (half_in 0) halves.items ≡ map (new_half own) devices.now) }
 {
-    let mut parts = Vec::new(alloc);
+    let mut halves = Vec::new(alloc);
     for device in devices {
-        parts.push(Part::new(alloc, own, *device))?;
+        halves.push(Half::new(own, *device, Session::new(alloc)))?;
     }
-    Ok(parts)
+    Ok(halves)
 }
 
-/// The place of a device's part.
-fn place_of(parts: &[Part], eid: u8) -> Option<usize>
-    ensures place { result ≡ place_of (map (half_in 0) parts.now) eid }
-    ensures within { IfSome result (λ place. place < length parts.now) }
+/// The place of a device's half.
+fn place_of(halves: &[Half<Session>], eid: u8) -> Option<usize>
+    ensures place { result ≡ place_of (map (half_in 0) halves.now) eid }
+    ensures within { IfSome result (λ place. place < length halves.now) }
 {
-    for (place, part) in parts.iter().enumerate() {
-        if part.peer() == eid {
+    for (place, half) in halves.iter().enumerate() {
+        if half.peer() == eid {
             return Some(place);
         }
     }
@@ -301,68 +304,77 @@ fn place_of(parts: &[Part], eid: u8) -> Option<usize>
 
 /// The session with a device.
 #[tactic(auto, using(crate::proofs::Places::places))]
-fn session_in(parts: &[Part], eid: u8) -> Option<&Session>
-    ensures { option_map (λ s. s.now) result ≡ option_map (λ h. h.core) (half_at (map (half_in 0) parts.now) (place_of (map (half_in 0) parts.now) eid)) }
+fn session_in(halves: &[Half<Session>], eid: u8) -> Option<&Session>
+    ensures { option_map (λ s. s.now) result ≡ option_map (λ h. h.core) (half_at (map (half_in 0) halves.now) (place_of (map (half_in 0) halves.now) eid)) }
 {
-    let Some(place) = place_of(parts, eid) else {
+    let Some(place) = place_of(halves, eid) else {
         return None;
     };
-    Some(parts[place].session())
+    Some(&halves[place].core)
 }
 
-/// The place of the part for the sender of a packet.
-fn sender_of(parts: &[Part], bytes: &[u8]) -> Option<usize>
-    ensures place { result ≡ place_heard (map (half_in 0) parts.now) (packet_read bytes.now) }
-    ensures within { IfSome result (λ place. place < length parts.now) }
+/// The place of the half for the sender of a packet.
+fn sender_of(halves: &[Half<Session>], bytes: &[u8]) -> Option<usize>
+    ensures place { result ≡ place_heard (map (half_in 0) halves.now) (packet_read bytes.now) }
+    ensures within { IfSome result (λ place. place < length halves.now) }
 {
     let Ok(packet) = mctp_wire::decode(bytes) else {
         return None;
     };
-    place_of(parts, packet.head.source)
+    place_of(halves, packet.head.source)
 }
 
-/// The part at a place hears the bytes of a packet.
+/// The half at a place hears the bytes of a packet.
 #[tactic(auto, using(crate::proofs::Places::places))]
 fn hear_at<'p>(
-    parts: &mut [Part],
+    halves: &mut [Half<Session>],
     place: usize,
-    desk: &mut Desk,
+    identity: &mut Identity,
+    log: &mut Sel,
     packages: &'p [Package<'p>],
     bytes: &[u8],
     now: u32,
     outbox: &mut Outbox,
 )
-    requires place { place < length parts.old }
+    requires place { place < length halves.old }
     requires outbox { outbox.old ≡ [] }
-    ensures after { agent_of 0 desk.new parts.new ≡ (hears_at packages.now (agent_of 0 desk.old parts.old) bytes.now now (Some place) (slice_get (map (half_in 0) parts.old) place)).agent }
-    ensures sent { outbox.new ≡ all_packets (hears_at packages.now (agent_of 0 desk.old parts.old) bytes.now now (Some place) (slice_get (map (half_in 0) parts.old) place)).sent }
-    ensures told { IfSome (slice_get (map (half_in 0) parts.old) place) (λ h. IsTold (half_hears (session_core packages.now) true h bytes.now)) }
-    ensures spoken { IfSome (slice_get (map (half_in 0) parts.old) place) (SpeaksHearing packages.now (agent_of 0 desk.old parts.old) bytes.now) }
-    ensures count { length parts.new ≡ length parts.old }
+    ensures after { agent_of 0 identity.new log.new halves.new ≡ (hears_at packages.now (agent_of 0 identity.old log.old halves.old) bytes.now now (Some place) (slice_get (map (half_in 0) halves.old) place)).agent }
+    ensures sent { outbox.new ≡ all_packets (hears_at packages.now (agent_of 0 identity.old log.old halves.old) bytes.now now (Some place) (slice_get (map (half_in 0) halves.old) place)).sent }
+    ensures told { IfSome (slice_get (map (half_in 0) halves.old) place) (λ h. IsTold (half_hears (session_core packages.now) true h bytes.now)) }
+    ensures spoken { IfSome (slice_get (map (half_in 0) halves.old) place) (SpeaksHearing packages.now (agent_of 0 identity.old log.old halves.old) bytes.now) }
+    ensures count { length halves.new ≡ length halves.old }
 {
-    parts[place].hear(desk, packages, bytes, now, outbox);
+    hear(
+        &mut halves[place],
+        identity,
+        log,
+        packages,
+        bytes,
+        now,
+        outbox,
+    );
 }
 
 /// The session at a place starts an update, and it is noted.
 fn start_at<'p>(
-    parts: &mut [Part],
+    halves: &mut [Half<Session>],
     place: usize,
     log: &mut Sel,
     packages: &'p [Package<'p>],
     number: usize,
     now: u32,
 ) -> Result<(), StartFault>
-    requires { place < length parts.old }
-    ensures parts { OnOk result (parts.new ≡ parts_called parts.old place (part_started packages.now number)) }
-    ensures log { OnOk result (log.new ≡ parts_noted log.old now parts.old place (part_started packages.now number)) }
-    ensures free { OnOk result (part_free (slice_get parts.old place) ≡ Some true) }
-    ensures busy { IfErr result (λ e. (e ≡ StartFault.Busy) ↔ (part_free (slice_get parts.old place) ≡ Some false)) }
-    ensures kept { OnErr result (parts.new ≡ parts.old) }
+    requires { place < length halves.old }
+    ensures halves { OnOk result (halves.new ≡ halves_called halves.old place (half_started packages.now number)) }
+    ensures log { OnOk result (log.new ≡ halves_noted log.old now halves.old place (half_started packages.now number)) }
+    ensures free { OnOk result (half_free (slice_get halves.old place) ≡ Some true) }
+    ensures busy { IfErr result (λ e. (e ≡ StartFault.Busy) ↔ (half_free (slice_get halves.old place) ≡ Some false)) }
+    ensures kept { OnErr result (halves.new ≡ halves.old) }
     ensures unnoted { OnErr result (log.new ≡ log.old) }
-    ensures spoken { OnOk result (IfSome (slice_get parts.old place) (λ p. MaySpeak (session_core packages.now) (part_started packages.now number p).session)) }
-    ensures count { length parts.new ≡ length parts.old }
+    ensures spoken { OnOk result (IfSome (slice_get halves.old place) (λ p. MaySpeak (session_core packages.now) (half_started packages.now number p).core)) }
+    ensures count { length halves.new ≡ length halves.old }
 {
-    match parts[place].start(log, packages, number, now) {
+    match start(&mut halves[place], log, packages, number, now) {
         Ok(()) => {}
         Err(fault) => return Err(fault),
     }
@@ -371,91 +383,91 @@ fn start_at<'p>(
 
 /// The session at a place is cancelled, and it is noted.
 fn cancel_at<'p>(
-    parts: &mut [Part],
+    halves: &mut [Half<Session>],
     place: usize,
     log: &mut Sel,
     packages: &'p [Package<'p>],
     now: u32,
 )
-    requires { place < length parts.old }
-    ensures parts { parts.new ≡ parts_called parts.old place (part_cancelled packages.now) }
-    ensures log { log.new ≡ parts_noted log.old now parts.old place (part_cancelled packages.now) }
-    ensures spoken { IfSome (slice_get parts.old place) (λ p. MaySpeak (session_core packages.now) (part_cancelled packages.now p).session) }
-    ensures count { length parts.new ≡ length parts.old }
+    requires { place < length halves.old }
+    ensures halves { halves.new ≡ halves_called halves.old place (half_cancelled packages.now) }
+    ensures log { log.new ≡ halves_noted log.old now halves.old place (half_cancelled packages.now) }
+    ensures spoken { IfSome (slice_get halves.old place) (λ p. MaySpeak (session_core packages.now) (half_cancelled packages.now p).core) }
+    ensures count { length halves.new ≡ length halves.old }
 {
-    parts[place].cancel(log, packages, now);
+    cancel(&mut halves[place], log, packages, now);
 }
 
 /// The session at a place has its device activate what it applied.
 fn activate_at<'p>(
-    parts: &mut [Part],
+    halves: &mut [Half<Session>],
     place: usize,
     log: &mut Sel,
     packages: &'p [Package<'p>],
     now: u32,
 ) -> Result<(), NotReady>
-    requires { place < length parts.old }
-    ensures parts { OnOk result (option_map (λ s. parts_called parts.old place (part_activated packages.now s)) (part_ready (slice_get parts.old place)) ≡ Some parts.new) }
-    ensures log { OnOk result (option_map (λ s. parts_noted log.old now parts.old place (part_activated packages.now s)) (part_ready (slice_get parts.old place)) ≡ Some log.new) }
-    ensures not { OnErr result (part_ready (slice_get parts.old place) ≡ None) }
-    ensures kept { OnErr result (parts.new ≡ parts.old) }
+    requires { place < length halves.old }
+    ensures halves { OnOk result (option_map (λ s. halves_called halves.old place (half_activated packages.now s)) (half_ready (slice_get halves.old place)) ≡ Some halves.new) }
+    ensures log { OnOk result (option_map (λ s. halves_noted log.old now halves.old place (half_activated packages.now s)) (half_ready (slice_get halves.old place)) ≡ Some log.new) }
+    ensures not { OnErr result (half_ready (slice_get halves.old place) ≡ None) }
+    ensures kept { OnErr result (halves.new ≡ halves.old) }
     ensures unnoted { OnErr result (log.new ≡ log.old) }
-    ensures spoken { OnOk result (IfSome (part_ready (slice_get parts.old place)) (λ s. MaySpeak (session_core packages.now) (record { session = s; idle = 0 }))) }
-    ensures count { length parts.new ≡ length parts.old }
+    ensures spoken { OnOk result (IfSome (half_ready (slice_get halves.old place)) (λ s. MaySpeak (session_core packages.now) (record { session = s; idle = 0 }))) }
+    ensures count { length halves.new ≡ length halves.old }
 {
-    match parts[place].activate(log, packages, now) {
+    match activate(&mut halves[place], log, packages, now) {
         Ok(()) => {}
         Err(fault) => return Err(fault),
     }
     Ok(())
 }
 
-/// The first part of a tick, for all parts.
+/// The first part of a tick, for all halves.
 fn grow_all<'p>(
-    parts: &mut [Part],
+    halves: &mut [Half<Session>],
     log: &mut Sel,
     packages: &'p [Package<'p>],
     now: u32,
     outbox: &mut Outbox,
 )
-    requires { length outbox.old + 4 * length parts.old ≤ 64 }
-    ensures halves { map (half_in 0) parts.new ≡ map (grown packages.now) (map (half_in 0) parts.old) }
-    ensures sent { outbox.new ≡ outbox.old ++ flat_map again_packets (map (half_in 0) parts.old) }
-    ensures few { length outbox.new + 4 * length (flat_map (begins packages.now) (map (grown packages.now) (map (half_in 0) parts.old))) ≤ length outbox.old + 4 * length parts.old }
-    ensures log { log.new ≡ notes (grown packages.now) now log.old (map (half_in 0) parts.old) }
-    ensures addressed { AllByRecursion (IsAddressed packages.now) (map (half_in 0) parts.old) }
-    ensures count { length parts.new ≡ length parts.old }
+    requires { length outbox.old + 4 * length halves.old ≤ 64 }
+    ensures halves { map (half_in 0) halves.new ≡ map (grown packages.now) (map (half_in 0) halves.old) }
+    ensures sent { outbox.new ≡ outbox.old ++ flat_map again_packets (map (half_in 0) halves.old) }
+    ensures few { length outbox.new + 4 * length (flat_map (begins packages.now) (map (grown packages.now) (map (half_in 0) halves.old))) ≤ length outbox.old + 4 * length halves.old }
+    ensures log { log.new ≡ notes (grown packages.now) now log.old (map (half_in 0) halves.old) }
+    ensures addressed { AllByRecursion (IsAddressed packages.now) (map (half_in 0) halves.old) }
+    ensures count { length halves.new ≡ length halves.old }
 {
-    for part in parts.iter_mut() {
-        part.grow(log, packages, now, outbox);
+    for half in halves.iter_mut() {
+        grow(half, log, packages, now, outbox);
     }
 }
 
-/// The second and third parts of a tick, for all parts.
+/// The second and third parts of a tick, for all halves.
 fn wait_all<'p>(
-    parts: &mut [Part],
+    halves: &mut [Half<Session>],
     log: &mut Sel,
     packages: &'p [Package<'p>],
     now: u32,
     outbox: &mut Outbox,
 )
-    requires { length outbox.old + 4 * length (flat_map (begins packages.now) (map (half_in 0) parts.old)) ≤ 64 }
-    ensures halves { map (half_in 0) parts.new ≡ map (ended packages.now) (map (half_in 0) parts.old) }
-    ensures sent { outbox.new ≡ outbox.old ++ flat_map (ended_packets packages.now) (map (half_in 0) parts.old) }
-    ensures log { log.new ≡ notes (waited packages.now) now log.old (map (half_in 0) parts.old) }
-    ensures spoken { AllByRecursion (HalfMaySpeak packages.now) (map (half_in 0) parts.new) }
-    ensures count { length parts.new ≡ length parts.old }
+    requires { length outbox.old + 4 * length (flat_map (begins packages.now) (map (half_in 0) halves.old)) ≤ 64 }
+    ensures halves { map (half_in 0) halves.new ≡ map (ended packages.now) (map (half_in 0) halves.old) }
+    ensures sent { outbox.new ≡ outbox.old ++ flat_map (ended_packets packages.now) (map (half_in 0) halves.old) }
+    ensures log { log.new ≡ notes (waited packages.now) now log.old (map (half_in 0) halves.old) }
+    ensures spoken { AllByRecursion (HalfMaySpeak packages.now) (map (half_in 0) halves.new) }
+    ensures count { length halves.new ≡ length halves.old }
 {
-    for part in parts.iter_mut() {
-        part.wait(log, packages, now, outbox);
+    for half in halves.iter_mut() {
+        wait(half, log, packages, now, outbox);
     }
 }
 
-/// All parts start anew.
-fn restart_all(parts: &mut [Part])
-    ensures { parts.new ≡ map part_restarted parts.old }
+/// All halves start anew.
+fn restart_all(halves: &mut [Half<Session>])
+    ensures { halves.new ≡ map half_restarted halves.old }
 {
-    for part in parts.iter_mut() {
-        part.restart();
+    for half in halves.iter_mut() {
+        half.restart();
     }
 }

@@ -3,12 +3,15 @@
 #![tactic(auto)]
 
 mod agent_node;
-mod desk;
+mod cores;
 mod device_node;
 mod ends;
+mod half;
+mod identity;
 mod incoming;
+mod notes;
+mod noting;
 mod outbox;
-mod part;
 mod sending;
 
 pub use agent_node::AgentNode;

@@ -1,7 +1,7 @@
 //! The names of states, as a report has them.
 
 ghost use Rattle.std.specs.Prelude.{◌≡◌};
-ghost use Rattle.fw_script.specs.Reports.{session_name, session_text, state_name};
+ghost use Rattle.fw_script.specs.Reports.{cause_name, session_name, session_text, state_name};
 
 use fd_core::State;
 use ua_core::{Cause, SessionState};
@@ -22,6 +22,24 @@ pub(crate) fn state_name(state: State) -> &'static str
 }
 
 /// The name of why a session failed.
+pub fn cause_name(cause: Cause) -> &'static str
+    ensures { result.now ≡ cause_name cause }
+{
+    match cause {
+        Cause::Silent => "Silent",
+        Cause::TimeOut => "TimeOut",
+        Cause::NoRecord => "NoRecord",
+        Cause::Plan => "Plan",
+        Cause::NothingToUpdate => "NothingToUpdate",
+        Cause::Answer => "Answer",
+        Cause::Refused => "Refused",
+        Cause::Transfer => "Transfer",
+        Cause::Verify => "Verify",
+        Cause::Apply => "Apply",
+    }
+}
+
+/// The name of a session that failed so.
 fn failure_name(cause: Cause) -> &'static str
     ensures { result.now ≡ session_name (SessionState.Failed cause) }
 {
@@ -40,7 +58,7 @@ fn failure_name(cause: Cause) -> &'static str
 }
 
 /// The name of where a session stands; of one that failed, with the cause.
-fn session_name(state: SessionState) -> &'static str
+pub fn session_name(state: SessionState) -> &'static str
     ensures { result.now ≡ session_name state }
 {
     match state {

@@ -1,5 +1,6 @@
 mod Activating
 mod Aging
+mod Cases
 mod Components
 mod Isolated
 mod Joins

@@ -1,3 +1,4 @@
+pub mod Cases
 pub mod Clocks
 pub mod Dead
 pub mod Deliveries

@@ -1,6 +1,7 @@
 //! Two replays side by side: what is between the agent and a device depends on no other device.
 
 ghost use Rattle.std.specs.Prelude.{◌≡◌, ◌<◌, IfErr, IfSome, IsOk, OnOk, length, slice_get, take};
+ghost use Rattle.fw_world.specs.Cases.{AgreementSeesThePair};
 ghost use Rattle.fw_world.specs.Isolation.{AgreeIn, DevicesAreIsolated, IsUnfailed, steps_of};
 ghost use Rattle.fw_world.specs.Replays.{Refuses, Run};
 
@@ -20,6 +21,12 @@ pub fn devices_are_isolated()
     links_are_lanes();
     links_are_messages();
 }
+
+/// What worlds that agree in a device can't differ in: the packets between it and the agent, either of their nodes, what happened to
+/// it, both clocks, the time, and the packages.
+pub fn agreement_sees_the_pair()
+    ensures law { AgreementSeesThePair }
+{}
 
 /// Takes these steps in the first world, then those in the second, each as `replay` does, and gives both results. One silent or
 /// broken device changes nothing between the agent and another: where the worlds agree in a device, the same steps concern it in

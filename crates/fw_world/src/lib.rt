@@ -21,7 +21,7 @@ pub use fw_message::{
     message_replay, messages_are_safe, runs_stay_tied, worlds_are_safe,
 };
 pub use headline::{clocks_keep_time, moments_are_tied, packets_are_messages, packets_are_safe};
-pub use isolation::{devices_are_isolated, replay_two};
+pub use isolation::{agreement_sees_the_pair, devices_are_isolated, replay_two};
 pub use joined::links_are_messages;
 pub use laws::links_are_lanes;
 pub use replays::replay;

@@ -1,5 +1,5 @@
 -- What an answering program does with a text that it reads piece by piece.
-use Rattle.std.specs.Prelude.{ℕ, ◌≡◌, ◌≢◌, ◌≤◌, ◌+◌, List, [], ◌∷◌, ◌++◌, length, take, Option}
+use Rattle.std.specs.Prelude.{ℕ, ◌≡◌, ◌≢◌, ◌≤◌, ◌<◌, ◌+◌, ◌*◌, ◌⊎◌, List, [], ◌∷◌, ◌++◌, length, take, Option}
 use Rattle.std.specs.Io.KnownBytes.{Appends, Consumes, IsAtEnd}
 use Rattle.mctp_ctl.specs.declared.answers.Endpoint.{Endpoint}
 use Rattle.fwupd_base.specs.Answers.{answers_of, lines_text, printed, tid_along}
@@ -74,3 +74,7 @@ pub record Reads (e : Endpoint) (tid count : ℕ) (read_before read_now written_
   pub size : length text + length past ≡ count
   pub read : Consumes read_before read_now (text ++ past)
   pub stands : Stands e tid text written_before written_now part
+
+-- There was no room for so many bytes more than the digits that are held, or none for the bytes that they spell together.
+abbrev pub LacksRoom : (digits most room spelled : ℕ) → Type 0
+LacksRoom digits most room spelled = (room < digits + most) ⊎ (2 * spelled < digits + most + 2)

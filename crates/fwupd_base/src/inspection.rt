@@ -1,6 +1,6 @@
 //! The text of `fwupd inspect`.
 
-ghost use Rattle.std.specs.Prelude.{◌≡◌, ◌≢◌, ◌++◌, ◌+◌, IfErr, IfOk, OnOk};
+ghost use Rattle.std.specs.Prelude.{◌≡◌, ◌≢◌, ◌++◌, ◌+◌, IfErr, IfOk, IsOk, OnOk};
 ghost use Rattle.std.specs.List.{flat_map};
 ghost use Rattle.std.specs.Result.{result_map_both};
 ghost use Rattle.fw_text.specs.Printing.{Adds};
@@ -199,6 +199,7 @@ pub enum InspectFault {
 pub fn inspect(alloc: Global, bytes: &[u8]) -> Result<Vec<u8>, InspectFault>
     ensures text { IfOk result (λ text. result_map_both inspect_of (λ e. e) (package_of bytes.now) ≡ Ok text.items) }
     ensures fault { IfErr result (λ e. e ≢ InspectFault.Memory → result_map_both (λ p. p) InspectFault.Package (package_of bytes.now) ≡ Err e) }
+    ensures memory { IfErr result (λ e. e ≡ InspectFault.Memory → IsOk (package_of bytes.now)) }
 {
     let contents = match Package::read(bytes) {
         Ok(contents) => contents,

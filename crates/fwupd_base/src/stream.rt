@@ -3,7 +3,7 @@
 ghost use Rattle.std.specs.Prelude.{◌≡◌, ◌≢◌, ◌≤◌, ◌+◌, ◌*◌, ◌++◌, List, ℕ, Option, length, vec_capacity, IfErr, OnErr, OnOk};
 ghost use Rattle.std.specs.Io.KnownBytes.{Appends, Keeps};
 ghost use Rattle.fwupd_base.specs.Answers.{answers_of, endpoint_of, printed, tid_left_by};
-ghost use Rattle.fwupd_base.specs.Stream.{Answered, Begins, Broken, BrokenOff, Stands, Stopped};
+ghost use Rattle.fwupd_base.specs.Stream.{Answered, Begins, Broken, BrokenOff, LacksRoom, Stands, Stopped};
 
 use crate::responder::Responder;
 use crate::retries::{read_some, write_whole};
@@ -49,7 +49,10 @@ fn write_answer<W: Write>(
     ensures capacity { vec_capacity bytes.old ≤ vec_capacity bytes.new }
 {
     let line = text::answer_line(responder, digits, bytes);
-    write_whole(writer, line.as_slice())
+    match write_whole(writer, line.as_slice()) {
+        Ok(()) => Ok(()),
+        Err(_) => Err(AnswerFault::Write),
+    }
 }
 
 /// Answers the lines that end in a piece of what was read, and holds what follows them.
@@ -99,6 +102,7 @@ fn make_room(held: &mut Vec<u8>, bytes: &mut Vec<u8>, most: usize) -> Result<(),
     ensures holds { OnOk result (length held.new.items + most ≤ vec_capacity held.new) }
     ensures decodes { OnOk result (length held.new.items + most ≤ 2 * vec_capacity bytes.new) }
     ensures fault { IfErr result (λ e. e ≡ AnswerFault.Memory) }
+    ensures lacked { OnErr result (LacksRoom (length held.old.items) most (vec_capacity held.old) (vec_capacity bytes.old)) }
 {
     let Ok(()) = held.reserve(most) else {
         return Err(AnswerFault::Memory);
@@ -179,7 +183,7 @@ pub fn answer_stream<R: Read, W: Write>(
         let read = match read_some(reader, buffer, most) {
             Ok(0) => return finish(&mut responder, &held, &mut bytes, writer),
             Ok(read) => read,
-            Err(fault) => return Err(fault),
+            Err(_) => return Err(AnswerFault::Read),
         };
         let within = read.min(LIMIT - count);
         match answer_piece(

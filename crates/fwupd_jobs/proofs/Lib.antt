@@ -1,6 +1,10 @@
 mod Answering
 mod Builds
+mod Checks
+mod Ended
 mod Examined
+mod Foretold
+mod Leading
 mod Making
 mod Packed
 mod Started

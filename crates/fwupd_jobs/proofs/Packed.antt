@@ -1,8 +1,8 @@
 -- Files that are read one after the other.
-use Rattle.std.proofs.Common.{◌≡◌, ◌≢◌, ◌<◌, ◌+◌, ◌++◌, ◌⊎◌, ◌∙◌, ℕ, zero, suc, Bool, List, [], ◌∷◌, false, true, Result, Ok, Err, IsOk, inl, inr, length, map, take, get_or, Vec, String, Global, refl, sym, ap, subst, arith}
+use Rattle.std.proofs.Common.{◌≡◌, ◌≢◌, ◌≤◌, ◌<◌, ◌+◌, ◌++◌, ◌⊎◌, ◌∙◌, ℕ, zero, suc, Bool, List, [], ◌∷◌, false, true, Result, Ok, Err, IfOk, IsOk, inl, inr, length, map, take, get_or, Vec, String, Global, refl, sym, ap, subst, arith}
 use Rattle.std.specs.Prelude.{drop, string_bytes}
 use Rattle.std.proofs.Math.Seq.{split_at, take-suc}
-use Rattle.std.proofs.lemmas.List.{map-append}
+use Rattle.std.proofs.lemmas.List.{length-map, map-append}
 use Rattle.std.specs.List.{AllByRecursion}
 use Rattle.fw_package.specs.Package.{PackageText}
 use Rattle.fw_package.specs.Reading.{package_of}
@@ -11,13 +11,14 @@ use Rattle.fw_node.specs.Nodes.{DeviceNodeOf}
 use Rattle.fw_script.specs.Configs.{config_of}
 use Rattle.fw_script.specs.Seen.{config_seen, device_of}
 use Rattle.fw_script.specs.declared.config.Config.{Config}
+use Rattle.fw_script.specs.declared.faults.ScriptCause.{ScriptCause}
 use Rattle.fw_script.specs.declared.faults.ScriptCause.TheVariants as causes
 use Rattle.fw_script.specs.declared.faults.ScriptFault.{ScriptFault}
 use Rattle.fw_world.specs.Replays.{new_world}
 use Rattle.fw_world.specs.Worlds.{WorldOf}
 use Rattle.fwupd_jobs.specs.Nodes.{nodes_made}
 use Rattle.fwupd_jobs.specs.Running.{IsApart, IsBarred, IsNamed, IsWatched, LacksTrace, ShowOf, WatchOf}
-use Rattle.fwupd_jobs.specs.Setups.{ArePackages, ArePacked, FileOf, IsOver, IsOverOne, IsPacked, IsSetup, IsUnreadable, IsUnsaid, MayHold, NamesNone, PackageFails, PackagesFail, Says, TextFails, TextFault}
+use Rattle.fwupd_jobs.specs.Setups.{ArePackages, ArePacked, FileOf, IsOver, IsOverOne, IsPacked, IsSetup, IsUnreadable, IsUnsaid, MayHold, PackageFails, PackagesFail, Says, TextFails, TextFault, misread_by, misread_told, unread_told}
 use Rattle.fwupd_jobs.specs.declared.faults.RunFault.{RunFault}
 use Rattle.fwupd_jobs.specs.declared.faults.RunFault.TheVariants as faults
 use Rattle.fwupd_jobs.specs.declared.files.FileFault.{FileFault}
@@ -36,8 +37,36 @@ unsaid_so read path text file fault faults.NoPackage h held is = absurd h
 unsaid_so read path text file fault (faults.Socket device) h held is = absurd h
 unsaid_so read path text file fault faults.Trace h held is = absurd h
 unsaid_so read path text file fault (faults.Edge f) h held is = absurd h
+unsaid_so read path text file fault (faults.Session device word) h held is = absurd h
 unsaid_so read path text file fault faults.Output h held is = absurd h
 unsaid_so read path text file fault faults.Memory h held is = absurd h
+
+-- a file's fault is told by its name
+pub told_unread : {E : Type 0} (path : List ℕ) (name : Result (String Global) E) (fault : FileFault) (told : RunFault) → IfOk name (λ t. string_bytes t ≡ path) → told ≡ unread_told name fault
+    → (told ≡ faults.Memory) ⊎ ((fault ≡ unread.Unreadable) × IsUnreadable path told)
+told_unread path (Ok name) unread.Unreadable told is e = inr (refl, subst (IsUnreadable path) (sym e) is)
+told_unread path (Ok name) unread.Memory told is e = inl e
+told_unread path (Err x) unread.Unreadable told is e = inl e
+told_unread path (Err x) unread.Memory told is e = inl e
+
+-- and a text's
+told_named : (E : Type 0) (path : List ℕ) (name : String Global) (cause : ScriptCause) (fault : ScriptFault) (told : RunFault) → string_bytes name ≡ path → fault.cause ≡ cause
+    → told ≡ misread_by {E = E} (Ok name) cause fault → (told ≡ faults.Memory) ⊎ TextFault path fault told
+told_named E path name causes.Directive fault told named is e = inr (subst (TextFault path fault) (sym e) (named, refl, λ memory. absurd (cc)))
+told_named E path name causes.Fields fault told named is e = inr (subst (TextFault path fault) (sym e) (named, refl, λ memory. absurd (cc)))
+told_named E path name causes.Order fault told named is e = inr (subst (TextFault path fault) (sym e) (named, refl, λ memory. absurd (cc)))
+told_named E path name causes.Number fault told named is e = inr (subst (TextFault path fault) (sym e) (named, refl, λ memory. absurd (cc)))
+told_named E path name causes.Hex fault told named is e = inr (subst (TextFault path fault) (sym e) (named, refl, λ memory. absurd (cc)))
+told_named E path name causes.Range fault told named is e = inr (subst (TextFault path fault) (sym e) (named, refl, λ memory. absurd (cc)))
+told_named E path name causes.Duplicate fault told named is e = inr (subst (TextFault path fault) (sym e) (named, refl, λ memory. absurd (cc)))
+told_named E path name causes.Limit fault told named is e = inr (subst (TextFault path fault) (sym e) (named, refl, λ memory. absurd (cc)))
+told_named E path name causes.Missing fault told named is e = inr (subst (TextFault path fault) (sym e) (named, refl, λ memory. absurd (cc)))
+told_named E path name causes.Memory fault told named is e = inl e
+
+pub told_misread : (E : Type 0) (path : List ℕ) (name : Result (String Global) E) (fault : ScriptFault) (told : RunFault) → IfOk name (λ t. string_bytes t ≡ path) → told ≡ misread_told name fault
+    → (told ≡ faults.Memory) ⊎ TextFault path fault told
+told_misread E path (Ok name) fault told named e = told_named E path name fault.cause fault told named refl e
+told_misread E path (Err x) fault told named e = inl e
 
 -- a file that isn't read
 pub unread_text : {A : Type 0} (read : List ℕ → Result A ScriptFault) (files : List ℕ → FileOf) (path : List ℕ) (fault : FileFault) (told : RunFault)
@@ -138,7 +167,7 @@ over_item files written (x ∷ others) zero other name lt is called h = inl (sub
 over_item files written (x ∷ others) (suc i) other name lt is called h = inr (over_item files written others i other name (omega arith) is called h)
 
 -- the bytes of the files, as vectors
-through : (fs : List (Vec ℕ Global)) → map (λ f. package_of f.items) fs ≡ map package_of (map (λ f. f.items) fs)
+pub through : (fs : List (Vec ℕ Global)) → map (λ f. package_of f.items) fs ≡ map package_of (map (λ f. f.items) fs)
 through [] = refl
 through (f ∷ fs) = ap (λ rs. package_of f.items ∷ rs) (through fs)
 
@@ -169,71 +198,59 @@ set_up files path config names contents slice ps packs nodes w says named packed
       ∙ ap (λ q. new_world config.agent (nodes_made config.agent.eid (map device_of config.devices.items)) q) lent;
 }
 
-nothing : {A : Type 0} (xs : List A) → length xs ≡ 0 → xs ≡ []
-nothing [] e = refl
-nothing (x ∷ xs) e = absurd (omega arith)
+-- as many packages as there are files of them
+pub as_many : (files : List ℕ → FileOf) (paths : List (List ℕ)) (ps : List PackageText) → ArePackages files paths ps → length ps ≡ length paths
+as_many files [] [] h = refl
+as_many files [] (p ∷ ps) h = absurd h
+as_many files (path ∷ paths) [] h = absurd h
+as_many files (path ∷ paths) (p ∷ ps) h = ap suc (as_many files paths ps h.1)
 
--- it names no package
-pub names_none : (files : List ℕ → FileOf) (path : List ℕ) (config : Config) → Says config_of (files path) (config_seen config) → config.packages.len ≡ 0 → NamesNone files path
-names_none files path config says none = record {
-  config = config_seen config;
-  says = says;
-  none = ap (map (λ p. string_bytes p)) (nothing config.packages.items (sym config.packages.ok.0 ∙ none));
-}
+as_named : (config : Config) → length (map (λ p. string_bytes p) config.packages.items) ≡ config.packages.len
+as_named config = length-map config.packages.items (λ p. string_bytes p) ∙ sym config.packages.ok.0
 
--- and one that names a package
-some_packages : (files : List ℕ → FileOf) (paths : List (List ℕ)) (ps : List PackageText) → ArePackages files paths ps → paths ≢ [] → ps ≢ []
-some_packages files [] ps h none e = none refl
-some_packages files (path ∷ paths) [] h none e = h
-some_packages files (path ∷ paths) (p ∷ ps) h none e = cc
-
-some_named : (config : Config) → (config.packages.len ≡ 0 → ⊥) → map (λ p. string_bytes p) config.packages.items ≢ []
-some_named config some e = some (config.packages.ok.0 ∙ none config.packages.items e)
-  where
-    none : (xs : List (String Global)) → map (λ p. string_bytes p) xs ≡ [] → length xs ≡ 0
-    none [] h = refl
-    none (x ∷ xs) h = absurd cc
-
-named_up : (files : List ℕ → FileOf) (path : List ℕ) (config : Config) (w : WorldOf) (s : IsSetup files path w) → s.config ≡ config_seen config → (config.packages.len ≡ 0 → ⊥) → IsNamed files path w
-named_up files path config w s is some = record {
+-- where it names a package of this number
+named_up : (files : List ℕ → FileOf) (path : List ℕ) (number : ℕ) (config : Config) (w : WorldOf) (s : IsSetup files path w) → s.config ≡ config_seen config → 1 ≤ number → number ≤ config.packages.len → IsNamed files path number w
+named_up files path number config w s is counted there = record {
   setup = s;
-  some = λ e.
-      some_packages files s.config.packages s.packages s.are (subst (λ k. k.packages ≢ []) (sym is) (some_named config some)) (sym (ap (λ x. x.packages) s.world) ∙ e);
+  counted = counted;
+  there =
+      subst (λ n. number ≤ n)
+      (sym (ap (λ x. length x.packages) s.world ∙ as_many files s.config.packages s.packages s.are ∙ ap (λ k. length k.packages) is ∙ as_named config)) there;
 }
 
-pub set_up_named : (files : List ℕ → FileOf) (path : List ℕ) (config : Config) (names : List (String Global)) (contents slice : List (Vec ℕ Global)) (ps packs : List PackageText)
+pub set_up_named : (files : List ℕ → FileOf) (path : List ℕ) (number : ℕ) (config : Config) (names : List (String Global)) (contents slice : List (Vec ℕ Global)) (ps packs : List PackageText)
     (w : WorldOf) → Says config_of (files path) (config_seen config) → names ≡ config.packages.items
     → ArePacked files (map (λ p. string_bytes p) names) (map (λ f. f.items) contents) → slice ≡ contents → map (λ p. Ok p) ps ≡ map (λ f. package_of f.items) slice
-    → packs ≡ ps → w ≡ new_world config.agent (nodes_made config.agent.eid (map device_of config.devices.items)) packs → (config.packages.len ≡ 0 → ⊥) → IsNamed files path w
+    → packs ≡ ps → w ≡ new_world config.agent (nodes_made config.agent.eid (map device_of config.devices.items)) packs → 1 ≤ number → number ≤ config.packages.len → IsNamed files path number w
 unfolding set_up
-set_up_named files path config names contents slice ps packs w says named packed same read lent is some =
-    named_up files path config w (set_up files path config names contents slice ps packs _ w says named packed same read refl lent is) refl some
+set_up_named files path number config names contents slice ps packs w says named packed same read lent is counted there =
+    named_up files path number config w (set_up files path config names contents slice ps packs _ w says named packed same read refl lent is) refl counted there
 
 -- where the packets are written over none of them
-pub watched_up : (files : List ℕ → FileOf) (path : List ℕ) (config : Config) (show : ShowOf) (names : List (String Global)) (contents slice : List (Vec ℕ Global)) (ps packs : List PackageText)
+pub watched_up : (files : List ℕ → FileOf) (path : List ℕ) (number : ℕ) (config : Config) (show : ShowOf) (names : List (String Global)) (contents slice : List (Vec ℕ Global)) (ps packs : List PackageText)
     (w : WorldOf) → Says config_of (files path) (config_seen config) → names ≡ config.packages.items
     → ArePacked files (map (λ p. string_bytes p) names) (map (λ f. f.items) contents) → slice ≡ contents → map (λ p. Ok p) ps ≡ map (λ f. package_of f.items) slice
-    → packs ≡ ps → w ≡ new_world config.agent (nodes_made config.agent.eid (map device_of config.devices.items)) packs → (config.packages.len ≡ 0 → ⊥)
-    → (others : List (String Global)) → others ≡ config.packages.items → IsApart files show (path ∷ map (λ p. string_bytes p) others) → IsWatched files path show w
+    → packs ≡ ps → w ≡ new_world config.agent (nodes_made config.agent.eid (map device_of config.devices.items)) packs → 1 ≤ number → number ≤ config.packages.len
+    → (others : List (String Global)) → others ≡ config.packages.items → IsApart files show (path ∷ map (λ p. string_bytes p) others) → IsWatched files path number show w
 unfolding set_up_named set_up named_up
-watched_up files path config show names contents slice ps packs w says named packed same read lent is some others are apart = record {
-  named = set_up_named files path config names contents slice ps packs w says named packed same read lent is some;
+watched_up files path number config show names contents slice ps packs w says named packed same read lent is counted there others are apart = record {
+  named = set_up_named files path number config names contents slice ps packs w says named packed same read lent is counted there;
   apart = subst (λ qs. IsApart files show (path ∷ map (λ p. string_bytes p) qs)) are apart;
 }
 
 -- where what looks on doesn't begin
-pub barred_up : (files : List ℕ → FileOf) (path : List ℕ) (config : Config) (show : ShowOf) (refuses : List ℕ → Bool) (told : RunFault) (watched : WatchOf) (names : List (String Global))
+pub barred_up : (files : List ℕ → FileOf) (path : List ℕ) (number : ℕ) (config : Config) (show : ShowOf) (refuses : List ℕ → Bool) (told : RunFault) (watched : WatchOf) (names : List (String Global))
     (contents slice : List (Vec ℕ Global)) (ps packs : List PackageText) (w : WorldOf) → Says config_of (files path) (config_seen config) → names ≡ config.packages.items
     → ArePacked files (map (λ p. string_bytes p) names) (map (λ f. f.items) contents) → slice ≡ contents → map (λ p. Ok p) ps ≡ map (λ f. package_of f.items) slice
-    → packs ≡ ps → w ≡ new_world config.agent (nodes_made config.agent.eid (map device_of config.devices.items)) packs → (config.packages.len ≡ 0 → ⊥)
+    → packs ≡ ps → w ≡ new_world config.agent (nodes_made config.agent.eid (map device_of config.devices.items)) packs → 1 ≤ number → number ≤ config.packages.len
     → (others : List (String Global)) → others ≡ config.packages.items
     → (told ≡ faults.Memory) ⊎ ((told ≡ faults.Trace) × IsBarred files refuses show (path ∷ map (λ p. string_bytes p) others) watched)
-    → (told ≡ faults.Memory) ⊎ LacksTrace files path show refuses told watched
+    → (told ≡ faults.Memory) ⊎ LacksTrace files path number show refuses told watched
 unfolding set_up_named set_up named_up
-barred_up files path config show refuses told watched names contents slice ps packs w says named packed same read lent is some others are (inl e) = inl e
-barred_up files path config show refuses told watched names contents slice ps packs w says named packed same read lent is some others are (inr h) = inr (record {
+barred_up files path number config show refuses told watched names contents slice ps packs w says named packed same read lent is counted there others are (inl e) = inl e
+barred_up files path number config show refuses told watched names contents slice ps packs w says named packed same read lent is counted there others are (inr h) = inr (record {
   is = h.0;
   world = w;
-  named = set_up_named files path config names contents slice ps packs w says named packed same read lent is some;
+  named = set_up_named files path number config names contents slice ps packs w says named packed same read lent is counted there;
   barred = subst (λ qs. IsBarred files refuses show (path ∷ map (λ p. string_bytes p) qs) watched) are h.1;
 })

@@ -31,25 +31,25 @@ take_next (y ∷ ys) zero x e = ap (λ z. z ∷ []) (let same : Some y ≡ Some 
 take_next (y ∷ ys) (suc i) x e = ap (λ zs. y ∷ zs) (take_next ys i x e)
 
 -- The updates of so many devices are started. A start changes no device.
-pub record Begun (w : WorldOf) (place : ℕ) (v : WorldOf) : Type 0 where
-  pub run : Run w (starts_of (take place w.sites)) v
+pub record Begun (number : ℕ) (w : WorldOf) (place : ℕ) (v : WorldOf) : Type 0 where
+  pub run : Run w (starts_of number (take place w.sites)) v
   pub same : v.sites ≡ w.sites
 
-pub begun_none : (w : WorldOf) → Begun w 0 w
-begun_none w = record { run = refl; same = refl }
+pub begun_none : (number : ℕ) (w : WorldOf) → Begun number w 0 w
+begun_none number w = record { run = refl; same = refl }
 
-abbrev start_of : SiteOf → Step
-start_of x = steps.Start x.node.endpoint.eid 1
+abbrev start_of : ℕ → SiteOf → Step
+start_of number x = steps.Start x.node.endpoint.eid number
 
-starts_next : (xs : List SiteOf) (place : ℕ) (x : SiteOf) → slice_get xs place ≡ Some x → starts_of (take (suc place) xs) ≡ starts_of (take place xs) ++ start_of x ∷ []
-starts_next xs place x e = ap starts_of (take_next xs place x e) ∙ map-append start_of (take place xs) (x ∷ [])
+starts_next : (number : ℕ) (xs : List SiteOf) (place : ℕ) (x : SiteOf) → slice_get xs place ≡ Some x → starts_of number (take (suc place) xs) ≡ starts_of number (take place xs) ++ start_of number x ∷ []
+starts_next number xs place x e = ap (starts_of number) (take_next xs place x e) ∙ map-append (start_of number) (take place xs) (x ∷ [])
 
-pub begun_more : (w v u : WorldOf) (place : ℕ) (x : SiteOf) → Begun w place v → slice_get v.sites place ≡ Some x → Leads v (steps.Start x.node.endpoint.eid 1) u → Begun w (place + 1) u
-begun_more w v u place x h e l = record {
+pub begun_more : (number : ℕ) (w v u : WorldOf) (place : ℕ) (x : SiteOf) → Begun number w place v → slice_get v.sites place ≡ Some x → Leads v (steps.Start x.node.endpoint.eid number) u → Begun number w (place + 1) u
+begun_more number w v u place x h e l = record {
   run =
       let next : suc place ≡ place + 1 = omega arith in
-      subst (λ ss. Run w ss u) (sym (starts_next w.sites place x (ap (λ xs. slice_get xs place) (sym h.same) ∙ e)) ∙ ap (λ n. starts_of (take n w.sites)) next)
-      (run_append w v u (starts_of (take place w.sites)) (start_of x ∷ []) h.run (u, l, refl));
+      subst (λ ss. Run w ss u) (sym (starts_next number w.sites place x (ap (λ xs. slice_get xs place) (sym h.same) ∙ e)) ∙ ap (λ n. starts_of number (take n w.sites)) next)
+      (run_append w v u (starts_of number (take place w.sites)) (start_of number x ∷ []) h.run (u, l, refl));
   same = ap (λ y. y.sites) l.after ∙ h.same;
 }
 
@@ -58,17 +58,17 @@ node_there : (o : Option SiteOf) (n : DeviceNodeOf) → option_map (λ x. x.node
 node_there None n e = absurd cc
 node_there (Some x) n e = (x, refl, (let same : Some x.node ≡ Some n = e in cc))
 
-pub begun_by : (w v u : WorldOf) (place device : ℕ) (n : DeviceNodeOf) → Begun w place v → option_map (λ x. x.node) (slice_get v.sites place) ≡ Some n → device ≡ n.endpoint.eid
-    → Leads v (steps.Start device 1) u → Begun w (place + 1) u
-begun_by w v u place device n h at is l =
+pub begun_by : (number : ℕ) (w v u : WorldOf) (place device : ℕ) (n : DeviceNodeOf) → Begun number w place v → option_map (λ x. x.node) (slice_get v.sites place) ≡ Some n → device ≡ n.endpoint.eid
+    → Leads v (steps.Start device number) u → Begun number w (place + 1) u
+begun_by number w v u place device n h at is l =
     let there = node_there (slice_get v.sites place) n at in
     let own : device ≡ there.0.node.endpoint.eid = is ∙ ap (λ m. m.endpoint.eid) (sym there.2) in
-    begun_more w v u place there.0 h there.1 (subst (λ d. Leads v (steps.Start d 1) u) own l)
+    begun_more number w v u place there.0 h there.1 (subst (λ d. Leads v (steps.Start d number) u) own l)
 
 -- its start isn't allowed
-pub refused_at : (w v : WorldOf) (place device : ℕ) (n : DeviceNodeOf) (fault : StepFault) → Begun w place v → option_map (λ x. x.node) (slice_get v.sites place) ≡ Some n → device ≡ n.endpoint.eid
-    → may_step v (steps.Start device 1) ≡ Some fault → IsRefusedStart w v
-refused_at w v place device n fault h at is refused =
+pub refused_at : (number : ℕ) (w v : WorldOf) (place device : ℕ) (n : DeviceNodeOf) (fault : StepFault) → Begun number w place v → option_map (λ x. x.node) (slice_get v.sites place) ≡ Some n → device ≡ n.endpoint.eid
+    → may_step v (steps.Start device number) ≡ Some fault → IsRefusedStart number w v
+refused_at number w v place device n fault h at is refused =
     let there = node_there (slice_get v.sites place) n at in
     let own : device ≡ there.0.node.endpoint.eid = is ∙ ap (λ m. m.endpoint.eid) (sym there.2) in
     record {
@@ -77,43 +77,43 @@ refused_at w v place device n fault h at is refused =
       at = ap (λ xs. slice_get xs place) (sym h.same) ∙ there.1;
       begun = h.run;
       fault = fault;
-      refused = subst (λ d. may_step v (steps.Start d 1) ≡ Some fault) own refused;
+      refused = subst (λ d. may_step v (steps.Start d number) ≡ Some fault) own refused;
     }
 
-pub begun_all : (w v : WorldOf) (place : ℕ) → Begun w place v → place ≡ length v.sites → Run w (starts_of w.sites) v
-begun_all w v place h e =
-    subst (λ xs. Run w (starts_of xs) v) (ap (λ n. take n w.sites) (e ∙ ap length h.same) ∙ take-length w.sites) h.run
+pub begun_all : (number : ℕ) (w v : WorldOf) (place : ℕ) → Begun number w place v → place ≡ length v.sites → Run w (starts_of number w.sites) v
+begun_all number w v place h e =
+    subst (λ xs. Run w (starts_of number xs) v) (ap (λ n. take n w.sites) (e ∙ ap length h.same) ∙ take-length w.sites) h.run
 
-pub begun_reached : (w v : WorldOf) (place : ℕ) → Begun w place v → StepsLead w v
-begun_reached w v place h = record {
+pub begun_reached : (number : ℕ) (w v : WorldOf) (place : ℕ) → Begun number w place v → StepsLead number w v
+begun_reached number w v place h = record {
   started = place;
   steps = [];
-  run = subst (λ ss. Run w ss v) (sym (append-nil (starts_of (take place w.sites)))) h.run;
+  run = subst (λ ss. Run w ss v) (sym (append-nil (starts_of number (take place w.sites)))) h.run;
   driven = refl;
   all = inl refl;
 }
 
 -- steps that are taken once all are started
-led : (w v : WorldOf) (ss : List Step) → Run w (starts_of w.sites ++ ss) v → AreDriven ss → StepsLead w v
-led w v ss run driven = record {
+led : (number : ℕ) (w v : WorldOf) (ss : List Step) → Run w (starts_of number w.sites ++ ss) v → AreDriven ss → StepsLead number w v
+led number w v ss run driven = record {
   started = length w.sites;
   steps = ss;
-  run = subst (λ xs. Run w (starts_of xs ++ ss) v) (sym (take-length w.sites)) run;
+  run = subst (λ xs. Run w (starts_of number xs ++ ss) v) (sym (take-length w.sites)) run;
   driven = driven;
   all = inr refl;
 }
 
 -- no tick has passed
-pub updates_none : (w v : WorldOf) → Run w (starts_of w.sites) v → Updates w v 0
-updates_none w v h = record { steps = []; run = subst (λ ss. Run w ss v) (sym (append-nil (starts_of w.sites))) h; driven = refl; ticks_are = refl }
+pub updates_none : (number : ℕ) (w v : WorldOf) → Run w (starts_of number w.sites) v → Updates number w v 0
+updates_none number w v h = record { steps = []; run = subst (λ ss. Run w ss v) (sym (append-nil (starts_of number w.sites))) h; driven = refl; ticks_are = refl }
 
 -- steps are taken over links, with so many ticks
-pub updates_more : (w v u : WorldOf) (ticks more : ℕ) (before after : List Step) → Updates w v ticks → before ≡ [] → Drives v before u after → ticks_in after ≡ ticks_in before + more → Updates w u (ticks + more)
-updates_more w v u ticks more before after h none k counts = record {
+pub updates_more : (number : ℕ) (w v u : WorldOf) (ticks more : ℕ) (before after : List Step) → Updates number w v ticks → before ≡ [] → Drives v before u after → ticks_in after ≡ ticks_in before + more → Updates number w u (ticks + more)
+updates_more number w v u ticks more before after h none k counts = record {
   steps = h.steps ++ k.steps;
   run =
-      subst (λ ss. Run w ss u) (append_assoc (starts_of w.sites) h.steps k.steps)
-      (run_append w v u (starts_of w.sites ++ h.steps) k.steps h.run k.run);
+      subst (λ ss. Run w ss u) (append_assoc (starts_of number w.sites) h.steps k.steps)
+      (run_append w v u (starts_of number w.sites ++ h.steps) k.steps h.run k.run);
   driven = driven_append h.steps k.steps h.driven k.driven;
   ticks_are =
       let a : ticks_in h.steps ≡ ticks = h.ticks_are in
@@ -124,14 +124,14 @@ updates_more w v u ticks more before after h none k counts = record {
 }
 
 -- whatever was done, steps led there
-pub updates_reached : (w v : WorldOf) (ticks : ℕ) → Updates w v ticks → StepsLead w v
-updates_reached w v ticks h = led w v h.steps h.run h.driven
+pub updates_reached : (number : ℕ) (w v : WorldOf) (ticks : ℕ) → Updates number w v ticks → StepsLead number w v
+updates_reached number w v ticks h = led number w v h.steps h.run h.driven
 
-pub updates_off : (w v u : WorldOf) (ticks : ℕ) (before after : List Step) → Updates w v ticks → Drives v before u after → StepsLead w u
-updates_off w v u ticks before after h k =
-    led w u (h.steps ++ k.steps)
-    (subst (λ ss. Run w ss u) (append_assoc (starts_of w.sites) h.steps k.steps)
-    (run_append w v u (starts_of w.sites ++ h.steps) k.steps h.run k.run))
+pub updates_off : (number : ℕ) (w v u : WorldOf) (ticks : ℕ) (before after : List Step) → Updates number w v ticks → Drives v before u after → StepsLead number w u
+updates_off number w v u ticks before after h k =
+    led number w u (h.steps ++ k.steps)
+    (subst (λ ss. Run w ss u) (append_assoc (starts_of number w.sites) h.steps k.steps)
+    (run_append w v u (starts_of number w.sites ++ h.steps) k.steps h.run k.run))
     (driven_append h.steps k.steps h.driven k.driven)
 
 -- what ends the watch is told otherwise than what ends a turn
@@ -156,10 +156,10 @@ first_still r old new f e first after =
     subst (λ q. IfErr q (λ g. new ≡ Some g)) is after
 
 -- the cause of an update's end
-pub update_caused : (w v : WorldOf) (fault : RunFault) (watched : WatchOf) → MayEnd fault → (fault ≡ told.Edge edges.Step → IsRefusedStart w v ⊎ (v.now ≡ 2 ^ 32 - 1))
-    → (fault ≡ told.Trace → watched.fault ≡ Some watches.Unwritten) → watched.has_ended ≡ true → (fault ≡ told.Memory) ⊎ IsCaused w v fault watched
-update_caused w v fault watched (inl e) step unwritten ended = inl e
-update_caused w v fault watched (inr b) step unwritten ended = inr (record { broken = b; stopped = step; unwritten = unwritten; let_end = ended })
+pub update_caused : (number : ℕ) (w v : WorldOf) (fault : RunFault) (watched : WatchOf) → MayEnd fault → (fault ≡ told.Edge edges.Step → IsRefusedStart number w v ⊎ (v.now ≡ 2 ^ 32 - 1))
+    → (fault ≡ told.Trace → watched.fault ≡ Some watches.Unwritten) → watched.has_ended ≡ true → (fault ≡ told.Memory) ⊎ IsCaused number w v fault watched
+update_caused number w v fault watched (inl e) step unwritten ended = inl e
+update_caused number w v fault watched (inr b) step unwritten ended = inr (record { broken = b; stopped = step; unwritten = unwritten; let_end = ended })
 
 -- a device to which no link is opened
 pub unlinked_at : (w : WorldOf) (lacks : ℕ → Bool) (place device : ℕ) (n : DeviceNodeOf) (fault : RunFault) → option_map (λ x. x.node) (slice_get w.sites place) ≡ Some n → device ≡ n.endpoint.eid
@@ -240,6 +240,6 @@ lost_told failures w olds news lost devices failed told = elim (told devices) [
 ]
 
 -- what it was told changes nothing of why a run doesn't go on
-pub caused_still : (w v : WorldOf) (fault : RunFault) (before now : WatchOf) → now.fault ≡ before.fault → now.has_ended ≡ before.has_ended → IsCaused w v fault before → IsCaused w v fault now
-caused_still w v fault before now same ended h =
+pub caused_still : (number : ℕ) (w v : WorldOf) (fault : RunFault) (before now : WatchOf) → now.fault ≡ before.fault → now.has_ended ≡ before.has_ended → IsCaused number w v fault before → IsCaused number w v fault now
+caused_still number w v fault before now same ended h =
     record { broken = h.broken; stopped = h.stopped; unwritten = λ e. same ∙ h.unwritten e; let_end = ended ∙ h.let_end }

@@ -11,14 +11,14 @@ use Rattle.fwupd_jobs.specs.Replayed.{IsReplayed, IsReport, Leaves, ReplayEnds, 
 use Rattle.fwupd_jobs.specs.Outputs.{FailsToPrint, OutputOf, Prints}
 use Rattle.fwupd_jobs.specs.Promises.{IsSafeSince}
 use Rattle.fwupd_jobs.specs.Running.{DrivingEnds, IsUnlinked, IsWatched, LacksLink, LacksTrace, NamesLost, ShowOf, StepsLead, UpdateEnds, WatchOf, shown_of, starts_of}
-use Rattle.fwupd_jobs.specs.Setups.{FileOf, IsSetup, NamesNone, Says, SetupFails, TextFails}
+use Rattle.fwupd_jobs.specs.Setups.{FileOf, IsSetup, LacksPackage, Says, SetupFails, TextFails}
 use Rattle.fw_edge.specs.declared.driving.EdgeFault.TheVariants as edges
 use Rattle.fwupd_jobs.specs.declared.faults.RunFault.{RunFault}
 use Rattle.fwupd_jobs.specs.declared.faults.RunFault.TheVariants as faults
 
 -- the world that steps lead to is safe
-pub safe_reached : (w v : WorldOf) → WorldsAreSafe → IsOpeningWorld w → StepsLead w v → IsSafeSince w v
-safe_reached w v law opens h = record { begins = opens; safe = law w v (starts_of (take h.started w.sites) ++ h.steps) opens h.run }
+pub safe_reached : (number : ℕ) (w v : WorldOf) → WorldsAreSafe → IsOpeningWorld w → StepsLead number w v → IsSafeSince w v
+safe_reached number w v law opens h = record { begins = opens; safe = law w v (starts_of number (take h.started w.sites) ++ h.steps) opens h.run }
 
 -- and so is the one that a replay leaves
 safe_left : (w v : WorldOf) (steps : List Step) (fault : Option (ℕ × StepFault)) → WorldsAreSafe → IsOpeningWorld w → Leaves w steps fault v → IsSafeWorld w v
@@ -37,30 +37,30 @@ replayed_by w x v steps fault text is opens law left report =
     })
 
 -- what looks on doesn't begin
-pub unbegun : (files : List ℕ → FileOf) (path : List ℕ) (show : ShowOf) (refuses : List ℕ → Bool) (lacks : ℕ → Bool) (told : RunFault) (watched : WatchOf) (before : OutputOf)
-    → (told ≡ faults.Memory) ⊎ LacksTrace files path show refuses told watched → UpdateEnds files path show refuses lacks told watched before before
-unbegun files path show refuses lacks told watched before (inl e) = inr (inr (record { kept = refl; cause = inl e }))
-unbegun files path show refuses lacks told watched before (inr h) = inr (inr (record { kept = refl; cause = inr (inr (inr (inl h))) }))
+pub unbegun : (files : List ℕ → FileOf) (path : List ℕ) (number : ℕ) (show : ShowOf) (refuses : List ℕ → Bool) (lacks : ℕ → Bool) (told : RunFault) (watched : WatchOf) (before : OutputOf)
+    → (told ≡ faults.Memory) ⊎ LacksTrace files path number show refuses told watched → UpdateEnds files path number show refuses lacks told watched before before
+unbegun files path number show refuses lacks told watched before (inl e) = inr (inr (record { kept = refl; cause = inl e }))
+unbegun files path number show refuses lacks told watched before (inr h) = inr (inr (record { kept = refl; cause = inr (inr (inr (inl h))) }))
 
 -- no link is opened
-unopened : (files : List ℕ → FileOf) (path : List ℕ) (show : ShowOf) (refuses : List ℕ → Bool) (lacks : ℕ → Bool) (w : WorldOf) (told : RunFault) (watched : WatchOf) → IsWatched files path show w
+unopened : (files : List ℕ → FileOf) (path : List ℕ) (number : ℕ) (show : ShowOf) (refuses : List ℕ → Bool) (lacks : ℕ → Bool) (w : WorldOf) (told : RunFault) (watched : WatchOf) → IsWatched files path number show w
     → (told ≡ faults.Memory) ⊎ IsUnlinked w lacks told
     → (told ≡ faults.Memory)
     ⊎ (SetupFails files path told
-    ⊎ (((told ≡ faults.NoPackage) × NamesNone files path) ⊎ (LacksTrace files path show refuses told watched ⊎ LacksLink files path show lacks told)))
-unopened files path show refuses lacks w told watched begins (inl e) = inl e
-unopened files path show refuses lacks w told watched begins (inr u) = inr (inr (inr (inr (record { world = w; begins = begins; unlinked = u }))))
+    ⊎ (((told ≡ faults.NoPackage) × LacksPackage files path number) ⊎ (LacksTrace files path number show refuses told watched ⊎ LacksLink files path number show lacks told)))
+unopened files path number show refuses lacks w told watched begins (inl e) = inl e
+unopened files path number show refuses lacks w told watched begins (inr u) = inr (inr (inr (inr (record { world = w; begins = begins; unlinked = u }))))
 
 -- a run over links that doesn't end well
-pub update_ends : (files : List ℕ → FileOf) (path : List ℕ) (show : ShowOf) (refuses : List ℕ → Bool) (lacks : ℕ → Bool) (w v : WorldOf) (told : RunFault) (watched : WatchOf) (before now : OutputOf)
-    → IsWatched files path show w → watched.shows ≡ shown_of show → StepsLead w v → IsSafeSince w v → (told ≡ faults.Edge edges.Frame → NamesLost v watched.lost) → DrivingEnds lacks w v told watched before now
-    → UpdateEnds files path show refuses lacks told watched before now
-update_ends files path show refuses lacks w v told watched before now begins shown reached promised lost (inl h) =
+pub update_ends : (files : List ℕ → FileOf) (path : List ℕ) (number : ℕ) (show : ShowOf) (refuses : List ℕ → Bool) (lacks : ℕ → Bool) (w v : WorldOf) (told : RunFault) (watched : WatchOf) (before now : OutputOf)
+    → IsWatched files path number show w → watched.shows ≡ shown_of show → StepsLead number w v → IsSafeSince w v → (told ≡ faults.Edge edges.Frame → NamesLost v watched.lost) → DrivingEnds number lacks w v told watched before now
+    → UpdateEnds files path number show refuses lacks told watched before now
+update_ends files path number show refuses lacks w v told watched before now begins shown reached promised lost (inl h) =
     inl (record { world = w; begins = begins; shown = shown; left = v; reached = reached; promised = promised; caused = h.0; lost = lost; written = h.1 })
-update_ends files path show refuses lacks w v told watched before now begins shown reached promised lost (inr (inl h)) =
+update_ends files path number show refuses lacks w v told watched before now begins shown reached promised lost (inr (inl h)) =
     inr (inl (record { is = h.0; world = w; begins = begins; left = v; reached = reached; promised = promised; begun = h.1 }))
-update_ends files path show refuses lacks w v told watched before now begins shown reached promised lost (inr (inr h)) =
-    inr (inr (record { kept = h.1; cause = unopened files path show refuses lacks w told watched begins h.0 }))
+update_ends files path number show refuses lacks w v told watched before now begins shown reached promised lost (inr (inr h)) =
+    inr (inr (record { kept = h.1; cause = unopened files path number show refuses lacks w told watched begins h.0 }))
 
 -- a replay whose schedule isn't read
 pub schedule_ends : (files : List ℕ → FileOf) (config schedule : List ℕ) (w : WorldOf) (told : RunFault) (before : OutputOf) → IsSetup files config w

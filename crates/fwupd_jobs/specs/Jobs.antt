@@ -2,10 +2,12 @@
 use Rattle.std.specs.Prelude.{ℕ, ◌≡◌, ◌⊎◌, Bool, true, false, List, None, Option}
 use Rattle.fwupd_jobs.specs.Answering.{AnswerEnds, Answers}
 use Rattle.fwupd_jobs.specs.Built.{BuildEnds, Builds}
+use Rattle.fwupd_jobs.specs.Checked.{CheckedEnds, ReportsChecked}
 use Rattle.fwupd_jobs.specs.Inspected.{InspectEnds, Inspects}
 use Rattle.fwupd_jobs.specs.Outputs.{OutputOf}
+use Rattle.fwupd_jobs.specs.Planned.{PlanEnds, Plans}
 use Rattle.fwupd_jobs.specs.Replayed.{ReplayEnds, Reports}
-use Rattle.fwupd_jobs.specs.Running.{ReportsUpdate, UpdateEnds, WatchOf, show_of}
+use Rattle.fwupd_jobs.specs.Running.{WatchOf, show_of}
 use Rattle.fwupd_jobs.specs.Setups.{FileOf, any_file}
 use Rattle.fwupd_jobs.specs.declared.command_line.Job.{Job}
 use Rattle.fwupd_jobs.specs.declared.command_line.Job.TheVariants as jobs
@@ -16,17 +18,19 @@ abbrev pub IsDone : Job → (files : List ℕ → FileOf) → (read_before read_
 IsDone (jobs.Answer endpoint) files read_before read_now watched is_known held before now = Answers endpoint read_before read_now before now
 IsDone (jobs.Inspect path) files read_before read_now watched is_known held before now = Inspects (files path.now) before now
 IsDone (jobs.Replay config schedule) files read_before read_now watched is_known held before now = Reports files config.now schedule.now None before now
-IsDone (jobs.Run config folder show) files read_before read_now watched is_known held before now = ReportsUpdate files config.now (show_of show) watched before now
+IsDone (jobs.Run config folder order show) files read_before read_now watched is_known held before now = ReportsChecked files config.now order (show_of show) watched before now
 IsDone (jobs.Build spec file) files read_before read_now watched is_known held before now = Builds files spec.now is_known (held file.now) × (now ≡ before)
+IsDone (jobs.Plan config number) files read_before read_now watched is_known held before now = Plans files config.now number before now
 
 -- How a job ends that isn't done.
 abbrev pub JobEnds : Job → (files : List ℕ → FileOf) → (refuses : (trace : List ℕ) → Bool) → (lacks : (folder : List ℕ) → (device : ℕ) → Bool) → (read_before read_now : Option (List ℕ)) → RunFault → WatchOf → (before now : OutputOf) → Type 0
 JobEnds (jobs.Answer endpoint) files refuses lacks read_before read_now told watched before now = AnswerEnds endpoint read_before read_now told before now
 JobEnds (jobs.Inspect path) files refuses lacks read_before read_now told watched before now = InspectEnds files path.now told before now
 JobEnds (jobs.Replay config schedule) files refuses lacks read_before read_now told watched before now = ReplayEnds files config.now schedule.now told before now
-JobEnds (jobs.Run config folder show) files refuses lacks read_before read_now told watched before now =
-    UpdateEnds files config.now (show_of show) refuses (lacks folder.now) told watched before now
+JobEnds (jobs.Run config folder order show) files refuses lacks read_before read_now told watched before now =
+    CheckedEnds files config.now order (show_of show) refuses (lacks folder.now) told watched before now
 JobEnds (jobs.Build spec file) files refuses lacks read_before read_now told watched before now = BuildEnds files spec.now told × (now ≡ before)
+JobEnds (jobs.Plan config number) files refuses lacks read_before read_now told watched before now = PlanEnds files config.now number told before now
 
 -- It isn't, and this is so of the fault that is told.
 pub record IsUndone (job : Job) (files : List ℕ → FileOf) (refuses : (trace : List ℕ) → Bool) (lacks : (folder : List ℕ) → (device : ℕ) → Bool) (read_before read_now : Option (List ℕ)) (watched : WatchOf) (before now : OutputOf) : Type 0 where
@@ -39,11 +43,9 @@ StatusSays status job files refuses lacks read_before read_now watched is_known 
     ((status ≡ 0) × IsDone job files read_before read_now watched is_known held before now)
     ⊎ ((status ≡ 1) × IsUndone job files refuses lacks read_before read_now watched before now)
 
--- So it says of a job over what the system has, of which nothing is known before.
-pub record SystemSays (status : ℕ) (job : Job) : Type 0 where
+-- So it says of a job over what the system has, of which nothing is known before, and over this output.
+pub record SystemSays (status : ℕ) (job : Job) (before now : OutputOf) : Type 0 where
   pub read_before : Option (List ℕ)
   pub read_now : Option (List ℕ)
   pub watched : WatchOf
-  pub before : OutputOf
-  pub now : OutputOf
   pub says : StatusSays status job (λ path. any_file) (λ trace. true) (λ folder device. true) read_before read_now watched false (λ path. None) before now

@@ -1,5 +1,5 @@
 -- What a run over links makes of a world, and what is written of it.
-use Rattle.std.specs.Prelude.{ℕ, suc, ◌≡◌, ◌≢◌, ◌≤◌, ◌-◌, ◌^◌, ◌++◌, ◌⊎◌, Bool, true, List, [], ◌∷◌, Option, None, Some, IfSome, is_some, length, map, option_map, slice_get, take}
+use Rattle.std.specs.Prelude.{ℕ, suc, ◌≡◌, ◌≢◌, ◌≤◌, ◌-◌, ◌^◌, ◌++◌, ◌⊎◌, Bool, false, true, if◌then◌else◌, List, [], ◌∷◌, Option, None, Some, IfSome, is_some, length, map, option_map, slice_get, take}
 use Rattle.std.specs.List.{AllByRecursion}
 use Rattle.fw_edge.specs.Drives.{AreDriven, all_over, ticks_in}
 use Rattle.fw_edge.specs.Ledgers.{OneFailed}
@@ -13,40 +13,42 @@ use Rattle.fw_world.specs.declared.step.Step.{Step}
 use Rattle.fw_world.specs.declared.step.Step.TheVariants as steps
 use Rattle.fwupd_jobs.specs.Outputs.{FailsToPrint, OutputOf, Prints}
 use Rattle.fwupd_jobs.specs.Promises.{IsSafeSince}
-use Rattle.fwupd_jobs.specs.Setups.{FileOf, IsApartFrom, IsOverOne, IsSetup, NamesNone, SetupFails}
+use Rattle.fwupd_jobs.specs.Sessions.{undone_in}
+use Rattle.fwupd_jobs.specs.Setups.{FileOf, IsApartFrom, IsOverOne, IsSetup, LacksPackage, SetupFails}
 use Rattle.fwupd_jobs.specs.declared.command_line.Show.{Show}
 use Rattle.fwupd_jobs.specs.declared.faults.RunFault.{RunFault}
 use Rattle.fwupd_jobs.specs.declared.faults.RunFault.TheVariants as faults
 use Rattle.fwupd_jobs.specs.declared.running.WatchFault.{WatchFault}
 use Rattle.fwupd_jobs.specs.declared.running.WatchFault.TheVariants as watches
+use Rattle.fwupd_jobs.specs.declared.sessions.Undone.{Undone}
 
--- the update of each device is started with package 1, in configured order
-abbrev pub starts_of : List SiteOf → List Step
-starts_of sites = map (λ x. steps.Start x.node.endpoint.eid 1) sites
+-- the update of each device is started with the package of this number, in configured order
+abbrev pub starts_of : (number : ℕ) → List SiteOf → List Step
+starts_of number sites = map (λ x. steps.Start x.node.endpoint.eid number) sites
 
 -- Each update is started.
-abbrev pub Starts : WorldOf → WorldOf → Type 0
-Starts w v = Run w (starts_of w.sites) v
+abbrev pub Starts : (number : ℕ) → WorldOf → WorldOf → Type 0
+Starts number w v = Run w (starts_of number w.sites) v
 
 -- Each update is started, and then what comes over links is done for so many ticks.
-pub record Updates (w v : WorldOf) (ticks : ℕ) : Type 0 where
+pub record Updates (number : ℕ) (w v : WorldOf) (ticks : ℕ) : Type 0 where
   pub steps : List Step
-  pub run : Run w (starts_of w.sites ++ steps) v
+  pub run : Run w (starts_of number w.sites ++ steps) v
   pub driven : AreDriven steps
   pub ticks_are : ticks_in steps ≡ ticks
 
 -- Each session is Done or Failed, or 80,000 ticks have passed, and no more.
-pub record IsUpdated (w v : WorldOf) : Type 0 where
+pub record IsUpdated (number : ℕ) (w v : WorldOf) : Type 0 where
   pub ticks : ℕ
-  pub updates : Updates w v ticks
+  pub updates : Updates number w v ticks
   pub within : ticks ≤ 80000
   pub ended : (all_over v ≡ true) ⊎ (ticks ≡ 80000)
 
 -- The updates of the first so many devices are started, and once all are, what comes over links is done.
-pub record StepsLead (w v : WorldOf) : Type 0 where
+pub record StepsLead (number : ℕ) (w v : WorldOf) : Type 0 where
   pub started : ℕ
   pub steps : List Step
-  pub run : Run w (starts_of (take started w.sites) ++ steps) v
+  pub run : Run w (starts_of number (take started w.sites) ++ steps) v
   pub driven : AreDriven steps
   pub all : (steps ≡ []) ⊎ (started ≡ length w.sites)
 
@@ -71,14 +73,14 @@ told_by watches.Memory = faults.Memory
 abbrev pub AreToldOf : RunFault → List ℕ → List ℕ → Type 0
 AreToldOf told os ns = (told ≡ faults.Edge edges.Frame → OneFailed os ns) × (told ≢ faults.Edge edges.Frame → ns ≡ os)
 
--- The updates of the devices before one are started, and its start with package 1 is not allowed.
-pub record IsRefusedStart (w v : WorldOf) : Type 0 where
+-- The updates of the devices before one are started, and its start with the package of this number is not allowed.
+pub record IsRefusedStart (number : ℕ) (w v : WorldOf) : Type 0 where
   pub place : ℕ
   pub site : SiteOf
   pub at : slice_get w.sites place ≡ Some site
-  pub begun : Run w (starts_of (take place w.sites)) v
+  pub begun : Run w (starts_of number (take place w.sites)) v
   pub fault : StepFault
-  pub refused : may_step v (steps.Start site.node.endpoint.eid 1) ≡ Some fault
+  pub refused : may_step v (steps.Start site.node.endpoint.eid number) ≡ Some fault
 
 -- or memory was refused
 abbrev pub MayEnd : RunFault → Type 0
@@ -97,6 +99,10 @@ show_of s = record { is_quiet = s.is_quiet; trace = option_map (λ path. path.no
 pub record ShownOf : Type 0 where
   pub is_quiet : Bool
   pub is_traced : Bool
+
+-- what is shown where there is progress or not, it is to be quiet or not, and there is a trace or not
+abbrev pub shown_by : (has_progress is_quiet is_traced : Bool) → ShownOf
+shown_by has_progress is_quiet is_traced = record { is_quiet = if has_progress then false else is_quiet; is_traced = is_traced }
 
 -- what is shown where this is asked for
 abbrev pub shown_of : ShowOf → ShownOf
@@ -128,9 +134,9 @@ pub record IsBarred (files : List ℕ → FileOf) (refuses : List ℕ → Bool) 
   pub cause : IsOverOne files trace paths ⊎ ((watched.fault ≡ Some watches.Unwritten) × MayRefuse refuses show)
 
 -- Why a run doesn't go on is so: a start is refused or the clock stands at its end, and what looks on can't be written. It was let end.
-pub record IsCaused (w v : WorldOf) (told : RunFault) (watched : WatchOf) : Type 0 where
+pub record IsCaused (number : ℕ) (w v : WorldOf) (told : RunFault) (watched : WatchOf) : Type 0 where
   pub broken : IsBroken told
-  pub stopped : told ≡ faults.Edge edges.Step → IsRefusedStart w v ⊎ (v.now ≡ 2 ^ 32 - 1)
+  pub stopped : told ≡ faults.Edge edges.Step → IsRefusedStart number w v ⊎ (v.now ≡ 2 ^ 32 - 1)
   pub unwritten : told ≡ faults.Trace → watched.fault ≡ Some watches.Unwritten
   pub let_end : watched.has_ended ≡ true
 
@@ -160,81 +166,84 @@ pub record NamesLost (w : WorldOf) (lost : Option ℕ) : Type 0 where
 
 -- Where the links of a world are driven and the run doesn't end well: the report of the world that was reached is written, or a
 -- beginning of it, or nothing.
-abbrev pub DrivingEnds : (lacks : ℕ → Bool) (w v : WorldOf) → RunFault → WatchOf → (before now : OutputOf) → Type 0
-DrivingEnds lacks w v told watched before now =
-    (IsCaused w v told watched × Prints before now (report_of v))
+abbrev pub DrivingEnds : (number : ℕ) (lacks : ℕ → Bool) (w v : WorldOf) → RunFault → WatchOf → (before now : OutputOf) → Type 0
+DrivingEnds number lacks w v told watched before now =
+    (IsCaused number w v told watched × Prints before now (report_of v))
     ⊎ (((told ≡ faults.Output) × FailsToPrint before now (report_of v)) ⊎ (((told ≡ faults.Memory) ⊎ IsUnlinked w lacks told) × (now ≡ before)))
 
--- The world of a configuration that names a package.
-pub record IsNamed (files : List ℕ → FileOf) (config : List ℕ) (w : WorldOf) : Type 0 where
+-- The world of a configuration that names a package of this number, from 1 on.
+pub record IsNamed (files : List ℕ → FileOf) (config : List ℕ) (number : ℕ) (w : WorldOf) : Type 0 where
   pub setup : IsSetup files config w
-  pub some : w.packages ≢ []
+  pub counted : 1 ≤ number
+  pub there : number ≤ length w.packages
 
 -- The world of a configuration over none of whose files the packets are written.
-pub record IsWatched (files : List ℕ → FileOf) (config : List ℕ) (show : ShowOf) (w : WorldOf) : Type 0 where
-  pub named : IsNamed files config w
+pub record IsWatched (files : List ℕ → FileOf) (config : List ℕ) (number : ℕ) (show : ShowOf) (w : WorldOf) : Type 0 where
+  pub named : IsNamed files config number w
   pub apart : IsApart files show (config ∷ named.setup.config.packages)
 
 -- The report is written of what an update leaves of the world that a configuration's file is of, and what looks on showed what it
--- is to show, saw each turn, had no fault, was told of no link, and was let end.
-pub record ReportsUpdate (files : List ℕ → FileOf) (config : List ℕ) (show : ShowOf) (watched : WatchOf) (before now : OutputOf) : Type 0 where
+-- is to show, saw each turn, had no fault, was told of no link, and was let end. This session of that world is the first that isn't
+-- Done, or none is.
+pub record ReportsUpdate (files : List ℕ → FileOf) (config : List ℕ) (number : ℕ) (show : ShowOf) (watched : WatchOf) (before now : OutputOf) (undone : Option Undone) : Type 0 where
   pub world : WorldOf
-  pub begins : IsWatched files config show world
+  pub begins : IsWatched files config number show world
   pub shown : watched.shows ≡ shown_of show
   pub left : WorldOf
-  pub updated : IsUpdated world left
+  pub updated : IsUpdated number world left
   pub promised : IsSafeSince world left
   pub seen : watched.fault ≡ None
-  pub turns : Updates world left watched.seen
+  pub turns : Updates number world left watched.seen
   pub none_lost : watched.lost ≡ None
   pub let_end : watched.has_ended ≡ true
+  pub undone_is : undone ≡ undone_in left
   pub written : Prints before now (report_of left)
 
 -- It is written of what was reached, and where a link failed, what looks on was told whose.
-pub record ReportsReached (files : List ℕ → FileOf) (config : List ℕ) (show : ShowOf) (told : RunFault) (watched : WatchOf) (before now : OutputOf) : Type 0 where
+pub record ReportsReached (files : List ℕ → FileOf) (config : List ℕ) (number : ℕ) (show : ShowOf) (told : RunFault) (watched : WatchOf) (before now : OutputOf) : Type 0 where
   pub world : WorldOf
-  pub begins : IsWatched files config show world
+  pub begins : IsWatched files config number show world
   pub shown : watched.shows ≡ shown_of show
   pub left : WorldOf
-  pub reached : StepsLead world left
+  pub reached : StepsLead number world left
   pub promised : IsSafeSince world left
-  pub caused : IsCaused world left told watched
+  pub caused : IsCaused number world left told watched
   pub lost : told ≡ faults.Edge edges.Frame → NamesLost left watched.lost
   pub written : Prints before now (report_of left)
 
 -- A beginning of it is.
-pub record BreaksReport (files : List ℕ → FileOf) (config : List ℕ) (show : ShowOf) (told : RunFault) (before now : OutputOf) : Type 0 where
+pub record BreaksReport (files : List ℕ → FileOf) (config : List ℕ) (number : ℕ) (show : ShowOf) (told : RunFault) (before now : OutputOf) : Type 0 where
   pub is : told ≡ faults.Output
   pub world : WorldOf
-  pub begins : IsWatched files config show world
+  pub begins : IsWatched files config number show world
   pub left : WorldOf
-  pub reached : StepsLead world left
+  pub reached : StepsLead number world left
   pub promised : IsSafeSince world left
   pub begun : FailsToPrint before now (report_of left)
 
 -- Before a link is opened, what looks on doesn't begin.
-pub record LacksTrace (files : List ℕ → FileOf) (config : List ℕ) (show : ShowOf) (refuses : List ℕ → Bool) (told : RunFault) (watched : WatchOf) : Type 0 where
+pub record LacksTrace (files : List ℕ → FileOf) (config : List ℕ) (number : ℕ) (show : ShowOf) (refuses : List ℕ → Bool) (told : RunFault) (watched : WatchOf) : Type 0 where
   pub is : told ≡ faults.Trace
   pub world : WorldOf
-  pub named : IsNamed files config world
+  pub named : IsNamed files config number world
   pub barred : IsBarred files refuses show (config ∷ named.setup.config.packages) watched
 
 -- No link to a device of the configuration is opened.
-pub record LacksLink (files : List ℕ → FileOf) (config : List ℕ) (show : ShowOf) (lacks : ℕ → Bool) (told : RunFault) : Type 0 where
+pub record LacksLink (files : List ℕ → FileOf) (config : List ℕ) (number : ℕ) (show : ShowOf) (lacks : ℕ → Bool) (told : RunFault) : Type 0 where
   pub world : WorldOf
-  pub begins : IsWatched files config show world
+  pub begins : IsWatched files config number show world
   pub unlinked : IsUnlinked world lacks told
 
 -- Nothing is written: memory was refused, or there is no world, no package, no trace or no link.
-pub record ReportsNothing (files : List ℕ → FileOf) (config : List ℕ) (show : ShowOf) (refuses : List ℕ → Bool) (lacks : ℕ → Bool) (told : RunFault) (watched : WatchOf) (before now : OutputOf) : Type 0 where
+pub record ReportsNothing (files : List ℕ → FileOf) (config : List ℕ) (number : ℕ) (show : ShowOf) (refuses : List ℕ → Bool) (lacks : ℕ → Bool) (told : RunFault) (watched : WatchOf) (before now : OutputOf) : Type 0 where
   pub kept : now ≡ before
   pub cause :
       (told ≡ faults.Memory)
       ⊎ (SetupFails files config told
-      ⊎ (((told ≡ faults.NoPackage) × NamesNone files config) ⊎ (LacksTrace files config show refuses told watched ⊎ LacksLink files config show lacks told)))
+      ⊎ (((told ≡ faults.NoPackage) × LacksPackage files config number) ⊎ (LacksTrace files config number show refuses told watched ⊎ LacksLink files config number show lacks told)))
 
 -- How an update ends that doesn't end well.
-abbrev pub UpdateEnds : (files : List ℕ → FileOf) (config : List ℕ) (show : ShowOf) (refuses : List ℕ → Bool) (lacks : ℕ → Bool) (told : RunFault) (watched : WatchOf) (before now : OutputOf) → Type 0
-UpdateEnds files config show refuses lacks told watched before now =
-    ReportsReached files config show told watched before now
-    ⊎ (BreaksReport files config show told before now ⊎ ReportsNothing files config show refuses lacks told watched before now)
+abbrev pub UpdateEnds : (files : List ℕ → FileOf) (config : List ℕ) (number : ℕ) (show : ShowOf) (refuses : List ℕ → Bool) (lacks : ℕ → Bool) (told : RunFault) (watched : WatchOf) (before now : OutputOf) → Type 0
+UpdateEnds files config number show refuses lacks told watched before now =
+    ReportsReached files config number show told watched before now
+    ⊎ (BreaksReport files config number show told before now ⊎ ReportsNothing files config number show refuses lacks told watched before now)

@@ -1,9 +1,11 @@
 -- What the jobs on worlds begin with: the configuration in a file, and the packages in the files that it names.
-use Rattle.std.specs.Prelude.{ℕ, ◌≡◌, ◌≢◌, ◌++◌, ◌⊎◌, Bool, true, List, [], ◌∷◌, Option, None, Some, Result, Ok, Err, IfSome, IsOk, string_bytes}
+use Rattle.std.specs.Global.{Global}
+use Rattle.std.specs.Prelude.{ℕ, ◌≡◌, ◌≢◌, ◌<◌, ◌++◌, ◌⊎◌, Bool, true, List, [], ◌∷◌, Option, None, Some, Result, Ok, Err, IfSome, IsOk, String, length, string_bytes}
 use Rattle.fw_package.specs.Package.{PackageText}
 use Rattle.fw_package.specs.Reading.{package_of}
 use Rattle.fw_package.specs.declared.fault.PackageFault.{PackageFault}
 use Rattle.fw_script.specs.Configs.{ConfigOf, config_of}
+use Rattle.fw_script.specs.declared.faults.ScriptCause.{ScriptCause}
 use Rattle.fw_script.specs.declared.faults.ScriptCause.TheVariants as causes
 use Rattle.fw_script.specs.declared.faults.ScriptFault.{ScriptFault}
 use Rattle.fw_world.specs.Replays.{new_world}
@@ -11,6 +13,8 @@ use Rattle.fw_world.specs.Worlds.{WorldOf}
 use Rattle.fwupd_jobs.specs.Nodes.{nodes_made}
 use Rattle.fwupd_jobs.specs.declared.faults.RunFault.{RunFault}
 use Rattle.fwupd_jobs.specs.declared.faults.RunFault.TheVariants as faults
+use Rattle.fwupd_jobs.specs.declared.files.FileFault.{FileFault}
+use Rattle.fwupd_jobs.specs.declared.files.FileFault.TheVariants as reasons
 use Rattle.fwupd_jobs.specs.declared.files.FileIdentity.{FileIdentity}
 
 -- What is known of the file of a path before it is read: its bytes, if they are, whether it may be that it can't be read, and
@@ -103,6 +107,20 @@ IsUnreadable path fault = ⊥
 abbrev pub IsUnread : (path : List ℕ) → (file : FileOf) → RunFault → Type 0
 IsUnread path file fault = IsUnreadable path fault × (file.may_fail ≡ true)
 
+-- what is told of a file of this name that isn't read, for this reason; without memory for its name, that
+abbrev pub unread_told : {E : Type 0} → Result (String Global) E → FileFault → RunFault
+unread_told (Ok name) reasons.Unreadable = faults.Unreadable name
+unread_told name fault = faults.Memory
+
+-- and of a text that is none of its format
+abbrev pub misread_by : {E : Type 0} → Result (String Global) E → ScriptCause → ScriptFault → RunFault
+misread_by (Err e) cause fault = faults.Memory
+misread_by (Ok name) causes.Memory fault = faults.Memory
+misread_by (Ok name) cause fault = faults.Text name fault
+
+abbrev pub misread_told : {E : Type 0} → Result (String Global) E → ScriptFault → RunFault
+misread_told name fault = misread_by name fault.cause fault
+
 -- the text in it has this fault
 abbrev pub TextFault : (path : List ℕ) → ScriptFault → RunFault → Type 0
 TextFault path fault (faults.Text name told) = (string_bytes name ≡ path) × (told ≡ fault) × (fault.cause ≢ causes.Memory)
@@ -159,8 +177,8 @@ pub record PackagesOfFail (files : List ℕ → FileOf) (path : List ℕ) (fault
 abbrev pub SetupFails : (files : List ℕ → FileOf) → (path : List ℕ) → RunFault → Type 0
 SetupFails files path fault = TextFails config_of files path fault ⊎ PackagesOfFail files path fault
 
--- The configuration in a file names no package.
-pub record NamesNone (files : List ℕ → FileOf) (path : List ℕ) : Type 0 where
+-- The configuration in a file names no package of this number.
+pub record LacksPackage (files : List ℕ → FileOf) (path : List ℕ) (number : ℕ) : Type 0 where
   pub config : ConfigOf
   pub says : Says config_of (files path) config
-  pub none : config.packages ≡ []
+  pub none : (number ≡ 0) ⊎ (length config.packages < number)

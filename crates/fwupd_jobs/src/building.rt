@@ -1,6 +1,6 @@
 //! Building a package that the text in a file asks for.
 
-ghost use Rattle.std.specs.Prelude.{◌≡◌, ◌⊎◌, ◌++◌, IfErr, IfOk, OnErr, OnOk, map, option_map, slice_get};
+ghost use Rattle.std.specs.Prelude.{◌≡◌, ◌⊎◌, ◌++◌, IfErr, IfOk, OnErr, OnOk, false, map, option_map, slice_get};
 ghost use Rattle.std.specs.Io.KnownBytes.{Appends};
 ghost use Rattle.std.specs.List.{concat};
 ghost use Rattle.fw_package.specs.Asked.{asked_component_of, asked_of, asked_record_of};
@@ -299,6 +299,7 @@ pub fn build_file<F: Files, W: Write + Drop, P: Places<W>>(
 ) -> Result<(), RunFault>
     ensures ok { OnOk result (Builds (F.holds files.now) path.now (P.is_known places.old) (P.held places.new file.now)) }
     ensures kept { OnErr result (P.held places.new ≡ P.held places.old) }
+    ensures left { P.is_begun places.old ≡ false → P.is_begun places.new ≡ false }
     ensures fault { IfErr result (λ e. BuildEnds (F.holds files.now) path.now e) }
 {
     let spec = match package_spec(alloc, files, path) {

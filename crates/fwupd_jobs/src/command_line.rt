@@ -1,5 +1,8 @@
 //! The command line: what the words ask for.
 
+ghost use Rattle.std.specs.Prelude.{◌≡◌, Some, codes, false, option_map, true};
+ghost use Rattle.clap.specs.Words.{first_value, found_of, one_text};
+
 use clap::error::ErrorKind;
 use clap::{Arg, ArgAction, ArgMatches, Command, value_parser};
 use mctp_ctl::Endpoint;
@@ -16,9 +19,20 @@ pub enum Job<'a> {
     /// Replay, with the configuration of the first path, the schedule of the second.
     Replay(&'a str, &'a str),
     /// Update the devices of the configuration of the first path over sockets in the folder of the second.
-    Run(&'a str, &'a str, Show<'a>),
+    Run(&'a str, &'a str, Order, Show<'a>),
     /// Build the package that the text in the file of the first path asks for, into the file of the second.
     Build(&'a str, &'a str),
+    /// Say what an update of the devices of the configuration of this path comes to, with its package of this number, from 1 on.
+    Plan(&'a str, usize),
+}
+
+/// What is asked of a run.
+#[derive(Clone, Copy)]
+pub struct Order {
+    /// The number of the package that devices are updated with, from 1 on.
+    pub number: usize,
+    /// Whether each session has to be Done in the end.
+    pub is_checked: bool,
 }
 
 /// What is shown of a run while it goes on.
@@ -183,6 +197,7 @@ fn replay_command<'a>(alloc: Global) -> Result<Command<'a>, clap::Error> {
 const RUN_HELP: &str = "\
 Examples:
   fwupd run examples/one.config .
+  fwupd run --check examples/one.config . && echo updated
   fwupd run --quiet --trace out/packets examples/one.config .
 
 CONFIG and the report are those of 'fwupd replay --help'.
@@ -190,9 +205,10 @@ CONFIG and the report are those of 'fwupd replay --help'.
 If standard error is a terminal, it shows the progress of the first device that loads an image. --trace writes a line for
 each packet: the turn, the device, to-device or to-agent, and the packet in hexadecimal digits.
 
-Faults: 'package: none' if CONFIG names no package; 'socket: EID' if FOLDER/EID.sock can't be made, or is there already;
+Faults: 'package: none' if CONFIG names fewer packages; 'socket: EID' if FOLDER/EID.sock can't be made, or is there already;
 after the report, 'edge: Frame' if a socket failed, 'edge: Step' at the end of the clock, and 'trace' if the trace can't be
-written. If its file can't be made, 'trace', and nothing is run.
+written. If its file can't be made, 'trace', and nothing is run. With --check, after the report, 'session EID: WORD' of the
+first session in configured order that isn't Done: the cause of its failure, or where it stands.
 
 Limits: 80000 turns of one tick each. Three images of 1 MiB take about 66000.
 
@@ -216,13 +232,19 @@ fn run_command<'a>(alloc: Global) -> Result<Command<'a>, clap::Error> {
         .long("trace")
         .value_name("FILE")
         .help("Writes each packet to a file as it goes out");
+    let check = Arg::new(alloc, "check")
+        .long("check")
+        .help("Fails where a session doesn't end Done")
+        .action(ArgAction::SetTrue);
     let command = Command::new(alloc, "run")
-        .about("Updates each device with the first package, over Unix sockets")
+        .about("Updates each device with a package, over Unix sockets")
         .long_about(
-            "Updates each device of a configuration with its first package, each over a Unix socket FOLDER/EID.sock to itself, and\n\
-            prints a report. A socket's file is removed as soon as both of its ends are connected.",
+            "Updates each device of a configuration with its first package, or with package N, each over a Unix socket\n\
+            FOLDER/EID.sock to itself, and prints a report. A socket's file is removed as soon as both of its ends are connected.",
         )
         .after_long_help(RUN_HELP)
+        .arg(package_option(alloc))?
+        .arg(check)?
         .arg(quiet)?
         .arg(trace)?
         .arg(config)?
@@ -285,6 +307,72 @@ fn build_command<'a>(alloc: Global) -> Result<Command<'a>, clap::Error> {
     Ok(command)
 }
 
+/// The option that says with which package devices are updated.
+fn package_option<'a>(alloc: Global) -> Arg<'a> {
+    Arg::new(alloc, "package")
+        .long("package")
+        .value_name("N")
+        .help("The number of the package in CONFIG, from 1 on")
+        .default_value("1")
+        .value_parser(value_parser!(u32).range(1..))
+}
+
+/// The number that the option says.
+fn package_number(matches: &ArgMatches<'_>) -> usize {
+    matches.get_one::<u32>("package").unwrap_or(1) as usize
+}
+
+/// What stands below the help of `plan`.
+const PLAN_HELP: &str = "\
+Examples:
+  fwupd plan examples/one.config
+  fwupd plan --package 2 my.config
+
+CONFIG is that of 'fwupd replay --help'. A device has these lines:
+  device EID package N record R set TEXT WORD
+      R is the first record of the package that is for the device; a dash if none is
+  record R lacks descriptor TYPE HEX, or record R has none
+      if none is: for each record the first of its descriptors that the device lacks, or that it has no descriptor
+  component CLASS ident IDENT size SIZE stamp STAMP version TEXT active STAMP TEXT WORD
+      a component that the device is offered, and what runs in the device; dashes if it has no such component
+
+What becomes of the update:
+  Update              its components are loaded, in this order
+  NothingToUpdate     it fails: the record uses no component, or the device takes none of them
+  NoRecord            it fails: no record is for the device
+  Plan:FAULT          it fails: two components of the record have one class and ident (DuplicateComponent), there are more than
+                      8 (TooManyComponents), an image has more than 1048576 bytes (ImageTooLarge), or the set text or a version
+                      more than 200 (TextTooLong)
+
+What becomes of a component:
+  update              it is loaded
+  force               the device declines it, as its stamp isn't higher, and its option bit 0 forces it
+  skip identical      its stamp is that of the image that runs
+  skip lower          its stamp is lower
+  skip unsupported    the device has no such component
+A stamp FFFFFFFF is compared with none: the component's option bit 1 is clear, or it is its stamp.
+
+Status: 0, also where an update would fail; 1 if standard error says 'fwupd: package: none', as CONFIG names fewer packages, or
+a fault of 'replay'; 2 for wrong usage.";
+
+/// The subcommand `plan`.
+fn plan_command<'a>(alloc: Global) -> Result<Command<'a>, clap::Error> {
+    let config = Arg::new(alloc, "CONFIG")
+        .help("The configuration: an agent, its devices, packages")
+        .required(true)
+        .action(ArgAction::Set);
+    let command = Command::new(alloc, "plan")
+        .about("Prints what an update of each device would come to")
+        .long_about(
+            "Prints what an update of each device of a configuration would come to, with its first package or another, and why. Nothing\n\
+            is updated, and nothing is made.",
+        )
+        .after_long_help(PLAN_HELP)
+        .arg(package_option(alloc))?
+        .arg(config)?;
+    Ok(command)
+}
+
 /// The whole command line.
 fn command<'a>(alloc: Global) -> Result<Command<'a>, clap::Error> {
     let command = Command::new(alloc, "fwupd")
@@ -295,6 +383,7 @@ fn command<'a>(alloc: Global) -> Result<Command<'a>, clap::Error> {
         .subcommand(answer_command(alloc)?)?
         .subcommand(inspect_command(alloc)?)?
         .subcommand(replay_command(alloc)?)?
+        .subcommand(plan_command(alloc)?)?
         .subcommand(run_command(alloc)?)?
         .subcommand(build_command(alloc)?)?;
     Ok(command)
@@ -315,6 +404,18 @@ fn answer_job<'a>(alloc: Global, matches: &ArgMatches<'a>) -> Result<Job<'a>, cl
     }
 }
 
+/// What the words of `run` ask to be shown.
+fn show_in<'a>(matches: &ArgMatches<'a>) -> Show<'a>
+    ensures quiet { one_text (found_of matches.now) (codes "quiet") ≡ Some (codes "true") → result.is_quiet ≡ true }
+    ensures loud { one_text (found_of matches.now) (codes "quiet") ≡ Some (codes "false") → result.is_quiet ≡ false }
+    ensures trace { option_map (λ path. path.now) result.trace ≡ first_value (found_of matches.now) (codes "trace") }
+{
+    Show {
+        is_quiet: matches.get_flag("quiet"),
+        trace: matches.get_str("trace"),
+    }
+}
+
 /// Reads the words of a command line.
 ///
 /// # Errors
@@ -328,13 +429,18 @@ pub fn parse<'a>(alloc: Global, words: &'a [String]) -> Result<Job<'a>, clap::Er
             matches.get_str("CONFIG").unwrap_or(""),
             matches.get_str("SCHEDULE").unwrap_or(""),
         )),
+        Some(("plan", matches)) => Ok(Job::Plan(
+            matches.get_str("CONFIG").unwrap_or(""),
+            package_number(matches),
+        )),
         Some(("run", matches)) => Ok(Job::Run(
             matches.get_str("CONFIG").unwrap_or(""),
             matches.get_str("FOLDER").unwrap_or(""),
-            Show {
-                is_quiet: matches.get_flag("quiet"),
-                trace: matches.get_str("trace"),
+            Order {
+                number: package_number(matches),
+                is_checked: matches.get_flag("check"),
             },
+            show_in(matches),
         )),
         Some(("build", matches)) => Ok(Job::Build(
             matches.get_str("SPEC").unwrap_or(""),

@@ -41,6 +41,9 @@ pub enum RunFault {
     /// A run over links ended early.
     #[error("edge: {0}")]
     Edge(EdgeFault),
+    /// The session with the device of this endpoint identifier didn't end Done: the cause of its failure, or where it stands.
+    #[error("session {0}: {1}")]
+    Session(u8, &'static str),
     /// Standard output takes no more.
     #[error("output")]
     Output,

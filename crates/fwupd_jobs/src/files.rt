@@ -1,12 +1,12 @@
 //! The files that a job reads.
 
-ghost use Rattle.std.specs.Prelude.{◌≡◌, ◌∷◌, IfErr, IfOk, List, false, map, string_bytes, true, ℕ};
+ghost use Rattle.std.specs.Prelude.{◌≡◌, ◌≢◌, ◌∷◌, IfErr, IfOk, List, false, map, string_bytes, true, ℕ};
 ghost use Rattle.std.specs.List.{AllByRecursion};
 ghost use Rattle.fwupd_jobs.specs.Setups.{FileOf, IsApartFrom, IsOver, IsOverOne, MayBe, MayHold, any_file};
 
 use std::alloc::Global;
 use std::fs::{self, File};
-use std::io::{self, Read};
+use std::io::{self, ErrorKind, Read};
 use std::os::unix::fs::MetadataExt;
 
 /// Why the bytes of a file aren't there.
@@ -57,7 +57,7 @@ impl<'a> SystemFiles<'a> {
     }
 
     /// The bytes of a file, read once, into room of its size where it says one.
-    fn read(&self, alloc: Global, path: &str) -> io::Result<Vec<u8>> {
+    pub(crate) fn read(&self, alloc: Global, path: &str) -> io::Result<Vec<u8>> {
         let mut file = File::open(self.rt, path)?;
         let size = match file.metadata() {
             Ok(found) => usize::try_from(found.len()).unwrap_or(0),
@@ -70,16 +70,24 @@ impl<'a> SystemFiles<'a> {
     }
 }
 
+/// Why the bytes of a file aren't there, by why its reading failed.
+fn file_fault(kind: ErrorKind) -> FileFault
+    ensures memory { kind ≡ ErrorKind.OutOfMemory → result ≡ FileFault.Memory }
+    ensures other { kind ≢ ErrorKind.OutOfMemory → result ≡ FileFault.Unreadable }
+{
+    match kind {
+        ErrorKind::OutOfMemory => FileFault::Memory,
+        _ => FileFault::Unreadable,
+    }
+}
+
 impl<'a> Files for SystemFiles<'a> {
     ghost holds = { λ f path. any_file };
 
     fn contents(&self, alloc: Global, path: &str) -> Result<Vec<u8>, FileFault> {
         match self.read(alloc, path) {
             Ok(bytes) => Ok(bytes),
-            Err(error) => match error.kind() {
-                io::ErrorKind::OutOfMemory => Err(FileFault::Memory),
-                _ => Err(FileFault::Unreadable),
-            },
+            Err(error) => Err(file_fault(error.kind())),
         }
     }
 

@@ -4,15 +4,17 @@ ghost use Rattle.std.specs.Prelude.{◌≡◌, ◌⊎◌, IfErr, OnOk, Some};
 ghost use Rattle.fwupd_jobs.specs.Jobs.{IsDone, JobEnds};
 
 use crate::building::build_file;
+use crate::checking::update_checked;
 use crate::command_line::Job;
 use crate::faults::RunFault;
 use crate::files::Files;
 use crate::inspecting::inspect_file;
 use crate::output::Output;
 use crate::places::Places;
+use crate::planning::plan_file;
 use crate::replaying::replay_files;
 use crate::running::{Watch, WatchFault};
-use crate::updating::{Wires, update_files};
+use crate::updating::Wires;
 use fw_edge::Link;
 use std::alloc::Global;
 use std::io::{Read, Write};
@@ -20,7 +22,7 @@ use std::io::{Read, Write};
 /// Does a job. What it reads, it reads of the files; what it answers, of the reader; a package that it builds comes to its place.
 ///
 /// # Errors
-/// Those of the job: of `Output::answer`, `inspect_file`, `replay_files`, `update_files` or `build_file`.
+/// Those of the job: of `Output::answer`, `inspect_file`, `replay_files`, `update_checked`, `build_file` or `plan_file`.
 pub fn perform_job<
     F: Files,
     R: Read,
@@ -48,9 +50,10 @@ pub fn perform_job<
         Job::Answer(endpoint) => output.answer(alloc, reader, endpoint),
         Job::Inspect(path) => inspect_file(alloc, files, path, output),
         Job::Replay(config, schedule) => replay_files(alloc, files, config, schedule, output),
-        Job::Run(config, folder, show) => {
-            update_files(alloc, files, config, folder, *show, wires, watch, output)
-        }
+        Job::Run(config, folder, order, show) => update_checked(
+            alloc, files, config, *order, folder, *show, wires, watch, output,
+        ),
         Job::Build(spec, file) => build_file(alloc, files, spec, file, places),
+        Job::Plan(config, number) => plan_file(alloc, files, config, *number, output),
     }
 }

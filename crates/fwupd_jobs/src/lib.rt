@@ -1,34 +1,47 @@
-//! The jobs of the program: answers, inspections, replays and updates over links, and the words that ask for them.
+//! The jobs of the program: answers, inspections, forecasts, replays and updates over links, and the words that ask for them.
 #![tactic(auto)]
 
 mod building;
+mod checking;
 mod command_line;
+mod explaining;
 mod faults;
 mod files;
+mod forecast;
+mod forecast_laws;
+mod forecast_text;
 mod inspecting;
 mod jobs;
 mod nodes;
+mod numbering;
 mod output;
 mod places;
+mod planning;
 mod program;
 mod progress;
 mod replaying;
 mod running;
+mod sessions;
 mod setups;
 mod sockets;
 mod tracing;
 mod updating;
 mod watching;
+mod words;
 
 pub use building::build_file;
-pub use command_line::{Job, Show, parse};
+pub use checking::update_checked;
+pub use command_line::{Job, Order, Show, parse};
 pub use faults::{RunFault, inspection_fault};
 pub use files::{FileFault, FileIdentity, Files};
+pub use forecast_laws::foretells_sessions;
 pub use inspecting::inspect_file;
 pub use jobs::perform_job;
 pub use output::Output;
 pub use places::Places;
+pub use planning::plan_file;
 pub use program::perform;
 pub use replaying::replay_files;
 pub use running::{Watch, WatchFault};
+pub use sessions::Undone;
 pub use updating::{Wires, update_files};

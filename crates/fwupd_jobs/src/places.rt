@@ -1,17 +1,20 @@
 //! Where files are made: beside their place, to which they come when they are whole.
 
-ghost use Rattle.std.specs.Prelude.{◌≡◌, ◌⊎◌, [], Bool, IfErr, IfOk, List, None, OnErr, OnOk, Option, Some, false, true, ℕ};
+ghost use Rattle.std.specs.Prelude.{◌≡◌, ◌⊎◌, [], Bool, IfErr, IfOk, List, None, OnErr, OnOk, Option, Some, false, is_some, true, ℕ};
 
 use crate::faults::RunFault;
 use std::alloc::Global;
 use std::fs::{self, File};
 use std::io::Write;
 
-/// Where files are made. Where it is known what they hold, that is the bytes that came last to each path, if any did.
+/// Where files are made, one at a time. Where it is known what they hold, that is the bytes that came last to each path, if any did; and
+/// it is known whether one is begun, which lies beside its place.
 pub trait Places<W: Write + Drop> {
     ghost is_known: { Self → Bool };
 
     ghost held: { Self → List ℕ → Option (List ℕ) };
+
+    ghost is_begun: { Self → Bool };
 
     /// Begins a file beside a path.
     ///
@@ -21,6 +24,7 @@ pub trait Places<W: Write + Drop> {
         ensures empty { IfOk result (λ w. is_known self.old ≡ true → W.contents w ≡ Some []) }
         ensures kept { held self.new ≡ held self.old }
         ensures known { is_known self.new ≡ is_known self.old }
+        ensures begun { OnErr result (is_begun self.new ≡ is_begun self.old) }
         ensures fault { IfErr result (λ e. (e ≡ RunFault.Memory) ⊎ (e ≡ RunFault.Output)) };
 
     /// Puts the file that was begun beside a path in its place, whole.
@@ -30,11 +34,13 @@ pub trait Places<W: Write + Drop> {
     fn publish(&mut self, path: &str, file: W) -> Result<(), RunFault>
         ensures ok { OnOk result (is_known self.old ≡ true → held self.new path.now ≡ W.contents file) }
         ensures kept { OnErr result (held self.new ≡ held self.old) }
+        ensures ended { is_begun self.new ≡ false }
         ensures fault { IfErr result (λ e. (e ≡ RunFault.Memory) ⊎ (e ≡ RunFault.Output)) };
 
     /// Removes the file that was begun beside a path.
     fn discard(&mut self, path: &str)
-        ensures { held self.new ≡ held self.old };
+        ensures kept { held self.new ≡ held self.old }
+        ensures ended { is_begun self.new ≡ false };
 }
 
 /// The system's files, of which nothing is known.
@@ -77,6 +83,8 @@ impl<'a> Places<File> for SystemPlaces<'a> {
     ghost is_known = { λ p. false };
 
     ghost held = { λ p path. None };
+
+    ghost is_begun = { λ p. is_some p.begun };
 
     fn begin(&mut self, path: &str) -> Result<File, RunFault> {
         let name = match beside(self.rt.alloc(), path) {

@@ -6,6 +6,7 @@ ghost use Rattle.clap.specs.Values.{kind_of};
 ghost use Rattle.fwupd_jobs.specs.Jobs.{StatusSays, SystemSays};
 
 use crate::command_line::{self, Job};
+use crate::explaining::explain;
 use crate::faults::RunFault;
 use crate::files::{Files, SystemFiles};
 use crate::jobs::perform_job;
@@ -15,16 +16,17 @@ use crate::running::Watch;
 use crate::sockets::Sockets;
 use crate::updating::Wires;
 use crate::watching::Onlookers;
+use crate::words::words;
 use clap::error::ErrorKind;
 use fw_edge::Link;
 use std::io::{self, Read, Write};
 use std::process::ExitCode;
 
 /// Wrong usage.
-const USAGE: u8 = 2;
+pub(crate) const USAGE: u8 = 2;
 
 /// Prints a fault, where standard error takes it, and gives the status that says so.
-fn failed(rt: &HostRuntime, fault: RunFault) -> ExitCode
+pub(crate) fn failed(rt: &HostRuntime, fault: &RunFault) -> ExitCode
     ensures { exit_status result ≡ 1 }
 {
     let _ = eprintln!(rt; "fwupd: {fault}");
@@ -32,7 +34,7 @@ fn failed(rt: &HostRuntime, fault: RunFault) -> ExitCode
 }
 
 /// Does a job over these files, this reader, links, onlooker, places and output, and gives the status: 0 where it is done, and 1
-/// where it isn't, and its fault is printed.
+/// where it isn't, and its fault is printed, with what helps to find its cause below it on a terminal.
 fn status<
     F: Files,
     R: Read,
@@ -56,20 +58,19 @@ fn status<
 {
     match perform_job(rt.alloc(), job, files, reader, wires, watch, places, output) {
         Ok(()) => ExitCode::SUCCESS,
-        Err(fault) => failed(rt, fault),
+        Err(fault) => {
+            let status = failed(rt, &fault);
+            explain(rt, job, &fault);
+            status
+        }
     }
 }
 
-/// Does what the words ask for, with the system's files, standard input and output, sockets, and what looks on, and gives the
-/// status. On a terminal a link's fault is explained below it.
-fn run(rt: &HostRuntime, job: &Job<'_>) -> ExitCode
-    ensures known { (exit_status result ≡ 0) ⊎ (exit_status result ≡ 1) }
-    ensures says { exit_status result ≢ 1 → SystemSays (exit_status result) job.now }
+/// Does what the words ask for, with the system's files, standard input, sockets, and what looks on, and gives the status. On a
+/// terminal a link's fault is explained below it.
+fn run<W: Write + Drop>(rt: &HostRuntime, job: &Job<'_>, output: &mut Output<W>) -> ExitCode
+    ensures { SystemSays (exit_status result) job.now output.old output.new }
 {
-    let mut output = match Output::new(rt.alloc(), io::writer(rt)) {
-        Ok(output) => output,
-        Err(fault) => return failed(rt, fault),
-    };
     let files = SystemFiles::new(rt);
     let mut reader = rt.reader();
     let mut sockets = Sockets::new(rt);
@@ -82,15 +83,15 @@ fn run(rt: &HostRuntime, job: &Job<'_>) -> ExitCode
         &mut sockets,
         &mut onlookers,
         &mut SystemPlaces::new(rt),
-        &mut output,
+        output,
     );
     sockets.explain();
     onlookers.explain();
     status
 }
 
-/// Prints what stands in place of a job, the text of help or of wrong usage, and gives its status: 0 for help, or 1 where standard
-/// output takes it not, and 2 for wrong usage. No contract says which words are which, or that what was printed arrived.
+/// Prints what stands in place of a job, the text of help or of wrong usage, and gives its status: 0 for help, also where its reader
+/// is gone, or 1 where standard output takes it not, and 2 for wrong usage. No contract says which words are which, or that what was printed arrived.
 fn no_job(rt: &HostRuntime, error: &clap::Error) -> ExitCode
     ensures memory { kind_of error.now ≡ ErrorKind.OutOfMemory → exit_status result ≡ 1 }
     ensures shown { (kind_of error.now ≡ ErrorKind.DisplayHelp) ⊎ (kind_of error.now ≡ ErrorKind.DisplayVersion)
@@ -100,32 +101,13 @@ fn no_job(rt: &HostRuntime, error: &clap::Error) -> ExitCode
     ensures known { exit_status result ≤ 2 }
 {
     if error.kind() == ErrorKind::OutOfMemory {
-        return failed(rt, RunFault::Memory);
+        return failed(rt, &RunFault::Memory);
     }
     match error.print(rt) {
         Ok(()) => ExitCode::from(error.exit_code() as u8),
         Err(_) if error.use_stderr() => ExitCode::from(USAGE),
-        Err(_) => failed(rt, RunFault::Output),
-    }
-}
-
-/// The words of the command line, or the status where there are none to read.
-fn words(rt: &HostRuntime) -> Result<Vec<String>, ExitCode>
-    ensures { IfErr result (λ status. (exit_status status ≡ 1) ⊎ (exit_status status ≡ 2)) }
-{
-    let args = match std::env::args(rt) {
-        Ok(args) => args,
-        Err(error) if error.kind() == io::ErrorKind::OutOfMemory => {
-            return Err(failed(rt, RunFault::Memory));
-        }
-        Err(_) => {
-            let _ = eprintln!(rt; "error: an argument isn't UTF-8 text");
-            return Err(ExitCode::from(USAGE));
-        }
-    };
-    match args.collect(rt.alloc()) {
-        Ok(words) => Ok(words),
-        Err(_) => Err(failed(rt, RunFault::Memory)),
+        Err(failure) if failure.kind() == io::ErrorKind::BrokenPipe => ExitCode::SUCCESS,
+        Err(_) => failed(rt, &RunFault::Output),
     }
 }
 
@@ -138,8 +120,13 @@ pub fn perform(rt: &HostRuntime) -> ExitCode
         Ok(words) => words,
         Err(status) => return status,
     };
-    match command_line::parse(rt.alloc(), words.as_slice()) {
-        Ok(job) => run(rt, &job),
-        Err(error) => no_job(rt, &error),
-    }
+    let job = match command_line::parse(rt.alloc(), words.as_slice()) {
+        Ok(job) => job,
+        Err(error) => return no_job(rt, &error),
+    };
+    let mut output = match Output::new(rt.alloc(), io::writer(rt)) {
+        Ok(output) => output,
+        Err(fault) => return failed(rt, &fault),
+    };
+    run(rt, &job, &mut output)
 }

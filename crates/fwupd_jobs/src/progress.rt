@@ -1,5 +1,9 @@
 //! How far a run is, shown on a terminal.
 
+ghost use Rattle.std.specs.Prelude.{◌≡◌};
+ghost use Rattle.fwupd_jobs.specs.Progress.{end_asked};
+ghost use Rattle.mctp_wire.specs.Packet.{packet_of};
+
 use exch_lane::SentPacket;
 use fd_core::MemBank;
 use fw_node::DeviceNode;
@@ -25,7 +29,9 @@ pub struct Progress<'a> {
 }
 
 /// Where the bytes end that a packet asks for, if it is a device's request for bytes of its image.
-fn asked_by(packet: &SentPacket, device: u8) -> Option<u32> {
+fn asked_by(packet: &SentPacket, device: u8) -> Option<u32>
+    ensures { result ≡ end_asked device (packet_of packet.now.bytes.items) }
+{
     let Ok(packet) = mctp_wire::decode(packet.bytes.as_slice()) else {
         return None;
     };

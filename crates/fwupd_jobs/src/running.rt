@@ -88,13 +88,13 @@ pub fn watch_fault(fault: WatchFault) -> RunFault
     }
 }
 
-/// Starts the update of each device with package 1.
-fn start_all(world: &mut World<'_, MemBank>) -> Result<(), RunFault>
-    ensures started { OnOk result (Starts world.old world.new) }
+/// Starts the update of each device with the package of this number.
+fn start_all(world: &mut World<'_, MemBank>, number: usize) -> Result<(), RunFault>
+    ensures started { OnOk result (Starts number world.old world.new) }
     ensures same { world.new.sites ≡ world.old.sites }
-    ensures reached { StepsLead world.old world.new }
+    ensures reached { StepsLead number world.old world.new }
     ensures fault { IfErr result MayEnd }
-    ensures refused { IfErr result (λ e. e ≡ RunFault.Edge EdgeFault.Step → IsRefusedStart world.old world.new) }
+    ensures refused { IfErr result (λ e. e ≡ RunFault.Edge EdgeFault.Step → IsRefusedStart number world.old world.new) }
     ensures none { IfErr result (λ e. e ≡ RunFault.Edge EdgeFault.Frame → ⊥) }
     ensures unseen { IfErr result (λ e. e ≡ RunFault.Trace → ⊥) }
 {
@@ -102,7 +102,7 @@ fn start_all(world: &mut World<'_, MemBank>) -> Result<(), RunFault>
         let Some(node) = world.device_at(place) else {
             return Err(RunFault::Memory);
         };
-        let start = Step::Start(node.eid(), 1);
+        let start = Step::Start(node.eid(), number);
         match world.step(&start) {
             Ok(()) => {}
             Err(StepFault::Memory) => return Err(RunFault::Memory),
@@ -123,7 +123,7 @@ fn broken_off<V: Watch>(world: &World<'_, MemBank>, watch: &mut V, fault: EdgeFa
     edge_fault(fault)
 }
 
-/// Updates each device of a new world with package 1 over its link, turn by turn, until each session is Done or Failed, and at
+/// Updates each device of a new world with the package of this number over its link, turn by turn, until each session is Done or Failed, and at
 /// most for 80,000 turns. Each turn is seen by what looks on, the one too in which a link fails.
 ///
 /// # Errors
@@ -132,24 +132,25 @@ fn broken_off<V: Watch>(world: &World<'_, MemBank>, watch: &mut V, fault: EdgeFa
 pub fn update_all<L: Link, V: Watch>(
     alloc: Global,
     world: &mut World<'_, MemBank>,
+    number: usize,
     links: &mut [L],
     watch: &mut V,
 ) -> Result<(), RunFault>
     requires { length links.old ≡ length world.old.sites }
-    ensures updated { OnOk result (IsUpdated world.old world.new) }
-    ensures reached { StepsLead world.old world.new }
+    ensures updated { OnOk result (IsUpdated number world.old world.new) }
+    ensures reached { StepsLead number world.old world.new }
     ensures fault { IfErr result MayEnd }
     ensures kept { OnOk result (map (λ l. (L.tally l).failures) links.new ≡ map (λ l. (L.tally l).failures) links.old) }
     ensures failed { IfErr result (λ e. AreToldOf e (map (λ l. (L.tally l).failures) links.old) (map (λ l. (L.tally l).failures) links.new)) }
-    ensures step { IfErr result (λ e. e ≡ RunFault.Edge EdgeFault.Step → IsRefusedStart world.old world.new ⊎ (world.new.now ≡ 2 ^ 32 - 1)) }
+    ensures step { IfErr result (λ e. e ≡ RunFault.Edge EdgeFault.Step → IsRefusedStart number world.old world.new ⊎ (world.new.now ≡ 2 ^ 32 - 1)) }
     ensures sent { OnOk result (AllSent (packet_counts world.old.sites) (packet_counts world.new.sites) (map (λ l. (L.tally l).sent) links.old) (map (λ l. (L.tally l).sent) links.new)) }
     ensures devices { length links.new ≡ length world.new.sites }
     ensures unwritten { IfErr result (λ e. e ≡ RunFault.Trace → (V.watched watch.new).fault ≡ Some WatchFault.Unwritten) }
     ensures same { (V.watched watch.new).shows ≡ (V.watched watch.old).shows }
-    ensures turns { OnOk result ((V.watched watch.old).seen ≡ 0 → Updates world.old world.new (V.watched watch.new).seen) }
+    ensures turns { OnOk result ((V.watched watch.old).seen ≡ 0 → Updates number world.old world.new (V.watched watch.new).seen) }
     ensures lost { (V.watched watch.new).lost ≡ (V.watched watch.old).lost }
 {
-    match start_all(world) {
+    match start_all(world, number) {
         Ok(()) => {}
         Err(fault) => return Err(fault),
     }
@@ -178,24 +179,25 @@ pub fn update_all<L: Link, V: Watch>(
 pub fn update_watched<L: Link, V: Watch>(
     alloc: Global,
     world: &mut World<'_, MemBank>,
+    number: usize,
     links: &mut [L],
     watch: &mut V,
 ) -> Result<(), RunFault>
     requires { length links.old ≡ length world.old.sites }
-    ensures updated { OnOk result (IsUpdated world.old world.new) }
-    ensures reached { StepsLead world.old world.new }
+    ensures updated { OnOk result (IsUpdated number world.old world.new) }
+    ensures reached { StepsLead number world.old world.new }
     ensures seen { OnOk result ((V.watched watch.new).fault ≡ None) }
     ensures ended { (V.watched watch.new).has_ended ≡ true }
     ensures devices { length links.new ≡ length world.new.sites }
     ensures same { (V.watched watch.new).shows ≡ (V.watched watch.old).shows }
-    ensures turns { OnOk result ((V.watched watch.old).seen ≡ 0 → Updates world.old world.new (V.watched watch.new).seen) }
+    ensures turns { OnOk result ((V.watched watch.old).seen ≡ 0 → Updates number world.old world.new (V.watched watch.new).seen) }
     ensures lost { (V.watched watch.new).lost ≡ (V.watched watch.old).lost }
-    ensures fault { IfErr result (λ e. (e ≡ RunFault.Memory) ⊎ IsCaused world.old world.new e (V.watched watch.new)) }
+    ensures fault { IfErr result (λ e. (e ≡ RunFault.Memory) ⊎ IsCaused number world.old world.new e (V.watched watch.new)) }
     ensures kept { OnOk result (map (λ l. (L.tally l).failures) links.new ≡ map (λ l. (L.tally l).failures) links.old) }
     ensures failed { IfErr result (λ e. AreToldOf e (map (λ l. (L.tally l).failures) links.old) (map (λ l. (L.tally l).failures) links.new)) }
     ensures sent { OnOk result (AllSent (packet_counts world.old.sites) (packet_counts world.new.sites) (map (λ l. (L.tally l).sent) links.old) (map (λ l. (L.tally l).sent) links.new)) }
 {
-    let end = update_all(alloc, world, links, watch);
+    let end = update_all(alloc, world, number, links, watch);
     let watched = watch.end();
     match end {
         Ok(()) => {}

@@ -7,33 +7,49 @@ ghost use Rattle.fw_script.specs.Configs.{config_of};
 ghost use Rattle.fw_script.specs.Schedules.{script_of};
 ghost use Rattle.fw_script.specs.Seen.{config_seen, device_of};
 ghost use Rattle.fw_script.specs.Whole.{AreWhole};
-ghost use Rattle.fwupd_jobs.specs.Setups.{ArePacked, IsPacked, IsUnreadable, PackageFails, PackagesFail, Says, TextFails, TextFault};
+ghost use Rattle.fwupd_jobs.specs.Setups.{ArePacked, IsPacked, IsUnreadable, PackageFails, PackagesFail, Says, TextFails, TextFault, misread_told, unread_told};
 
 use crate::faults::RunFault;
 use crate::files::{FileFault, Files};
 use fw_package::Package;
 use fw_script::{Config, ScriptCause, ScriptFault, read_config, read_schedule};
 use fw_world::Step;
-use std::alloc::Global;
+use std::alloc::{AllocError, Global};
 
-/// What is told of a file that isn't read.
-pub fn read_fault(alloc: Global, path: &str, fault: FileFault) -> RunFault
-    ensures { (result ≡ RunFault.Memory) ⊎ ((fault ≡ FileFault.Unreadable) × IsUnreadable path.now result) }
+/// What is told of a file of this name that isn't read; without memory for its name, that.
+fn unread(name: Result<String, AllocError>, fault: FileFault) -> RunFault
+    ensures { result ≡ unread_told name fault }
 {
-    match (fault, String::from_str(alloc, path)) {
+    match (fault, name) {
         (FileFault::Unreadable, Ok(name)) => RunFault::Unreadable(name),
         _ => RunFault::Memory,
     }
 }
 
-/// What is told of a text that is none of its format.
-pub(crate) fn text_fault(alloc: Global, path: &str, fault: ScriptFault) -> RunFault
-    ensures { (result ≡ RunFault.Memory) ⊎ TextFault path.now fault result }
+/// What is told of a text of this name that is none of its format; without memory for its name, that.
+fn misread(name: Result<String, AllocError>, fault: ScriptFault) -> RunFault
+    ensures { result ≡ misread_told name fault }
 {
-    match (fault.cause, String::from_str(alloc, path)) {
+    match (fault.cause, name) {
         (ScriptCause::Memory, _) | (_, Err(_)) => RunFault::Memory,
         (_, Ok(name)) => RunFault::Text(name, fault),
     }
+}
+
+/// What is told of a file that isn't read.
+#[tactic(auto, using(crate::proofs::Packed::told_unread))]
+pub fn read_fault(alloc: Global, path: &str, fault: FileFault) -> RunFault
+    ensures { (result ≡ RunFault.Memory) ⊎ ((fault ≡ FileFault.Unreadable) × IsUnreadable path.now result) }
+{
+    unread(String::from_str(alloc, path), fault)
+}
+
+/// What is told of a text that is none of its format.
+#[tactic(auto, using(crate::proofs::Packed::told_misread))]
+pub(crate) fn text_fault(alloc: Global, path: &str, fault: ScriptFault) -> RunFault
+    ensures { (result ≡ RunFault.Memory) ⊎ TextFault path.now fault result }
+{
+    misread(String::from_str(alloc, path), fault)
 }
 
 /// What the configuration in the file of a path says.

@@ -4,14 +4,17 @@ ghost use Rattle.std.specs.Prelude.{◌≡◌, ◌∷◌, ◌⊎◌, Bool, IfErr
 ghost use Rattle.std.specs.List.{AllByRecursion};
 ghost use Rattle.fw_script.specs.Reports.{report_of};
 ghost use Rattle.fwupd_jobs.specs.Outputs.{FailsToPrint, Prints};
+ghost use Rattle.fwupd_jobs.specs.Sessions.{undone_in};
 ghost use Rattle.fwupd_jobs.specs.Running.{DrivingEnds, IsApart, IsBarred, IsCaused, IsLost, IsUnlinked, IsUpdated, NamesLost, ReportsUpdate, StepsLead, UpdateEnds, Updates, show_of, shown_of};
 
 use crate::command_line::Show;
 use crate::faults::RunFault;
 use crate::files::{Files, is_read};
 use crate::nodes::opening_world;
+use crate::numbering::is_numbered;
 use crate::output::Output;
 use crate::running::{Watch, WatchFault, update_watched, watch_fault};
+use crate::sessions::{Undone, first_undone};
 use crate::setups::{configuration, package_files, packages_in};
 use fd_core::MemBank;
 use fw_edge::{EdgeFault, Link};
@@ -139,21 +142,22 @@ fn lose_failed<L: Link, V: Watch>(world: &World<'_, MemBank>, links: &[L], watch
 fn update_told<L: Link, V: Watch>(
     alloc: Global,
     world: &mut World<'_, MemBank>,
+    number: usize,
     links: &mut [L],
     watch: &mut V,
 ) -> Result<(), RunFault>
     requires { length links.old ≡ length world.old.sites }
-    ensures updated { OnOk result (IsUpdated world.old world.new) }
-    ensures reached { StepsLead world.old world.new }
+    ensures updated { OnOk result (IsUpdated number world.old world.new) }
+    ensures reached { StepsLead number world.old world.new }
     ensures seen { OnOk result ((V.watched watch.new).fault ≡ None) }
     ensures ended { (V.watched watch.new).has_ended ≡ true }
     ensures same { (V.watched watch.new).shows ≡ (V.watched watch.old).shows }
-    ensures turns { OnOk result ((V.watched watch.old).seen ≡ 0 → Updates world.old world.new (V.watched watch.new).seen) }
+    ensures turns { OnOk result ((V.watched watch.old).seen ≡ 0 → Updates number world.old world.new (V.watched watch.new).seen) }
     ensures lost { IfErr result (λ e. e ≡ RunFault.Edge EdgeFault.Frame → NamesLost world.new (V.watched watch.new).lost) }
     ensures none_lost { OnOk result ((V.watched watch.new).lost ≡ (V.watched watch.old).lost) }
-    ensures fault { IfErr result (λ e. (e ≡ RunFault.Memory) ⊎ IsCaused world.old world.new e (V.watched watch.new)) }
+    ensures fault { IfErr result (λ e. (e ≡ RunFault.Memory) ⊎ IsCaused number world.old world.new e (V.watched watch.new)) }
 {
-    match update_watched(alloc, world, links, watch) {
+    match update_watched(alloc, world, number, links, watch) {
         Ok(()) => Ok(()),
         Err(RunFault::Memory) => Err(RunFault::Memory),
         Err(fault) => {
@@ -163,32 +167,34 @@ fn update_told<L: Link, V: Watch>(
     }
 }
 
-/// Updates each device of a new world with package 1 over a link of its own, and writes the report of what that leaves.
+/// Updates each device of a new world with the package of this number over a link of its own, and writes the report of what that leaves.
 fn update_over<L: Link + Drop, S: Wires<L>, V: Watch, W: Write + Drop>(
     alloc: Global,
     world: &mut World<'_, MemBank>,
+    number: usize,
     folder: &str,
     wires: &mut S,
     watch: &mut V,
     output: &mut Output<W>,
-) -> Result<(), RunFault>
-    ensures updated { OnOk result (IsUpdated world.old world.new) }
+) -> Result<Option<Undone>, RunFault>
+    ensures updated { OnOk result (IsUpdated number world.old world.new) }
     ensures seen { OnOk result ((V.watched watch.new).fault ≡ None) }
     ensures let_end { OnOk result ((V.watched watch.new).has_ended ≡ true) }
-    ensures turns { OnOk result ((V.watched watch.old).seen ≡ 0 → Updates world.old world.new (V.watched watch.new).seen) }
+    ensures turns { OnOk result ((V.watched watch.old).seen ≡ 0 → Updates number world.old world.new (V.watched watch.new).seen) }
     ensures lost { IfErr result (λ e. e ≡ RunFault.Edge EdgeFault.Frame → NamesLost world.new (V.watched watch.new).lost) }
     ensures none_lost { OnOk result ((V.watched watch.new).lost ≡ (V.watched watch.old).lost) }
     ensures unwritten { IfErr result (λ e. e ≡ RunFault.Trace → (V.watched watch.new).fault ≡ Some WatchFault.Unwritten) }
     ensures same { (V.watched watch.new).shows ≡ (V.watched watch.old).shows }
     ensures written { OnOk result (Prints output.old output.new (report_of world.new)) }
-    ensures reached { StepsLead world.old world.new }
-    ensures fault { IfErr result (λ e. DrivingEnds (S.lacks wires.old folder.now) world.old world.new e (V.watched watch.new) output.old output.new) }
+    ensures undone { IfOk result (λ u. u ≡ undone_in world.new) }
+    ensures reached { StepsLead number world.old world.new }
+    ensures fault { IfErr result (λ e. DrivingEnds number (S.lacks wires.old folder.now) world.old world.new e (V.watched watch.new) output.old output.new) }
 {
     let mut links = match open_all(alloc, world, folder, wires) {
         Ok(links) => links,
         Err(fault) => return Err(fault),
     };
-    match update_told(alloc, world, links.as_mut_slice(), watch) {
+    match update_told(alloc, world, number, links.as_mut_slice(), watch) {
         Ok(()) => {}
         Err(RunFault::Memory) => return Err(RunFault::Memory),
         Err(fault) => {
@@ -200,16 +206,16 @@ fn update_over<L: Link + Drop, S: Wires<L>, V: Watch, W: Write + Drop>(
         }
     }
     match write_report(alloc, world, output) {
-        Ok(()) => Ok(()),
+        Ok(()) => Ok(first_undone(world)),
         Err(fault) => Err(fault),
     }
 }
 
-/// Updates the devices of the configuration in a file with its first package, each over a link of its own, and writes the report
-/// of what that leaves.
+/// Updates the devices of the configuration in a file with its package of this number, from 1 on, each over a link of its own, and writes the report
+/// of what that leaves. It gives the first session in configured order that isn't Done then.
 ///
 /// # Errors
-/// The first fault, in this order: of the configuration's file; `NoPackage` where it names no package; of the packages that it
+/// The first fault, in this order: of the configuration's file; `NoPackage` where it names no package of this number; of the packages that it
 /// names, one after the other; `Trace` where what looks on can't begin, or would write over one of these files; `Socket` where a link isn't opened. `Edge` where a link
 /// failed or the clock stands at its end, and `Trace` where what looks on can't write: the report is then of the world that was
 /// reached. `Output` where the report isn't written whole: a beginning of it may be. `Memory` where memory is refused: nothing is
@@ -218,14 +224,15 @@ pub fn update_files<F: Files, L: Link + Drop, S: Wires<L>, V: Watch, W: Write + 
     alloc: Global,
     files: &F,
     config: &str,
+    number: usize,
     folder: &str,
     show: Show<'_>,
     wires: &mut S,
     watch: &mut V,
     output: &mut Output<W>,
-) -> Result<(), RunFault>
-    ensures ok { OnOk result (ReportsUpdate (F.holds files.now) config.now (show_of show.entry) (V.watched watch.new) output.old output.new) }
-    ensures fault { IfErr result (λ e. UpdateEnds (F.holds files.now) config.now (show_of show.entry) (V.refuses watch.old) (S.lacks wires.old folder.now) e (V.watched watch.new) output.old output.new) }
+) -> Result<Option<Undone>, RunFault>
+    ensures ok { IfOk result (λ undone. ReportsUpdate (F.holds files.now) config.now number (show_of show.entry) (V.watched watch.new) output.old output.new undone) }
+    ensures fault { IfErr result (λ e. UpdateEnds (F.holds files.now) config.now number (show_of show.entry) (V.refuses watch.old) (S.lacks wires.old folder.now) e (V.watched watch.new) output.old output.new) }
     ensures untouched { IfErr result (λ e. e ≡ RunFault.Trace → (watch.new ≡ watch.old) ⊎ ((V.watched watch.new).fault ≡ Some WatchFault.Unwritten)) }
 {
     let Config {
@@ -236,7 +243,7 @@ pub fn update_files<F: Files, L: Link + Drop, S: Wires<L>, V: Watch, W: Write + 
         Ok(config) => config,
         Err(fault) => return Err(fault),
     };
-    if paths.is_empty() {
+    if !is_numbered(paths.len(), number) {
         return Err(RunFault::NoPackage);
     }
     let contents = match package_files(alloc, files, paths.as_slice()) {
@@ -255,8 +262,8 @@ pub fn update_files<F: Files, L: Link + Drop, S: Wires<L>, V: Watch, W: Write + 
         Ok(()) => {}
         Err(fault) => return Err(fault),
     }
-    match update_over(alloc, &mut world, folder, wires, watch, output) {
-        Ok(()) => Ok(()),
+    match update_over(alloc, &mut world, number, folder, wires, watch, output) {
+        Ok(undone) => Ok(undone),
         Err(fault) => Err(fault),
     }
 }

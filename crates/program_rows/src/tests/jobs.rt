@@ -7,7 +7,8 @@ use fd_core::MemBank;
 use fw_edge::{Link, MemLink, StreamLink};
 use fw_world::World;
 use fwupd_jobs::{
-    FileFault, FileIdentity, Files, Output, RunFault, Show, Watch, WatchFault, Wires, update_files,
+    FileFault, FileIdentity, Files, Order, Output, RunFault, Show, Watch, WatchFault, Wires,
+    plan_file, update_checked,
 };
 use std::alloc::Global;
 use std::os::unix::net::UnixStream;
@@ -217,10 +218,14 @@ fn updated<'a, L: Link + Drop, S: Wires<L>>(
         Ok(output) => output,
         Err(fault) => return Ok((outcome(rt, Err(fault), Vec::new(rt.alloc()))?, 0, None)),
     };
-    let end = update_files(
+    let end = update_checked(
         rt.alloc(),
         &MemFiles { files: &files },
         "c",
+        Order {
+            number: 1,
+            is_checked: true,
+        },
         "f",
         Show {
             is_quiet: true,
@@ -244,14 +249,73 @@ const WHOLE: &[u8] = b"agent 8 00000000-0000-0000-0000-000000000000\n\
     component 10 1 0 1 1.0 AA\n\
     package p\n";
 
+/// The same of a device that the package isn't for.
+const OTHER: &[u8] = b"agent 8 00000000-0000-0000-0000-000000000000\n\
+    device 9 00000000-0000-0000-0000-000000000000\n\
+    descriptor 0000 3413\n\
+    component 10 1 0 1 1.0 AA\n\
+    package p\n";
+
+/// What is planned with the package of this number, and the text of the fault, if there is one.
+fn planned(
+    rt: &HostRuntime,
+    config: &[u8],
+    package: &[u8],
+    number: usize,
+) -> Result<Vec<u8>, Fail> {
+    let files = [("c", 1, config), ("p", 2, package)];
+    let mut output = match Output::new(rt.alloc(), Vec::new(rt.alloc())) {
+        Ok(output) => output,
+        Err(fault) => return outcome(rt, Err(fault), Vec::new(rt.alloc())),
+    };
+    let end = plan_file(
+        rt.alloc(),
+        &MemFiles { files: &files },
+        "c",
+        number,
+        &mut output,
+    );
+    outcome(rt, end, output.into_writer())
+}
+
+#[test]
+fn an_update_is_foretold(rt: HostRuntime) -> Result<(), Fail> {
+    let whole = b"device 9 package 1 record 1 set \"A\" Update\n\
+        component 10 ident 1 size 241 stamp 00000002 version \"v2\" active 00000001 \"1.0\" update\n"
+        .as_slice();
+    let other =
+        b"device 9 package 1 record - set - NoRecord\nrecord 1 lacks descriptor 0000 3412\n".as_slice();
+    let table: [(&[u8], usize, &[u8]); 4] = [
+        (WHOLE, 1, whole),
+        (OTHER, 1, other),
+        (WHOLE, 2, b"package: none"),
+        (CONFIG, 1, b"package: none"),
+    ];
+    let package = package(&rt)?;
+    for (config, number, text) in table {
+        let told = planned(&rt, config, &package, number)?;
+        assert!(rt; told.as_slice() == text, "{}", told.escape_ascii());
+    }
+    Ok(())
+}
+
 #[test]
 fn an_update_is_reported_turn_by_turn(rt: HostRuntime) -> Result<(), Fail> {
     let report = b"now 12\nagent 8 up\ndevice 9 up ACTIVATE session Done sent 27\n\
         active 9 10 1 241 000102030405060708090A0B0C0D0E0F..\nlog 3 last -\n\
         applied 9 10 1 241\nrecorded 9 1 1\nactivated 9 10 1 241\n"
         .as_slice();
-    let table: [(&[u8], u8, usize, &[u8], &[u8], usize); 4] = [
+    let failed = b"now 1\nagent 8 up\ndevice 9 up IDLE session Failed:NoRecord sent 2\n".as_slice();
+    let table: [(&[u8], u8, usize, &[u8], &[u8], usize); 5] = [
         (WHOLE, 0, 0, report, b"", 12),
+        (
+            OTHER,
+            0,
+            0,
+            failed,
+            b"\nlog 2 last -\nsession 9: NoRecord",
+            1,
+        ),
         (WHOLE, 9, 0, b"", b"socket: 9", 0),
         (CONFIG, 0, 0, b"", b"package: none", 0),
         (WHOLE, 0, 2, b"now 2\n", b"\ntrace", 2),

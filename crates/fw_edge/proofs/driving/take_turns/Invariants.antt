@@ -1,7 +1,8 @@
 use Rattle.std.proofs.Common.{◌≡◌, ◌≤◌, ◌+◌, ◌*◌, length, map, true}
-use Rattle.fw_edge.specs.Drives.{Drives, all_over, delivers_in, ticks_in}
-use Rattle.fw_edge.specs.Ledgers.{AllRose, AllSent, AreGiven, packet_counts}
+use Rattle.fw_edge.specs.Drives.{Drives, all_over, ticks_in}
+use Rattle.fw_edge.specs.Ledgers.{packet_counts}
 use Rattle.fw_edge.specs.Links.{links_at}
+use Rattle.fw_edge.specs.Outcomes.{LinksDriven}
 use Rattle.fw_edge.specs.Turns.{Drove}
 use Rattle.fw_edge.proofs.driving.take_turns.Given as goal
 
@@ -12,12 +13,9 @@ invariant-loop-count g l = record {
   drove : Drove l.count l.fn.world l.fn.steps.items (links_at l.fn.written (map g.L.Link.taken l.fn.links) (map g.L.Link.gave l.fn.links)) l.world l.steps.items (links_at l.written (map g.L.Link.taken l.links) (map g.L.Link.gave l.links)) l.foreign;
   over : all_over l.fn.world ≡ true → (l.world ≡ l.fn.world) × (l.steps.items ≡ l.fn.steps.items);
   ticks : ticks_in l.steps.items ≡ ticks_in l.fn.steps.items + l.count;
-  kept : map (λ k. (g.L.Link.tally k).failures) l.links ≡ map (λ k. (g.L.Link.tally k).failures) l.fn.links;
   same : length l.links ≡ length l.fn.links;
   written : length l.written ≡ length l.links;
   few : l.foreign ≤ 1055 * l.count;
-  asked : AllRose (2 * l.count) (map (λ k. (g.L.Link.tally k).asked) l.fn.links) (map (λ k. (g.L.Link.tally k).asked) l.links);
-  given : AreGiven (delivers_in l.fn.steps.items) (delivers_in l.steps.items) l.foreign (map (λ k. (g.L.Link.tally k).given) l.fn.links) (map (λ k. (g.L.Link.tally k).given) l.links);
+  counts : LinksDriven g.L.Link.tally l.count l.fn.world l.fn.steps.items l.fn.links l.world l.steps.items l.links l.foreign;
   all : l.written ≡ packet_counts l.world.sites;
-  sent : AllSent (packet_counts l.fn.world.sites) (packet_counts l.world.sites) (map (λ k. (g.L.Link.tally k).sent) l.fn.links) (map (λ k. (g.L.Link.tally k).sent) l.links);
 }

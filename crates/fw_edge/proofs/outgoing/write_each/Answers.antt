@@ -4,11 +4,10 @@ use Rattle.fw_edge.proofs.outgoing.write_each.Goals as goal
 
 pub loop-packet-preserved : goal.loop-packet-preserved
 loop-packet-preserved g c = record {
-  counts = search rules;
+  wrote = record { counts = search rules; gave_none = c.in-Ok.ensures.gave ∙ c.loop-packet.invariant.wrote.gave_none };
   took =
       took_more c.args.device (g.L.Link.taken c.args.link.now) (g.L.Link.taken c.loop-packet.link) (g.L.Link.taken c.send.new.self) c.args.packets.now c.loop-packet.packet-index c.packet-item.result c.end_of.result
       (omega arith) c.packet-item.is c.end_of.ensures c.loop-packet.invariant.took c.in-Ok.ensures.taken;
-  gave = c.in-Ok.ensures.gave ∙ c.loop-packet.invariant.gave;
 }
 
 pub returns-clause-took : goal.returns-clause-took

@@ -1,5 +1,5 @@
-use Rattle.std.proofs.Common.{◌≡◌, map, take}
-use Rattle.fw_edge.specs.Ledgers.{Writes}
+use Rattle.std.proofs.Common.{map, take}
+use Rattle.fw_edge.specs.Outcomes.{LinkWrote}
 use Rattle.fw_edge.specs.Outgoing.{TookAll}
 use Rattle.fw_edge.proofs.Taking.{bytes_in}
 use Rattle.fw_edge.proofs.outgoing.write_each.Given as goal
@@ -7,7 +7,6 @@ use Rattle.fw_edge.proofs.outgoing.write_each.Given as goal
 -- so many packets were taken, and nothing was given
 abbrev pub invariant-loop-packet : goal.invariant-loop-packet
 invariant-loop-packet g l = record {
-  counts : Writes l.packet-index (g.L.Link.tally l.fn.link) (g.L.Link.tally l.link);
+  wrote : LinkWrote g.L.Link.tally g.L.Link.gave l.packet-index l.fn.link l.link;
   took : TookAll l.device (g.L.Link.taken l.fn.link) (map bytes_in (take l.packet-index l.packets)) (g.L.Link.taken l.link);
-  gave : g.L.Link.gave l.link ≡ g.L.Link.gave l.fn.link;
 }

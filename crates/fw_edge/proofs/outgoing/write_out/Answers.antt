@@ -7,19 +7,24 @@ use Rattle.fw_edge.proofs.Sending.{count_at, sent_next, sent_none, written_all, 
 use Rattle.fw_edge.proofs.Taking.{took_each, took_next}
 use Rattle.fw_edge.proofs.outgoing.write_out.Goals as goal
 
-pub returns-in-Err-clause-failed : goal.returns-in-Err-clause-failed
-returns-in-Err-clause-failed g c =
-    failed_from (λ k. (g.L.Link.tally k).failures) (map (λ k. (g.L.Link.tally k).failures) c.args.links.now) c.loop-place.links c.loop-place.place c.index-links-place.result c.write_at.new.link
-    c.loop-place.invariant.kept (omega arith) c.in-Err.ensures.failed
+pub returns-in-Err-clause-refused : goal.returns-in-Err-clause-refused
+returns-in-Err-clause-refused g c = record {
+  is = c.in-Err.ensures.refused.is;
+  failed =
+      failed_from (λ k. (g.L.Link.tally k).failures) (map (λ k. (g.L.Link.tally k).failures) c.args.links.now) c.loop-place.links c.loop-place.place c.index-links-place.result c.write_at.new.link
+      c.loop-place.invariant.wrote.kept (omega arith) c.in-Err.ensures.refused.failed;
+}
 
 pub loop-place-init : goal.loop-place-init
 loop-place-init g c = record {
   took = (refl, refl);
   gave = refl;
-  kept = refl;
-  asked = refl;
-  given = refl;
-  sent = sent_none c.args.written.now (map (λ k. (g.L.Link.tally k).sent) c.args.links.now) (rw (map_length (λ k. (g.L.Link.tally k).sent) c.args.links.now) c.requires.each);
+  wrote = record {
+    kept = refl;
+    asked = refl;
+    given = refl;
+    sent = sent_none c.args.written.now (map (λ k. (g.L.Link.tally k).sent) c.args.links.now) (rw (map_length (λ k. (g.L.Link.tally k).sent) c.args.links.now) c.requires.each);
+  };
   written = c.requires.within;
 }
 
@@ -31,22 +36,21 @@ loop-place-preserved g c =
       took =
           took_next g.L.Link.taken c.loop-place.place c.args.world.now.sites c.args.written.now c.loop-place.written (map g.L.Link.taken c.args.links.now) c.loop-place.links c.sent_at.result c.index-links-place.result c.write_at.new.link
           (omega arith) (omega arith) (omega arith) c.loop-place.invariant.took c.in-Ok.ensures.took;
-      gave = same_from g.L.Link.gave (map g.L.Link.gave c.args.links.now) c.loop-place.links c.loop-place.place c.index-links-place.result c.write_at.new.link c.loop-place.invariant.gave c.in-Ok.ensures.gave;
-      kept = same_from (λ k. (g.L.Link.tally k).failures) (map (λ k. (g.L.Link.tally k).failures) c.args.links.now) c.loop-place.links c.loop-place.place c.index-links-place.result c.write_at.new.link c.loop-place.invariant.kept c.in-Ok.ensures.kept;
-      asked = same_from (λ k. (g.L.Link.tally k).asked) (map (λ k. (g.L.Link.tally k).asked) c.args.links.now) c.loop-place.links c.loop-place.place c.index-links-place.result c.write_at.new.link c.loop-place.invariant.asked c.in-Ok.ensures.asked;
-      given = same_from (λ k. (g.L.Link.tally k).given) (map (λ k. (g.L.Link.tally k).given) c.args.links.now) c.loop-place.links c.loop-place.place c.index-links-place.result c.write_at.new.link c.loop-place.invariant.given c.in-Ok.ensures.given;
-      sent =
-          sent_next (λ k. (g.L.Link.tally k).sent) c.args.written.now c.loop-place.written (map (λ k. (g.L.Link.tally k).sent) c.args.links.now) c.loop-place.links c.loop-place.place
-          c.sent_at.result c.index-links-place.result c.write_at.new.link (omega arith) (omega arith)
-          (rw (c.sent_at.ensures, sym (count_at c.args.world.now.sites c.loop-place.place)) (written_within c.loop-place.place c.loop-place.written (packet_counts c.args.world.now.sites) (omega arith) c.loop-place.invariant.written))
-          (rw c.sent_at.ensures c.in-Ok.ensures.sent) c.loop-place.invariant.sent;
+      gave = same_from g.L.Link.gave (map g.L.Link.gave c.args.links.now) c.loop-place.links c.loop-place.place c.index-links-place.result c.write_at.new.link c.loop-place.invariant.gave c.in-Ok.ensures.wrote.gave_none;
+      wrote = record {
+        kept = same_from (λ k. (g.L.Link.tally k).failures) (map (λ k. (g.L.Link.tally k).failures) c.args.links.now) c.loop-place.links c.loop-place.place c.index-links-place.result c.write_at.new.link c.loop-place.invariant.wrote.kept c.in-Ok.ensures.wrote.counts.failures;
+        asked = same_from (λ k. (g.L.Link.tally k).asked) (map (λ k. (g.L.Link.tally k).asked) c.args.links.now) c.loop-place.links c.loop-place.place c.index-links-place.result c.write_at.new.link c.loop-place.invariant.wrote.asked c.in-Ok.ensures.wrote.counts.asked;
+        given = same_from (λ k. (g.L.Link.tally k).given) (map (λ k. (g.L.Link.tally k).given) c.args.links.now) c.loop-place.links c.loop-place.place c.index-links-place.result c.write_at.new.link c.loop-place.invariant.wrote.given c.in-Ok.ensures.wrote.counts.given;
+        sent =
+            sent_next (λ k. (g.L.Link.tally k).sent) c.args.written.now c.loop-place.written (map (λ k. (g.L.Link.tally k).sent) c.args.links.now) c.loop-place.links c.loop-place.place
+            c.sent_at.result c.index-links-place.result c.write_at.new.link (omega arith) (omega arith)
+            (rw (c.sent_at.ensures, sym (count_at c.args.world.now.sites c.loop-place.place)) (written_within c.loop-place.place c.loop-place.written (packet_counts c.args.world.now.sites) (omega arith) c.loop-place.invariant.written))
+            (rw c.sent_at.ensures c.in-Ok.ensures.wrote.counts.sent_rise) c.loop-place.invariant.wrote.sent;
+      };
       written =
           written_next c.loop-place.place c.loop-place.written (packet_counts c.args.world.now.sites) c.sent_at.result (omega arith)
           (c.sent_at.ensures ∙ sym (count_at c.args.world.now.sites c.loop-place.place)) c.loop-place.invariant.written;
     }
-
-pub returns-clause-all : goal.returns-clause-all
-returns-clause-all g c = written_all c.loop-place.place c.loop-place.written (packet_counts c.args.world.now.sites) (omega arith) c.loop-place.invariant.written
 
 pub returns-clause-out : goal.returns-clause-out
 returns-clause-out g c = record {

@@ -1,26 +1,24 @@
 use Rattle.std.proofs.Common.{◌+◌, map}
 use Rattle.fw_edge.specs.Links.{links_at}
-use Rattle.fw_edge.proofs.Rising.{rose_to, together_to}
-use Rattle.fw_edge.proofs.Sending.{sent_on}
+use Rattle.fw_edge.proofs.Parts.{exchanged_wrote, stopped_later, stopped_refused}
 use Rattle.fw_edge.proofs.rounds.exchange.Goals as goal
 
-pub returns-clause-asked : goal.returns-clause-asked
-returns-clause-asked g c =
-    rose_to 2 (map (λ k. (g.L.Link.tally k).asked) c.args.links.now) (map (λ k. (g.L.Link.tally k).asked) c.rounds.new.links) (map (λ k. (g.L.Link.tally k).asked) c.write_out.new.links) c.in-Ok-write_out.ensures.asked c.in-Ok.ensures.asked
+pub returns-in-Err-write_out-clause-stopped : goal.returns-in-Err-write_out-clause-stopped
+returns-in-Err-write_out-clause-stopped g c =
+    stopped_later g.L.Link.tally c.in-Err-write_out.fault c.args.world.now c.rounds.new.world c.rounds.new.world c.args.steps.now.items c.rounds.new.steps.items c.rounds.new.steps.items
+    c.args.links.now c.rounds.new.links c.write_out.new.links 0 c.in-Ok.frames.known c.in-Ok.ensures.done.goes c.in-Ok.ensures.done.counts.kept
+    (stopped_refused g.L.Link.tally c.in-Err-write_out.fault c.rounds.new.world c.rounds.new.steps.items c.rounds.new.links c.write_out.new.links c.in-Err-write_out.ensures.refused)
 
-pub returns-clause-given : goal.returns-clause-given
-returns-clause-given g c =
-    together_to (c.in-Ok.frames.known + c.in-Ok.frames.foreign) (map (λ k. (g.L.Link.tally k).given) c.args.links.now) (map (λ k. (g.L.Link.tally k).given) c.rounds.new.links) (map (λ k. (g.L.Link.tally k).given) c.write_out.new.links)
-    c.in-Ok-write_out.ensures.given c.in-Ok.ensures.given
-
-pub returns-clause-sent : goal.returns-clause-sent
-returns-clause-sent g c =
-    sent_on c.args.written.now c.rounds.new.written c.write_out.new.written (map (λ k. (g.L.Link.tally k).sent) c.args.links.now) (map (λ k. (g.L.Link.tally k).sent) c.rounds.new.links) (map (λ k. (g.L.Link.tally k).sent) c.write_out.new.links)
-    c.in-Ok.ensures.sent c.in-Ok-write_out.ensures.sent
-
-pub returns-clause-exchanged : goal.returns-clause-exchanged
-returns-clause-exchanged g c = record {
-  links = links_at c.rounds.new.written (map g.L.Link.taken c.rounds.new.links) (map g.L.Link.gave c.rounds.new.links);
-  rounds = c.in-Ok.ensures.rounds;
-  out = c.in-Ok-write_out.ensures.out;
+pub returns-clause-done : goal.returns-clause-done
+returns-clause-done g c = record {
+  does_so = record {
+    links = links_at c.rounds.new.written (map g.L.Link.taken c.rounds.new.links) (map g.L.Link.gave c.rounds.new.links);
+    rounds = c.in-Ok.ensures.done.does_so;
+    out = c.in-Ok-write_out.ensures.out;
+  };
+  goes = c.in-Ok.ensures.done.goes;
+  few = c.in-Ok.ensures.done.few;
+  counts =
+      exchanged_wrote g.L.Link.tally 2 (c.in-Ok.frames.known + c.in-Ok.frames.foreign) c.args.written.now c.rounds.new.written c.write_out.new.written c.args.links.now c.rounds.new.links c.write_out.new.links
+      c.in-Ok.ensures.done.counts c.in-Ok-write_out.ensures.wrote;
 }

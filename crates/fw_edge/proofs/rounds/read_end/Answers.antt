@@ -1,14 +1,27 @@
-use Rattle.std.proofs.Common.{◌+◌, arith}
+use Rattle.std.proofs.Common.{◌+◌, arith, rules}
+use Rattle.fw_edge.proofs.Going.{goes_none}
 use Rattle.fw_edge.proofs.Turning.{came_frame, came_nothing}
 use Rattle.fw_edge.proofs.rounds.read_end.Goals as goal
 
-pub returns-in_default-clause-came : goal.returns-in_default-clause-came
-returns-in_default-clause-came g c =
-    came_nothing c.args.world.now c.args.steps.now.items (g.L.Link.gave c.args.link.now) (g.L.Link.gave c.receive.new.self) c.args.device c.args.end (c.none.result.known + c.none.result.foreign)
-    (rw c.in_default.is at c.in-Ok.ensures.gave)
-    (omega (arith, c.none.ensures.known, c.none.ensures.foreign))
+pub returns-in_default-clause-read : goal.returns-in_default-clause-read
+returns-in_default-clause-read g c = record {
+  goes = rw c.none.ensures.known (goes_none c.args.world.now c.args.steps.now.items);
+  few = omega (arith, c.none.ensures.known, c.none.ensures.foreign);
+  came =
+      came_nothing c.args.world.now c.args.steps.now.items (g.L.Link.gave c.args.link.now) (g.L.Link.gave c.receive.new.self) c.args.device c.args.end (c.none.result.known + c.none.result.foreign)
+      (rw c.in_default.is at c.in-Ok.ensures.gave)
+      (omega (arith, c.none.ensures.known, c.none.ensures.foreign));
+  took_none = c.in-Ok.ensures.taken;
+  reads = search rules;
+}
 
-pub returns-in-Ok-hand_over-clause-came : goal.returns-in-Ok-hand_over-clause-came
-returns-in-Ok-hand_over-clause-came g c =
-    came_frame c.args.world.now c.hand_over.new.world c.args.steps.now.items c.hand_over.new.steps.items (g.L.Link.gave c.args.link.now) (g.L.Link.gave c.receive.new.self) c.args.device c.args.end c.in-Some.packet.items
-    (c.in-Ok-hand_over.frames.known + c.in-Ok-hand_over.frames.foreign) c.in-Ok-hand_over.ensures.over (rw c.in-Some.is at c.in-Ok.ensures.gave) c.in-Ok-hand_over.ensures.one
+pub returns-in-Ok-hand_over-clause-read : goal.returns-in-Ok-hand_over-clause-read
+returns-in-Ok-hand_over-clause-read g c = record {
+  goes = c.in-Ok-hand_over.ensures.goes;
+  few = omega (arith, c.in-Ok-hand_over.ensures.one);
+  came =
+      came_frame c.args.world.now c.hand_over.new.world c.args.steps.now.items c.hand_over.new.steps.items (g.L.Link.gave c.args.link.now) (g.L.Link.gave c.receive.new.self) c.args.device c.args.end c.in-Some.packet.items
+      (c.in-Ok-hand_over.frames.known + c.in-Ok-hand_over.frames.foreign) c.in-Ok-hand_over.ensures.over (rw c.in-Some.is at c.in-Ok.ensures.gave) c.in-Ok-hand_over.ensures.one;
+  took_none = c.in-Ok.ensures.taken;
+  reads = search rules;
+}

@@ -7,42 +7,43 @@ use Rattle.fw_edge.proofs.Rising.{map_length, rose_all, rose_next, together_next
 use Rattle.fw_edge.proofs.Turning.{came_all, came_next, came_none}
 use Rattle.fw_edge.proofs.rounds.read_round.Goals as goal
 
-pub returns-in-Err-clause-drives : goal.returns-in-Err-clause-drives
-returns-in-Err-clause-drives g c =
-    goes_off c.args.world.now c.loop-place.world c.read_both.new.world c.args.steps.now.items c.loop-place.steps.items c.read_both.new.steps.items
-    0 c.loop-place.frames.known c.loop-place.invariant.goes c.in-Err.ensures.drives
-
-pub returns-in-Err-clause-failed : goal.returns-in-Err-clause-failed
-returns-in-Err-clause-failed g c =
-    told_from c.in-Err.fault (λ k. (g.L.Link.tally k).failures) (map (λ k. (g.L.Link.tally k).failures) c.args.links.now) c.loop-place.links c.loop-place.place c.index-links-place.result c.read_both.new.link
-    c.loop-place.invariant.kept (omega arith) c.in-Err.ensures.failed
+pub returns-in-Err-clause-stopped : goal.returns-in-Err-clause-stopped
+returns-in-Err-clause-stopped g c = record {
+  drives =
+      goes_off c.args.world.now c.loop-place.world c.read_both.new.world c.args.steps.now.items c.loop-place.steps.items c.read_both.new.steps.items
+      0 c.loop-place.frames.known c.loop-place.invariant.goes c.in-Err.ensures.stopped.drives;
+  fault = c.in-Err.ensures.stopped.fault;
+  failed =
+      told_from c.in-Err.fault (λ k. (g.L.Link.tally k).failures) (map (λ k. (g.L.Link.tally k).failures) c.args.links.now) c.loop-place.links c.loop-place.place c.index-links-place.result c.read_both.new.link
+      c.loop-place.invariant.kept (omega arith) c.in-Err.ensures.stopped.failed;
+}
 
 pub loop-place-preserved : goal.loop-place-preserved
 loop-place-preserved g c = record {
   goes =
       goes_sum c.args.world.now c.loop-place.world c.read_both.new.world c.args.steps.now.items c.loop-place.steps.items c.read_both.new.steps.items
-      0 c.loop-place.frames.known 0 c.in-Ok.more.known 0 c.and-frames.result.known c.loop-place.invariant.goes c.in-Ok.ensures.goes refl c.and-frames.ensures.known;
+      0 c.loop-place.frames.known 0 c.in-Ok.more.known 0 c.and-frames.result.known c.loop-place.invariant.goes c.in-Ok.ensures.read.goes refl c.and-frames.ensures.known;
   came =
       came_next g.L.Link.taken g.L.Link.gave [] c.loop-place.links c.index-links-place.result c.read_both.new.link (links_at [] (map g.L.Link.taken c.args.links.now) (map g.L.Link.gave c.args.links.now))
       c.args.world.now c.loop-place.world c.read_both.new.world c.args.steps.now.items c.loop-place.steps.items c.read_both.new.steps.items
       c.loop-place.place (c.loop-place.frames.known + c.loop-place.frames.foreign) (c.in-Ok.more.known + c.in-Ok.more.foreign) (c.and-frames.result.known + c.and-frames.result.foreign) c.eid_at-device.result
-      c.loop-place.invariant.goes.drives (omega (arith, c.requires.devices)) (omega arith) c.eid_at-device.ensures c.loop-place.invariant.came c.in-Ok.ensures.came c.in-Ok.ensures.took_none
+      c.loop-place.invariant.goes.drives (omega (arith, c.requires.devices)) (omega arith) c.eid_at-device.ensures c.loop-place.invariant.came c.in-Ok.ensures.read.came c.in-Ok.ensures.read.took_none
       (omega (arith, c.and-frames.ensures.known, c.and-frames.ensures.foreign));
-  few = omega (arith, c.in-Ok.ensures.few, c.and-frames.ensures.known, c.and-frames.ensures.foreign);
+  few = omega (arith, c.in-Ok.ensures.read.few, c.and-frames.ensures.known, c.and-frames.ensures.foreign);
   kept =
       same_from (λ k. (g.L.Link.tally k).failures) (map (λ k. (g.L.Link.tally k).failures) c.args.links.now) c.loop-place.links c.loop-place.place c.index-links-place.result c.read_both.new.link
-      c.loop-place.invariant.kept c.in-Ok.ensures.reads.failures;
+      c.loop-place.invariant.kept c.in-Ok.ensures.read.reads.failures;
   asked =
       rose_next (λ k. (g.L.Link.tally k).asked) 2 (map (λ k. (g.L.Link.tally k).asked) c.args.links.now) c.loop-place.links c.loop-place.place c.index-links-place.result c.read_both.new.link
-      (omega arith) c.in-Ok.ensures.reads.asked_rise c.loop-place.invariant.asked;
+      (omega arith) c.in-Ok.ensures.read.reads.asked_rise c.loop-place.invariant.asked;
   given =
       together_next (λ k. (g.L.Link.tally k).given) (c.loop-place.frames.known + c.loop-place.frames.foreign) (c.in-Ok.more.known + c.in-Ok.more.foreign)
       (c.and-frames.result.known + c.and-frames.result.foreign) (map (λ k. (g.L.Link.tally k).given) c.args.links.now) c.loop-place.links c.loop-place.place
-      c.index-links-place.result c.read_both.new.link (omega arith) c.in-Ok.ensures.reads.given_rise (omega (arith, c.and-frames.ensures.known, c.and-frames.ensures.foreign))
+      c.index-links-place.result c.read_both.new.link (omega arith) c.in-Ok.ensures.read.reads.given_rise (omega (arith, c.and-frames.ensures.known, c.and-frames.ensures.foreign))
       c.loop-place.invariant.given;
   sent =
       same_from (λ k. (g.L.Link.tally k).sent) (map (λ k. (g.L.Link.tally k).sent) c.args.links.now) c.loop-place.links c.loop-place.place c.index-links-place.result c.read_both.new.link
-      c.loop-place.invariant.sent c.in-Ok.ensures.reads.sent;
+      c.loop-place.invariant.sent c.in-Ok.ensures.read.reads.sent;
 }
 
 pub loop-place-init : goal.loop-place-init
@@ -56,13 +57,20 @@ loop-place-init g c = record {
   sent = refl;
 }
 
-pub returns-clause-asked : goal.returns-clause-asked
-returns-clause-asked g c =
-    rose_all 2 c.loop-place.place (map (λ k. (g.L.Link.tally k).asked) c.args.links.now) (map (λ k. (g.L.Link.tally k).asked) c.loop-place.links)
-    (rw (map_length (λ k. (g.L.Link.tally k).asked) c.args.links.now) (omega arith)) c.loop-place.invariant.asked
-
-pub returns-clause-came : goal.returns-clause-came
-returns-clause-came g c =
-    came_all c.args.world.now c.loop-place.world c.args.steps.now.items c.loop-place.steps.items (links_at [] (map g.L.Link.taken c.args.links.now) (map g.L.Link.gave c.args.links.now))
-    (links_at [] (map g.L.Link.taken c.loop-place.links) (map g.L.Link.gave c.loop-place.links)) c.loop-place.place (c.loop-place.frames.known + c.loop-place.frames.foreign)
-    (omega (arith, c.requires.devices)) c.loop-place.invariant.came
+pub returns-clause-read : goal.returns-clause-read
+returns-clause-read g c = record {
+  came =
+      came_all c.args.world.now c.loop-place.world c.args.steps.now.items c.loop-place.steps.items (links_at [] (map g.L.Link.taken c.args.links.now) (map g.L.Link.gave c.args.links.now))
+      (links_at [] (map g.L.Link.taken c.loop-place.links) (map g.L.Link.gave c.loop-place.links)) c.loop-place.place (c.loop-place.frames.known + c.loop-place.frames.foreign)
+      (omega (arith, c.requires.devices)) c.loop-place.invariant.came;
+  goes = c.loop-place.invariant.goes;
+  few = omega (arith, c.loop-place.invariant.few, c.requires.few);
+  counts = record {
+    kept = c.loop-place.invariant.kept;
+    asked =
+        rose_all 2 c.loop-place.place (map (λ k. (g.L.Link.tally k).asked) c.args.links.now) (map (λ k. (g.L.Link.tally k).asked) c.loop-place.links)
+        (rw (map_length (λ k. (g.L.Link.tally k).asked) c.args.links.now) (omega arith)) c.loop-place.invariant.asked;
+    given = c.loop-place.invariant.given;
+    sent = c.loop-place.invariant.sent;
+  };
+}

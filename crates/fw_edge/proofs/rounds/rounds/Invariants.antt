@@ -1,8 +1,9 @@
-use Rattle.std.proofs.Common.{◌≡◌, ◌<◌, ◌+◌, ◌*◌, map}
+use Rattle.std.proofs.Common.{◌<◌, ◌+◌, ◌*◌, map}
 use Rattle.fw_edge.specs.Drives.{Goes}
-use Rattle.fw_edge.specs.Ledgers.{AllRose, AllSent, NoneFell, RoseTogether, packet_counts}
+use Rattle.fw_edge.specs.Ledgers.{NoneFell, packet_counts}
 use Rattle.fw_world.specs.Promises.{eids_of}
 use Rattle.fw_edge.specs.Links.{links_at}
+use Rattle.fw_edge.specs.Outcomes.{LinksExchanged}
 use Rattle.fw_edge.specs.Turns.{RoundsOn}
 use Rattle.fw_edge.proofs.rounds.rounds.Given as goal
 
@@ -12,9 +13,6 @@ invariant-loop g l = record {
   goes : Goes l.fn.world l.fn.steps.items l.world l.steps.items 0 l.frames.known;
   on : RoundsOn (eids_of l.fn.world.sites) l.counter l.fn.world l.fn.steps.items (links_at l.fn.written (map g.L.Link.taken l.fn.links) (map g.L.Link.gave l.fn.links)) l.world l.steps.items (links_at l.written (map g.L.Link.taken l.links) (map g.L.Link.gave l.links)) (l.frames.known + l.frames.foreign);
   few : l.frames.known + l.frames.foreign < 1024;
-  kept : map (λ k. (g.L.Link.tally k).failures) l.links ≡ map (λ k. (g.L.Link.tally k).failures) l.fn.links;
-  asked : AllRose (2 * l.counter) (map (λ k. (g.L.Link.tally k).asked) l.fn.links) (map (λ k. (g.L.Link.tally k).asked) l.links);
-  given : RoseTogether (l.frames.known + l.frames.foreign) (map (λ k. (g.L.Link.tally k).given) l.fn.links) (map (λ k. (g.L.Link.tally k).given) l.links);
-  sent : AllSent l.fn.written l.written (map (λ k. (g.L.Link.tally k).sent) l.fn.links) (map (λ k. (g.L.Link.tally k).sent) l.links);
+  counts : LinksExchanged g.L.Link.tally (2 * l.counter) (l.frames.known + l.frames.foreign) l.fn.written l.written l.fn.links l.links;
   within : NoneFell l.written (packet_counts l.world.sites);
 }

@@ -4,16 +4,18 @@ use Rattle.fw_edge.proofs.Going.{goes_none, goes_off, goes_on}
 use Rattle.fw_edge.specs.Turns.{activation_for}
 use Rattle.fw_edge.proofs.steps.activate_all.Goals as goal
 
-pub returns-in-Err-clause-drives : goal.returns-in-Err-clause-drives
-returns-in-Err-clause-drives g c =
-    goes_off c.args.world.now c.loop-place.world c.activate.new.world c.args.steps.now.items c.loop-place.steps.items c.activate.new.steps.items 0 0
-    c.loop-place.invariant.goes c.in-Err.ensures.drives
+pub returns-in-Err-clause-stopped : goal.returns-in-Err-clause-stopped
+returns-in-Err-clause-stopped g c = record {
+  drives =
+      goes_off c.args.world.now c.loop-place.world c.activate.new.world c.args.steps.now.items c.loop-place.steps.items c.activate.new.steps.items 0 0
+      c.loop-place.invariant.quiet.goes c.in-Err.ensures.stopped.drives;
+  fault = c.in-Err.ensures.stopped.fault;
+}
 
 pub loop-place-init : goal.loop-place-init
 loop-place-init g c = record {
   due = due_none activation_for c.args.world.now c.args.steps.now.items;
-  goes = goes_none c.args.world.now c.args.steps.now.items;
-  sent = refl;
+  quiet = record { goes = goes_none c.args.world.now c.args.steps.now.items; sent = refl };
 }
 
 pub loop-place-preserved : goal.loop-place-preserved
@@ -21,10 +23,12 @@ loop-place-preserved g c = record {
   due =
       due_next activation_for c.loop-place.place c.args.world.now c.loop-place.world c.activate.new.world c.args.steps.now.items c.loop-place.steps.items c.activate.new.steps.items
       activations_for_one c.is_promised.ensures.apart c.loop-place.invariant.due c.in-Ok.ensures.due;
-  goes =
-      goes_on c.args.world.now c.loop-place.world c.activate.new.world c.args.steps.now.items c.loop-place.steps.items c.activate.new.steps.items 0 0 0 0
-      c.loop-place.invariant.goes c.in-Ok.ensures.goes;
-  sent = c.in-Ok.ensures.sent ∙ c.loop-place.invariant.sent;
+  quiet = record {
+    goes =
+        goes_on c.args.world.now c.loop-place.world c.activate.new.world c.args.steps.now.items c.loop-place.steps.items c.activate.new.steps.items 0 0 0 0
+        c.loop-place.invariant.quiet.goes c.in-Ok.ensures.quiet.goes;
+    sent = c.in-Ok.ensures.quiet.sent ∙ c.loop-place.invariant.quiet.sent;
+  };
 }
 
 pub returns-clause-due : goal.returns-clause-due

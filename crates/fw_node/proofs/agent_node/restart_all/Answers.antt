@@ -1,11 +1,12 @@
 use Rattle.std.proofs.Common.{ap, arith, get_or}
 use Rattle.std.proofs.lemmas.List.Edits.{map_over_more}
-use Rattle.fw_node.specs.AgentViews.{part_restarted}
+use Rattle.fw_node.specs.AgentViews.{half_restarted}
+use Rattle.fw_node.proofs.AgentTicks.{anew}
 use Rattle.fw_node.proofs.agent_node.restart_all.Goals as goal
 
-pub loop-part-preserved : goal.loop-part-preserved
-loop-part-preserved c =
-    rw c.restart.ensures
-    (map_over_more part_restarted c.args.parts.now c.loop-part.parts c.loop-part.part-index
-    (get_or c.loop-part.parts c.loop-part.part-index c.part-item.result) (omega arith) c.loop-part.invariant
-    (ap (get_or c.loop-part.parts c.loop-part.part-index) c.part-item.is))
+pub loop-half-preserved : goal.loop-half-preserved
+loop-half-preserved c =
+    let x = get_or c.loop-half.halves c.loop-half.half-index c.half-item.result in
+    let is = ap (get_or c.loop-half.halves c.loop-half.half-index) c.half-item.is in
+    rw (anew x c.restart.new.self c.restart.ensures.ends c.restart.ensures.core)
+    (map_over_more half_restarted c.args.halves.now c.loop-half.halves c.loop-half.half-index x (omega arith) c.loop-half.invariant is)

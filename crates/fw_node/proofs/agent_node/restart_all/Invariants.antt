@@ -1,7 +1,7 @@
 use Rattle.std.proofs.Common.{◌≡◌, ◌++◌, drop, map, take}
-use Rattle.fw_node.specs.AgentViews.{part_restarted}
+use Rattle.fw_node.specs.AgentViews.{half_restarted}
 use Rattle.fw_node.proofs.agent_node.restart_all.Given as goal
 
 -- the parts so far have started anew
-abbrev pub invariant-loop-part : goal.invariant-loop-part
-invariant-loop-part l = l.parts ≡ map part_restarted (take l.part-index l.fn.parts) ++ drop l.part-index l.fn.parts
+abbrev pub invariant-loop-half : goal.invariant-loop-half
+invariant-loop-half l = l.halves ≡ map half_restarted (take l.half-index l.fn.halves) ++ drop l.half-index l.fn.halves

@@ -8,7 +8,7 @@ use Rattle.fwupd_jobs.proofs.running.update_all.Goals as goal
 
 pub loop-init : goal.loop-init
 loop-init g c = record {
-  updates = updates_none c.args.world.now c.start_all.new.world c.in-Ok.ensures.started;
+  updates = updates_none c.args.number c.args.world.now c.start_all.new.world c.in-Ok.ensures.started;
   devices = c.requires ∙ ap length (sym c.in-Ok.ensures.same);
   none = c.new-steps.ensures.items;
   sent =
@@ -22,29 +22,29 @@ loop-init g c = record {
 
 pub returns-in-Err-drive-clause-reached : goal.returns-in-Err-drive-clause-reached
 returns-in-Err-drive-clause-reached g c =
-    updates_off c.args.world.now c.loop.world c.drive.new.world c.loop.counter c.loop.steps.items c.drive.new.steps.items c.loop.invariant.updates c.drive.ensures.drives.drives
+    updates_off c.args.number c.args.world.now c.loop.world c.drive.new.world c.loop.counter c.loop.steps.items c.drive.new.steps.items c.loop.invariant.updates c.drive.ensures.drives.drives
 
 pub returns-then-driven-eq0-clause-updated : goal.returns-then-driven-eq0-clause-updated
 returns-then-driven-eq0-clause-updated g c = record {
   ticks = c.loop.counter + c.in-Ok-drive.driven.turns;
   updates =
-      updates_more c.args.world.now c.loop.world c.drive.new.world c.loop.counter c.in-Ok-drive.driven.turns c.loop.steps.items c.drive.new.steps.items c.loop.invariant.updates
-      c.loop.invariant.none c.drive.ensures.drives.drives c.in-Ok-drive.ensures.ticks;
+      updates_more c.args.number c.args.world.now c.loop.world c.drive.new.world c.loop.counter c.in-Ok-drive.driven.turns c.loop.steps.items c.drive.new.steps.items c.loop.invariant.updates
+      c.loop.invariant.none c.drive.ensures.drives.drives c.in-Ok-drive.ensures.done.ticks;
   within = omega (arith, c.if-driven-eq0.true);
-  ended = inl (c.in-Ok-drive.ensures.ended (omega (arith, c.if-driven-eq0.true)));
+  ended = inl (c.in-Ok-drive.ensures.done.ended (omega (arith, c.if-driven-eq0.true)));
 }
 
 pub returns-then-driven-eq0-clause-reached : goal.returns-then-driven-eq0-clause-reached
 returns-then-driven-eq0-clause-reached g c =
-    updates_off c.args.world.now c.loop.world c.drive.new.world c.loop.counter c.loop.steps.items c.drive.new.steps.items c.loop.invariant.updates c.drive.ensures.drives.drives
+    updates_off c.args.number c.args.world.now c.loop.world c.drive.new.world c.loop.counter c.loop.steps.items c.drive.new.steps.items c.loop.invariant.updates c.drive.ensures.drives.drives
 
 pub returns-in-Err-see-clause-reached : goal.returns-in-Err-see-clause-reached
 returns-in-Err-see-clause-reached g c =
-    updates_off c.args.world.now c.loop.world c.drive.new.world c.loop.counter c.loop.steps.items c.drive.new.steps.items c.loop.invariant.updates c.drive.ensures.drives.drives
+    updates_off c.args.number c.args.world.now c.loop.world c.drive.new.world c.loop.counter c.loop.steps.items c.drive.new.steps.items c.loop.invariant.updates c.drive.ensures.drives.drives
 
 pub returns-in-Err-see-clause-failed : goal.returns-in-Err-see-clause-failed
 returns-in-Err-see-clause-failed g c =
-    (λ e. absurd (watched_apart c.in-Err-see.fault edges.Frame (sym c.watch_fault.ensures.told ∙ e)), λ other. c.in-Ok-drive.ensures.kept ∙ c.loop.invariant.kept)
+    (λ e. absurd (watched_apart c.in-Err-see.fault edges.Frame (sym c.watch_fault.ensures.told ∙ e)), λ other. c.in-Ok-drive.ensures.done.counts.kept ∙ c.loop.invariant.kept)
 
 pub returns-in-Err-see-clause-step : goal.returns-in-Err-see-clause-step
 returns-in-Err-see-clause-step g c e = absurd (watched_apart c.in-Err-see.fault edges.Step (sym c.watch_fault.ensures.told ∙ e))
@@ -59,24 +59,24 @@ returns-in-Err-see-clause-unwritten g c e =
 pub returns-then-driven-eq0-clause-sent : goal.returns-then-driven-eq0-clause-sent
 returns-then-driven-eq0-clause-sent g c =
     sent_on (packet_counts c.args.world.now.sites) (packet_counts c.loop.world.sites) (packet_counts c.drive.new.world.sites)
-    (map (λ k. (g.L.Link.tally k).sent) c.args.links.now) (map (λ k. (g.L.Link.tally k).sent) c.loop.links) (map (λ k. (g.L.Link.tally k).sent) c.drive.new.links) c.loop.invariant.sent c.in-Ok-drive.ensures.sent
+    (map (λ k. (g.L.Link.tally k).sent) c.args.links.now) (map (λ k. (g.L.Link.tally k).sent) c.loop.links) (map (λ k. (g.L.Link.tally k).sent) c.drive.new.links) c.loop.invariant.sent c.in-Ok-drive.ensures.done.counts.sent
 
 pub loop-preserved : goal.loop-preserved
 loop-preserved g c = record {
   updates =
-      subst (λ n. Updates c.args.world.now c.drive.new.world (c.loop.counter + n)) (omega (arith, c.in-Ok-drive.ensures.within, c.if-driven-eq0.false))
-      (updates_more c.args.world.now c.loop.world c.drive.new.world c.loop.counter c.in-Ok-drive.driven.turns c.loop.steps.items c.drive.new.steps.items c.loop.invariant.updates
-      c.loop.invariant.none c.drive.ensures.drives.drives c.in-Ok-drive.ensures.ticks);
+      subst (λ n. Updates c.args.number c.args.world.now c.drive.new.world (c.loop.counter + n)) (omega (arith, c.in-Ok-drive.ensures.done.within, c.if-driven-eq0.false))
+      (updates_more c.args.number c.args.world.now c.loop.world c.drive.new.world c.loop.counter c.in-Ok-drive.driven.turns c.loop.steps.items c.drive.new.steps.items c.loop.invariant.updates
+      c.loop.invariant.none c.drive.ensures.drives.drives c.in-Ok-drive.ensures.done.ticks);
   devices = c.drive.ensures.devices;
   none = c.clear.ensures.items;
   sent =
       sent_on (packet_counts c.args.world.now.sites) (packet_counts c.loop.world.sites) (packet_counts c.drive.new.world.sites)
-      (map (λ k. (g.L.Link.tally k).sent) c.args.links.now) (map (λ k. (g.L.Link.tally k).sent) c.loop.links) (map (λ k. (g.L.Link.tally k).sent) c.drive.new.links) c.loop.invariant.sent c.in-Ok-drive.ensures.sent;
-  kept = c.in-Ok-drive.ensures.kept ∙ c.loop.invariant.kept;
+      (map (λ k. (g.L.Link.tally k).sent) c.args.links.now) (map (λ k. (g.L.Link.tally k).sent) c.loop.links) (map (λ k. (g.L.Link.tally k).sent) c.drive.new.links) c.loop.invariant.sent c.in-Ok-drive.ensures.done.counts.sent;
+  kept = c.in-Ok-drive.ensures.done.counts.kept ∙ c.loop.invariant.kept;
   seen = λ none. seen_next (g.V.Watch.watched c.loop.watch).seen (g.V.Watch.watched c.see.new.self).seen c.loop.counter (omega arith) (c.loop.invariant.seen none) c.see.ensures.seen;
   lost = c.see.ensures.lost ∙ c.loop.invariant.lost;
   shows = c.see.ensures.same ∙ c.loop.invariant.shows;
 }
 
 pub returns-clause-reached : goal.returns-clause-reached
-returns-clause-reached g c = updates_reached c.args.world.now c.loop.world c.loop.counter c.loop.invariant.updates
+returns-clause-reached g c = updates_reached c.args.number c.args.world.now c.loop.world c.loop.counter c.loop.invariant.updates

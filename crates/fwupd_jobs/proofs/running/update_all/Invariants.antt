@@ -6,7 +6,7 @@ use Rattle.fwupd_jobs.proofs.running.update_all.Given as goal
 -- so many ticks have passed
 abbrev pub invariant-loop : goal.invariant-loop
 invariant-loop g l = record {
-  updates : Updates l.fn.world l.world l.counter;
+  updates : Updates l.number l.fn.world l.world l.counter;
   devices : length l.links ≡ length l.world.sites;
   none : l.steps.items ≡ [];
   sent : AllSent (packet_counts l.fn.world.sites) (packet_counts l.world.sites) (map (λ k. (g.L.Link.tally k).sent) l.fn.links) (map (λ k. (g.L.Link.tally k).sent) l.links);

@@ -6,10 +6,10 @@ use Rattle.fwupd_jobs.proofs.running.update_watched.Goals as goal
 
 pub returns-in-Err-clause-fault : goal.returns-in-Err-clause-fault
 returns-in-Err-clause-fault g c =
-    update_caused _ _ _ _ c.in-Err.ensures.fault c.in-Err.ensures.step
+    update_caused c.args.number _ _ _ _ c.in-Err.ensures.fault c.in-Err.ensures.step
     (λ e. first_still c.end-watched.result _ _ watches.Unwritten (c.in-Err.ensures.unwritten e) c.end-watched.ensures.first c.end-watched.ensures.err) c.end-watched.ensures.ended
 
 pub returns-in-Err-watched-clause-fault : goal.returns-in-Err-watched-clause-fault
 returns-in-Err-watched-clause-fault g c =
-    update_caused _ _ _ _ c.watch_fault.ensures.ends (λ e. absurd (watched_apart c.in-Err-watched.fault edges.Step (sym c.watch_fault.ensures.told ∙ e)))
+    update_caused c.args.number _ _ _ _ c.watch_fault.ensures.ends (λ e. absurd (watched_apart c.in-Err-watched.fault edges.Step (sym c.watch_fault.ensures.told ∙ e)))
     (λ e. unwritten_by c.in-Err-watched.fault _ (sym c.watch_fault.ensures.told ∙ e) c.in-Err-watched.ensures.err) c.end-watched.ensures.ended

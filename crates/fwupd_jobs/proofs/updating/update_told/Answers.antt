@@ -10,5 +10,5 @@ returns-in-Err-clause-lost g c e =
 pub returns-in-Err-clause-fault : goal.returns-in-Err-clause-fault
 returns-in-Err-clause-fault g c = elim c.in-Err.ensures.fault [
   | inl e ↦ inl e
-  | inr h ↦ inr (caused_still c.args.world.now c.update_watched.new.world c.in-Err.fault (g.V.Watch.watched c.update_watched.new.watch) (g.V.Watch.watched c.lose_failed.new.watch) c.lose_failed.ensures.fault c.lose_failed.ensures.ended h)
+  | inr h ↦ inr (caused_still c.args.number c.args.world.now c.update_watched.new.world c.in-Err.fault (g.V.Watch.watched c.update_watched.new.watch) (g.V.Watch.watched c.lose_failed.new.watch) c.lose_failed.ensures.fault c.lose_failed.ensures.ended h)
 ]

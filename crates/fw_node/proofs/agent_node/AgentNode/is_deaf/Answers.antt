@@ -6,4 +6,4 @@ use Rattle.fw_node.proofs.agent_node.AgentNode.is_deaf.Goals as goal
 
 pub returns-clause-halves : goal.returns-clause-halves
 returns-clause-halves c =
-    subst (λ n. AllByRecursion (IsDeafFor n.deaf) n.halves) c.self.view_is (deaf_alike c.self.inside.deaf c.self.inside.parts.items)
+    subst (λ n. AllByRecursion (IsDeafFor n.deaf) n.halves) c.self.view_is (deaf_alike c.self.inside.deaf c.self.inside.halves.items)

@@ -1,0 +1,126 @@
+-- Parts of a turn, one after the other.
+use Rattle.std.proofs.Common.{◌≡◌, ◌≢◌, ◌≤◌, ◌+◌, ◌-◌, ◌*◌, ◌∙◌, ◌^◌, ℕ, List, length, map, refl, sym, subst, arith}
+use Rattle.fw_world.specs.Worlds.{WorldOf}
+use Rattle.fw_world.specs.declared.step.Step.{Step}
+use Rattle.fw_edge.specs.Drives.{Goes, delivers_in}
+use Rattle.fw_edge.specs.Ledgers.{AreToldOf, OneFailed, packet_counts}
+use Rattle.fw_edge.specs.Outcomes.{LinksDriven, LinksExchanged, LinksRead, LinksRefused, LinksWrote, PartStopped}
+use Rattle.fw_edge.specs.Turns.{StopsTurn}
+use Rattle.fw_edge.specs.declared.driving.EdgeFault.{EdgeFault}
+use Rattle.fw_edge.specs.declared.driving.EdgeFault.TheVariants as faults
+use Rattle.fw_edge.specs.declared.tally.Tally.{Tally}
+use Rattle.fw_edge.proofs.Going.{drives_none, goes_off}
+use Rattle.fw_edge.proofs.Rising.{given_none, given_on, map_length, rose_from, rose_less, rose_none, rose_on, rose_to, together_from, together_none, together_sum, together_to}
+use Rattle.fw_edge.proofs.Sending.{sent_none, sent_on, sent_turn}
+
+-- a link's fault is told where one failed
+pub told_refused : (e : EdgeFault) (os ns : List ℕ) → e ≡ faults.Frame → OneFailed os ns → AreToldOf e os ns
+told_refused e os ns is failed = (λ same. failed, λ other. absurd (other is))
+
+frame_is_no_step : (e : EdgeFault) → e ≡ faults.Frame → e ≢ faults.Step
+frame_is_no_step e is other = absurd (cc)
+
+-- a packet isn't taken
+pub stopped_refused : {A : Type 0} (t : A → Tally) (e : EdgeFault) (w : WorldOf) (ss : List Step) (olds news : List A) → LinksRefused t e olds news → PartStopped t e w ss olds w ss news
+stopped_refused t e w ss olds news h = record {
+  drives = drives_none w ss;
+  fault = frame_is_no_step e h.is;
+  failed = told_refused e (map (λ l. (t l).failures) olds) (map (λ l. (t l).failures) news) h.is h.failed;
+}
+
+-- a part stops behind another
+pub stopped_later : {A : Type 0} (t : A → Tally) (e : EdgeFault) (w u v : WorldOf) (before mid after : List Step) (olds mids news : List A) (ticks delivers : ℕ) → Goes w before u mid ticks delivers
+    → map (λ l. (t l).failures) mids ≡ map (λ l. (t l).failures) olds → PartStopped t e u mid mids v after news → PartStopped t e w before olds v after news
+stopped_later t e w u v before mid after olds mids news ticks delivers g kept h = record {
+  drives = goes_off w u v before mid after ticks delivers g h.drives;
+  fault = h.fault;
+  failed = subst (λ os. AreToldOf e os (map (λ l. (t l).failures) news)) kept h.failed;
+}
+
+-- nothing is exchanged
+pub exchanged_none : {A : Type 0} (t : A → Tally) (ws : List ℕ) (links : List A) (given : ℕ) → given ≡ 0 → length ws ≡ length links → LinksExchanged t 0 given ws ws links links
+exchanged_none t ws links given none same = record {
+  kept = refl;
+  asked = rose_none (map (λ l. (t l).asked) links);
+  given = rw none (together_none (map (λ l. (t l).given) links) (map (λ l. (t l).given) links) refl);
+  sent = sent_none ws (map (λ l. (t l).sent) links) (rw (map_length (λ l. (t l).sent) links) same);
+}
+
+-- more is
+pub exchanged_on : {A : Type 0} (t : A → Tally) (k j n m all : ℕ) (ws us vs : List ℕ) (olds mids news : List A) → all ≡ n + m → LinksExchanged t k n ws us olds mids
+    → LinksExchanged t j m us vs mids news → LinksExchanged t (k + j) all ws vs olds news
+exchanged_on t k j n m all ws us vs olds mids news sum h g = record {
+  kept = g.kept ∙ h.kept;
+  asked = rose_on k j (map (λ l. (t l).asked) olds) (map (λ l. (t l).asked) mids) (map (λ l. (t l).asked) news) h.asked g.asked;
+  given = together_sum n m all (map (λ l. (t l).given) olds) (map (λ l. (t l).given) mids) (map (λ l. (t l).given) news) sum h.given g.given;
+  sent = sent_on ws us vs (map (λ l. (t l).sent) olds) (map (λ l. (t l).sent) mids) (map (λ l. (t l).sent) news) h.sent g.sent;
+}
+
+-- links were asked so often too
+pub exchanged_less : {A : Type 0} (t : A → Tally) (k j n : ℕ) (ws us : List ℕ) (olds news : List A) → k ≤ j → LinksExchanged t j n ws us olds news → LinksExchanged t k n ws us olds news
+exchanged_less t k j n ws us olds news le h = record {
+  kept = h.kept;
+  asked = rose_less k j (map (λ l. (t l).asked) olds) (map (λ l. (t l).asked) news) le h.asked;
+  given = h.given;
+  sent = h.sent;
+}
+
+-- links take packets, and then are asked
+pub exchanged_read : {A : Type 0} (t : A → Tally) (k n : ℕ) (ws us : List ℕ) (olds mids news : List A) → LinksWrote t ws us olds mids → LinksRead t k n mids news → LinksExchanged t k n ws us olds news
+exchanged_read t k n ws us olds mids news h g = record {
+  kept = g.kept ∙ h.kept;
+  asked = rose_from k (map (λ l. (t l).asked) olds) (map (λ l. (t l).asked) mids) (map (λ l. (t l).asked) news) h.asked g.asked;
+  given = together_from n (map (λ l. (t l).given) olds) (map (λ l. (t l).given) mids) (map (λ l. (t l).given) news) h.given g.given;
+  sent = rw g.sent h.sent;
+}
+
+-- or were asked, and then take packets
+pub exchanged_wrote : {A : Type 0} (t : A → Tally) (k n : ℕ) (ws us vs : List ℕ) (olds mids news : List A) → LinksExchanged t k n ws us olds mids → LinksWrote t us vs mids news
+    → LinksExchanged t k n ws vs olds news
+exchanged_wrote t k n ws us vs olds mids news h g = record {
+  kept = g.kept ∙ h.kept;
+  asked = rose_to k (map (λ l. (t l).asked) olds) (map (λ l. (t l).asked) mids) (map (λ l. (t l).asked) news) g.asked h.asked;
+  given = together_to n (map (λ l. (t l).given) olds) (map (λ l. (t l).given) mids) (map (λ l. (t l).given) news) g.given h.given;
+  sent = sent_on ws us vs (map (λ l. (t l).sent) olds) (map (λ l. (t l).sent) mids) (map (λ l. (t l).sent) news) h.sent g.sent;
+}
+
+-- memory is no link's fault, and not the clock's
+pub told_kept : (e : EdgeFault) (os ns : List ℕ) → e ≡ faults.Memory → ns ≡ os → AreToldOf e os ns
+told_kept e os ns is same = (λ other. absurd (cc), λ other. same)
+
+pub stops_on : (e : EdgeFault) (w v : WorldOf) (before after : List Step) → e ≡ faults.Memory → w.now ≢ 2 ^ 32 - 1 → StopsTurn e w before v after
+stops_on e w v before after is on = (λ other. absurd (cc), λ other. on)
+
+-- behind turns in which no link failed
+pub told_behind : (e : EdgeFault) (os ms ns : List ℕ) → ms ≡ os → AreToldOf e ms ns → AreToldOf e os ns
+told_behind e os ms ns same h = subst (λ xs. AreToldOf e xs ns) same h
+
+-- the clock stands at its end where that is told
+pub clock_at : (e : EdgeFault) (w v : WorldOf) (before after : List Step) → StopsTurn e w before v after → e ≡ faults.Step → v.now ≡ 2 ^ 32 - 1
+clock_at e w v before after h is = let stands = h.0 is in subst (λ x. x.now ≡ 2 ^ 32 - 1) (sym stands.1) stands.0
+
+-- no turn
+pub driven_none : {A : Type 0} (t : A → Tally) (w : WorldOf) (ss : List Step) (ws : List ℕ) (links : List A) → ws ≡ packet_counts w.sites → length ws ≡ length links → LinksDriven t 0 w ss links w ss links 0
+driven_none t w ss ws links all same = record {
+  kept = refl;
+  asked = rose_none (map (λ l. (t l).asked) links);
+  given = given_none (delivers_in ss) (map (λ l. (t l).given) links);
+  sent = sent_none (packet_counts w.sites) (map (λ l. (t l).sent) links) (rw (map_length (λ l. (t l).sent) links, sym all) same);
+}
+
+-- a turn more
+pub driven_on : {A : Type 0} (t : A → Tally) (turns : ℕ) (w u v : WorldOf) (before mid after : List Step) (ws us : List ℕ) (olds mids news : List A) (known more foreign : ℕ)
+    → ws ≡ packet_counts u.sites → us ≡ packet_counts v.sites → delivers_in after ≡ delivers_in mid + known → LinksDriven t turns w before olds u mid mids foreign
+    → LinksExchanged t 2 (known + more) ws us mids news → LinksDriven t (turns + 1) w before olds v after news (foreign + more)
+driven_on t turns w u v before mid after ws us olds mids news known more foreign start end rise h g = record {
+  kept = g.kept ∙ h.kept;
+  asked =
+      rose_less (2 * (turns + 1)) (2 * turns + 2) (map (λ l. (t l).asked) olds) (map (λ l. (t l).asked) news) (omega arith)
+      (rose_on (2 * turns) 2 (map (λ l. (t l).asked) olds) (map (λ l. (t l).asked) mids) (map (λ l. (t l).asked) news) h.asked g.asked);
+  given =
+      given_on (delivers_in before) (delivers_in mid) (delivers_in after) known foreign more (foreign + more) (map (λ l. (t l).given) olds) (map (λ l. (t l).given) mids) (map (λ l. (t l).given) news)
+      rise refl h.given g.given;
+  sent =
+      sent_turn (packet_counts w.sites) (packet_counts u.sites) (packet_counts v.sites) ws us (map (λ l. (t l).sent) olds) (map (λ l. (t l).sent) mids) (map (λ l. (t l).sent) news)
+      start end h.sent g.sent;
+}

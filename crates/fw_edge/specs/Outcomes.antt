@@ -1,0 +1,132 @@
+-- How the parts of a run end: what holds of links, steps and world where all went well, and what a fault leaves. Links are seen by what
+-- they count, took and gave.
+use Rattle.std.specs.Prelude.{ℕ, ◌≡◌, ◌≢◌, ◌≤◌, ◌<◌, ◌+◌, ◌-◌, ◌*◌, ◌^◌, ◌⊎◌, true, List, [], length, map}
+use Rattle.fw_message.specs.declared.side.Side.{Side}
+use Rattle.fw_world.specs.Promises.{eids_of}
+use Rattle.fw_world.specs.Replays.{needs_memory}
+use Rattle.fw_world.specs.Worlds.{WorldOf}
+use Rattle.fw_world.specs.declared.step.Step.{Step}
+use Rattle.fw_edge.specs.Drives.{Drives, Goes, all_over, delivers_in, ticks_in}
+use Rattle.fw_edge.specs.Ledgers.{AllRose, AllSent, AreGiven, AreToldOf, HasFailed, IsToldOf, OneFailed, Reads, RoseTogether, Writes, packet_counts}
+use Rattle.fw_edge.specs.Links.{EndsOf, LinksOf, links_at}
+use Rattle.fw_edge.specs.Turns.{Came, CameAt, Drove, Stopped, StopsTurn}
+use Rattle.fw_edge.specs.declared.driving.EdgeFault.{EdgeFault}
+use Rattle.fw_edge.specs.declared.driving.EdgeFault.TheVariants as faults
+use Rattle.fw_edge.specs.declared.tally.Tally.{Tally}
+
+-- A link took so many packets, and gave nothing.
+pub record LinkWrote {A : Type 0} (tally : A → Tally) (gave : A → EndsOf) (packets : ℕ) (old new : A) : Type 0 where
+  pub counts : Writes packets (tally old) (tally new)
+  pub gave_none : gave new ≡ gave old
+
+-- It didn't take one: that is the fault, and it counts it.
+pub record LinkRefused {A : Type 0} (tally : A → Tally) (told : EdgeFault) (old new : A) : Type 0 where
+  pub is : told ≡ faults.Frame
+  pub failed : HasFailed (tally old).failures (tally new).failures
+
+-- Ends of a link were asked for a frame each, in this order. Of the frames that came so many are living packets of its pair, each of which
+-- was delivered, and so many are foreign; the link took nothing.
+pub record EndsRead {A : Type 0} (tally : A → Tally) (taken gave : A → EndsOf) (ends : List (ℕ × Side)) (most : ℕ) (w : WorldOf) (before : List Step) (old : A) (v : WorldOf) (after : List Step) (new : A) (known foreign : ℕ) : Type 0 where
+  pub goes : Goes w before v after 0 known
+  pub few : known + foreign ≤ most
+  pub came : CameAt w before (gave old) ends v after (gave new) (known + foreign)
+  pub took_none : taken new ≡ taken old
+  pub reads : Reads most (known + foreign) (tally old) (tally new)
+
+-- A fault ended that. The steps that were taken are listed; the fault isn't the clock's, and the link's only where it failed.
+pub record LinkStopped {A : Type 0} (tally : A → Tally) (told : EdgeFault) (w : WorldOf) (before : List Step) (old : A) (v : WorldOf) (after : List Step) (new : A) : Type 0 where
+  pub drives : Drives w before v after
+  pub fault : told ≢ faults.Step
+  pub failed : IsToldOf told (tally old).failures (tally new).failures
+
+-- No link failed, was asked for a frame, or gave one; and each took the packets by which the count of its pair rose.
+pub record LinksWrote {A : Type 0} (tally : A → Tally) (before after : List ℕ) (olds news : List A) : Type 0 where
+  pub kept : map (λ l. (tally l).failures) news ≡ map (λ l. (tally l).failures) olds
+  pub asked : map (λ l. (tally l).asked) news ≡ map (λ l. (tally l).asked) olds
+  pub given : map (λ l. (tally l).given) news ≡ map (λ l. (tally l).given) olds
+  pub sent : AllSent before after (map (λ l. (tally l).sent) olds) (map (λ l. (tally l).sent) news)
+
+-- One didn't take one: that is the fault, and it counts it.
+pub record LinksRefused {A : Type 0} (tally : A → Tally) (told : EdgeFault) (olds news : List A) : Type 0 where
+  pub is : told ≡ faults.Frame
+  pub failed : OneFailed (map (λ l. (tally l).failures) olds) (map (λ l. (tally l).failures) news)
+
+-- No link failed or took a packet; each was asked so often at least, and all gave so many frames together.
+pub record LinksRead {A : Type 0} (tally : A → Tally) (most frames : ℕ) (olds news : List A) : Type 0 where
+  pub kept : map (λ l. (tally l).failures) news ≡ map (λ l. (tally l).failures) olds
+  pub asked : AllRose most (map (λ l. (tally l).asked) olds) (map (λ l. (tally l).asked) news)
+  pub given : RoseTogether frames (map (λ l. (tally l).given) olds) (map (λ l. (tally l).given) news)
+  pub sent : map (λ l. (tally l).sent) news ≡ map (λ l. (tally l).sent) olds
+
+-- No link failed; each was asked so often at least, all gave so many frames together, and each took the packets by which the count of its
+-- pair rose.
+pub record LinksExchanged {A : Type 0} (tally : A → Tally) (most frames : ℕ) (before after : List ℕ) (olds news : List A) : Type 0 where
+  pub kept : map (λ l. (tally l).failures) news ≡ map (λ l. (tally l).failures) olds
+  pub asked : AllRose most (map (λ l. (tally l).asked) olds) (map (λ l. (tally l).asked) news)
+  pub given : RoseTogether frames (map (λ l. (tally l).given) olds) (map (λ l. (tally l).given) news)
+  pub sent : AllSent before after (map (λ l. (tally l).sent) olds) (map (λ l. (tally l).sent) news)
+
+-- Each end of each link was asked for a frame. Of those that came so many are living packets, each of which was delivered, and so many are
+-- foreign.
+pub record RoundRead {A : Type 0} (tally : A → Tally) (taken gave : A → EndsOf) (w : WorldOf) (before : List Step) (olds : List A) (v : WorldOf) (after : List Step) (news : List A) (known foreign : ℕ) : Type 0 where
+  pub came : Came (length (eids_of w.sites)) (eids_of w.sites) w before (links_at [] (map taken olds) (map gave olds)) v after (links_at [] (map taken news) (map gave news)) (known + foreign)
+  pub goes : Goes w before v after 0 known
+  pub few : known + foreign ≤ 32
+  pub counts : LinksRead tally 2 (known + foreign) olds news
+
+-- A part of a turn did what it is to do, over links to which so many packets of each pair were written before, and so many are now. Of the
+-- frames that came so many are living packets, each of which was delivered, and so many are foreign.
+pub record PartDone {A : Type 0} (tally : A → Tally) (taken gave : A → EndsOf) (does : WorldOf → List Step → LinksOf → WorldOf → List Step → LinksOf → (count : ℕ) → Type 0) (ticks most : ℕ) (w : WorldOf) (before : List Step) (written_before : List ℕ) (olds : List A) (v : WorldOf) (after : List Step) (written : List ℕ) (news : List A) (known foreign : ℕ) : Type 0 where
+  pub does_so : does w before (links_at written_before (map taken olds) (map gave olds)) v after (links_at written (map taken news) (map gave news)) (known + foreign)
+  pub goes : Goes w before v after ticks known
+  pub few : known + foreign ≤ most
+  pub counts : LinksExchanged tally 2 (known + foreign) written_before written olds news
+
+-- A fault ended it. The steps that were taken are listed; the fault isn't the clock's, and a link's only where one failed.
+pub record PartStopped {A : Type 0} (tally : A → Tally) (told : EdgeFault) (w : WorldOf) (before : List Step) (olds : List A) (v : WorldOf) (after : List Step) (news : List A) : Type 0 where
+  pub drives : Drives w before v after
+  pub fault : told ≢ faults.Step
+  pub failed : AreToldOf told (map (λ l. (tally l).failures) olds) (map (λ l. (tally l).failures) news)
+
+-- A fault ended a turn. The steps that were taken are listed; the fault is the clock's where that stands at its end, and a link's only
+-- where one failed.
+pub record TurnStopped {A : Type 0} (tally : A → Tally) (told : EdgeFault) (w : WorldOf) (before : List Step) (olds : List A) (v : WorldOf) (after : List Step) (news : List A) : Type 0 where
+  pub drives : Drives w before v after
+  pub failed : AreToldOf told (map (λ l. (tally l).failures) olds) (map (λ l. (tally l).failures) news)
+  pub stops : StopsTurn told w before v after
+
+-- In so many turns no link failed, and each was asked twice a turn at least. All gave what was delivered and what was foreign, and each took
+-- the packets that its pair gained.
+pub record LinksDriven {A : Type 0} (tally : A → Tally) (turns : ℕ) (w : WorldOf) (before : List Step) (olds : List A) (v : WorldOf) (after : List Step) (news : List A) (foreign : ℕ) : Type 0 where
+  pub kept : map (λ l. (tally l).failures) news ≡ map (λ l. (tally l).failures) olds
+  pub asked : AllRose (2 * turns) (map (λ l. (tally l).asked) olds) (map (λ l. (tally l).asked) news)
+  pub given : AreGiven (delivers_in before) (delivers_in after) foreign (map (λ l. (tally l).given) olds) (map (λ l. (tally l).given) news)
+  pub sent : AllSent (packet_counts w.sites) (packet_counts v.sites) (map (λ l. (tally l).sent) olds) (map (λ l. (tally l).sent) news)
+
+-- A run took so many turns of those that were asked for, a tick each: all, or fewer with each session Done or Failed.
+pub record RunDone {A : Type 0} (tally : A → Tally) (taken gave : A → EndsOf) (asked_for : ℕ) (w : WorldOf) (before : List Step) (written_before : List ℕ) (olds : List A) (v : WorldOf) (after : List Step) (written : List ℕ) (news : List A) (turns foreign : ℕ) : Type 0 where
+  pub drove : Drove turns w before (links_at written_before (map taken olds) (map gave olds)) v after (links_at written (map taken news) (map gave news)) foreign
+  pub ticks : ticks_in after ≡ ticks_in before + turns
+  pub within : turns ≤ asked_for
+  pub ended : turns < asked_for → all_over v ≡ true
+  pub counts : LinksDriven tally turns w before olds v after news foreign
+
+-- A fault ended it, in the turn behind so many: a link's where one failed, and the clock's where that stands at its end.
+pub record RunStopped {A : Type 0} (tally : A → Tally) (taken gave : A → EndsOf) (told : EdgeFault) (w : WorldOf) (before : List Step) (written_before : List ℕ) (olds : List A) (v : WorldOf) (after : List Step) (news : List A) : Type 0 where
+  pub failed : AreToldOf told (map (λ l. (tally l).failures) olds) (map (λ l. (tally l).failures) news)
+  pub step : told ≡ faults.Step → v.now ≡ 2 ^ 32 - 1
+  pub stopped : Stopped told w before (links_at written_before (map taken olds) (map gave olds)) v after
+
+-- Steps were taken that are no ticks and no deliveries, and nothing was sent.
+pub record SentNone (w : WorldOf) (before : List Step) (v : WorldOf) (after : List Step) : Type 0 where
+  pub goes : Goes w before v after 0 0
+  pub sent : packet_counts v.sites ≡ packet_counts w.sites
+
+-- Memory was refused. The steps that were taken are listed.
+pub record StepsStopped (told : EdgeFault) (w : WorldOf) (before : List Step) (v : WorldOf) (after : List Step) : Type 0 where
+  pub drives : Drives w before v after
+  pub fault : told ≡ faults.Memory
+
+-- Memory may be lacking for a step: a list of so many steps had no room for one more; or it has, and the step itself needs some.
+abbrev pub LacksMemory : Step → (listed room_before room_now : ℕ) → Type 0
+LacksMemory step listed room_before room_now = (room_before < listed + 1) ⊎ ((listed + 1 ≤ room_now) × (needs_memory step ≡ true))

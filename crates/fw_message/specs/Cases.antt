@@ -1,0 +1,114 @@
+-- Histories by hand, on which the definitions of a safe and a tied history are tried: the worked update, and a history for each
+-- thing that they refuse.
+use Rattle.std.specs.Prelude.{ℕ, ◌∷◌, [], List, None, Option, Some, take}
+use Rattle.fw_package.specs.Choice.{no_text}
+use Rattle.fw_package.specs.Package.{ComponentOf, DescriptorOf, PackageText, RecordOf}
+use Rattle.fwup_wire.specs.declared.values.Key.{Key}
+use Rattle.fd_core.specs.Images.{ImageOf, Put, RowOf}
+use Rattle.ua_core.specs.declared.planned.Recorded.{Recorded}
+use Rattle.fw_message.specs.History.{EntryOf, IsSafe, IsTied}
+
+-- a device of one descriptor, and two of its components
+abbrev pub board : List DescriptorOf
+board = record { kind = 0; bytes = 0x34 ∷ 0x12 ∷ [] } ∷ []
+
+abbrev pub boot : Key
+boot = record { classification = 10; identifier = 1 }
+
+abbrev pub fabric : Key
+fabric = record { classification = 10; identifier = 2 }
+
+abbrev pub component : Key → List ℕ → ComponentOf
+component key image =
+    record { classification = key.classification; identifier = key.identifier; stamp = 2; options = 0; offset = 0; text = no_text; image = image }
+
+-- a record for the device, with its package's first component
+abbrev pub first_alone : RecordOf
+first_alone = record { flags = 0; set_text = no_text; descriptors = board; uses = 0 ∷ [] }
+
+-- the images of two packages; of the first one's two components its record uses one
+abbrev pub new_boot : List ℕ
+new_boot = 1 ∷ 2 ∷ 3 ∷ []
+
+abbrev pub new_fabric : List ℕ
+new_fabric = 4 ∷ 5 ∷ []
+
+abbrev pub packages : List PackageText
+packages =
+    record { header_size = 100; records = first_alone ∷ []; components = component boot new_boot ∷ component fabric new_fabric ∷ [] }
+    ∷ record { header_size = 100; records = first_alone ∷ []; components = component fabric new_fabric ∷ [] }
+    ∷ []
+
+abbrev pub put : Key → List ℕ → Put
+put key bytes = record { key = key; bytes = bytes }
+
+-- this component, counted from 0, of this package, counted from 1
+abbrev pub recorded : ℕ → ℕ → Recorded
+recorded number component = record { «package» = number; component = component }
+
+abbrev pub applies : Key → List ℕ → EntryOf
+applies key bytes = EntryOf.Applied (put key bytes)
+
+abbrev pub activates : Key → List ℕ → EntryOf
+activates key bytes = EntryOf.Activated (put key bytes)
+
+abbrev pub records : ℕ → ℕ → EntryOf
+records number component = EntryOf.Recording (recorded number component)
+
+-- the worked update: the device applies the image, the agent records it, the device activates it
+abbrev pub worked : List EntryOf
+worked = applies boot new_boot ∷ records 1 0 ∷ activates boot new_boot ∷ []
+
+abbrev pub is_safe : List EntryOf → Type 0
+is_safe es = IsSafe packages board es
+
+-- What isn't safe: an image that is activated and was not recorded, or was recorded before the activation before it alone; other
+-- bytes than the package's; images of two packages in one activation; more records than applications, at any moment; and the
+-- record of a component that the package doesn't name for the device, or of one that it doesn't have.
+pub record SafeRefuses : Type 0 where
+  pub unrecorded : is_safe (applies boot new_boot ∷ activates boot new_boot ∷ []) → ⊥
+  pub recorded_before : is_safe (applies boot new_boot ∷ records 1 0 ∷ activates boot new_boot ∷ applies boot new_boot ∷ activates boot new_boot ∷ []) → ⊥
+  pub other_bytes : is_safe (applies boot (7 ∷ []) ∷ applies boot new_boot ∷ records 1 0 ∷ activates boot (7 ∷ []) ∷ []) → ⊥
+  pub two_packages : is_safe (applies boot new_boot ∷ applies fabric new_fabric ∷ records 1 0 ∷ records 2 0 ∷ activates boot new_boot ∷ activates fabric new_fabric ∷ []) → ⊥
+  pub twice : is_safe (applies boot new_boot ∷ records 1 0 ∷ records 1 0 ∷ []) → ⊥
+  pub too_soon : is_safe (records 1 0 ∷ applies boot new_boot ∷ []) → ⊥
+  pub unnamed : is_safe (applies fabric new_fabric ∷ records 1 1 ∷ []) → ⊥
+  pub no_package : is_safe (applies boot new_boot ∷ records 3 0 ∷ []) → ⊥
+
+abbrev pub image : List ℕ → ImageOf
+image bytes = record { label = record { stamp = 1; text_type = 1; text = [] }; bytes = bytes }
+
+-- the device's bank: the image of its one component that runs, and the one that it has applied
+abbrev pub bank : List ℕ → Option ImageOf → List RowOf
+bank active applied = record { key = boot; active = image active; applied = applied } ∷ []
+
+abbrev pub old_boot : List ℕ
+old_boot = 9 ∷ []
+
+-- with the bank as it is after a history, and the agent's records
+abbrev pub is_tied : List RowOf → List Recorded → List EntryOf → Type 0
+is_tied rows made es = IsTied (bank old_boot None) rows made es
+
+-- the bank and the records at each moment of the worked update
+pub record TiedAccepts : Type 0 where
+  pub at_first : is_tied (bank old_boot None) [] []
+  pub when_applied : is_tied (bank old_boot (Some (image new_boot))) [] (take 1 worked)
+  pub when_recorded : is_tied (bank old_boot (Some (image new_boot))) (recorded 1 0 ∷ []) (take 2 worked)
+  pub when_activated : is_tied (bank new_boot None) (recorded 1 0 ∷ []) worked
+
+-- What isn't tied: another image that runs than the one that was activated last, or none yet; an applied image of before the last
+-- activation, or other bytes than those that were applied; a record that wasn't made, and one that was and isn't there.
+pub record TiedRefuses : Type 0 where
+  pub old_runs : is_tied (bank old_boot None) (recorded 1 0 ∷ []) worked → ⊥
+  pub runs_too_soon : is_tied (bank new_boot None) (recorded 1 0 ∷ []) (take 2 worked) → ⊥
+  pub applied_before : is_tied (bank new_boot (Some (image new_boot))) (recorded 1 0 ∷ []) worked → ⊥
+  pub other_applied : is_tied (bank old_boot (Some (image (7 ∷ [])))) [] (take 1 worked) → ⊥
+  pub not_made : is_tied (bank old_boot (Some (image new_boot))) (recorded 1 0 ∷ []) (take 1 worked) → ⊥
+  pub not_there : is_tied (bank new_boot None) [] worked → ⊥
+
+-- The definitions of a safe and of a tied history accept the worked update at each moment, and refuse the rest.
+pub record HistoriesAreJudged : Type 0 where
+  pub safe : (n : ℕ) → is_safe (take n worked)
+  pub unsafe : SafeRefuses
+  pub tied : TiedAccepts
+  pub untied : TiedRefuses

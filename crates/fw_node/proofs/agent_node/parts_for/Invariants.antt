@@ -1,7 +1,0 @@
-use Rattle.std.proofs.Common.{◌≡◌, take, map}
-use Rattle.fw_node.specs.Agents.{half_in, new_half}
-use Rattle.fw_node.proofs.agent_node.parts_for.Given as goal
-
--- the parts so far are those of the devices so far
-abbrev pub invariant-loop-device : goal.invariant-loop-device
-invariant-loop-device l = map (half_in 0) l.parts.items ≡ map (new_half l.own) (take l.device-index l.devices)

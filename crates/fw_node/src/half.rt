@@ -1,0 +1,273 @@
+//! What a node has for one peer.
+
+ghost use Rattle.std.specs.Prelude.{◌≡◌, ◌≤◌, ◌++◌, ◌+◌, ◌*◌, [], ◌∷◌, Bool, false, length, true, ℕ};
+ghost use Rattle.mctp_ctl.specs.declared.answers.Endpoint.{Endpoint};
+ghost use Rattle.pldm_base.specs.declared.terminus.Role.{Role};
+ghost use Rattle.fd_core.specs.Banks.{Rose};
+ghost use Rattle.fwup_wire.specs.Answers.{answer_read};
+ghost use Rattle.pldm_exch.specs.Caller.{caller_tick, is_quiet};
+ghost use Rattle.pldm_exch.specs.Requests.{reply_message};
+ghost use Rattle.pldm_exch.specs.Sides.{answered_with};
+ghost use Rattle.fw_node.specs.BothEnds.{IsAsking, ends_new};
+ghost use Rattle.fw_node.specs.Brings.{incoming_of};
+ghost use Rattle.fw_node.specs.Halves.{IncomingOf, half_brings, half_grows, half_hears, half_waits, last_part, read_by, recast, reply_read, settled, silenced, unwished_abandoned};
+ghost use Rattle.fw_node.specs.Nodes.{IsAnswered, IsTold, MaySpeak, SpeaksAfter, finished, half_of, replied};
+ghost use Rattle.fw_node.specs.Packets.{all_packets, sent_by};
+
+use crate::cores::Core;
+use crate::ends::Ends;
+use crate::identity::Identity;
+use crate::incoming::Incoming;
+use crate::outbox::Outbox;
+use crate::sending::{code_alone, reply_to_other, send_again, send_control};
+use pldm_base::completion::ERROR_UNSUPPORTED_PLDM_CMD;
+use pldm_base::{Reply, Role, TYPE_FIRMWARE_UPDATE};
+use pldm_exch::{CallTick, ReplyIn, Request};
+
+/// One half of a pair: both ends for a peer, and the core.
+#[derive(Drop)]
+pub(crate) struct Half<C> {
+    ends: Ends,
+    pub(crate) core: C,
+}
+
+impl<'p, C: Core<'p>> Half<C> {
+    /// The half of the node `own` for the node `peer`, before its first packet.
+    pub(crate) fn new(own: u8, peer: u8, core: C) -> Half<C>
+        ensures ends { result.ends ≡ ends_new own peer }
+        ensures core { result.core ≡ core }
+    {
+        Half {
+            ends: Ends::new(own, peer),
+            core,
+        }
+    }
+
+    /// The peer's endpoint identifier.
+    pub(crate) fn peer(&self) -> u8
+        ensures { result ≡ self.now.ends.asking.peer }
+    {
+        self.ends.peer()
+    }
+
+    /// Gives up what is open and no longer wished.
+    pub(crate) fn settle(&mut self, given: C::Given)
+        ensures settled { self.new ≡ record self.old { ends = record self.old.ends { asking = record self.old.ends.asking { caller = unwished_abandoned ((C.does given).wish (C.seen self.old.core)) self.old.ends.asking.caller } } } }
+        ensures spoken { MaySpeak (C.does given) (C.seen self.old.core) }
+    {
+        let wish = self.core.wish(given);
+        self.ends.abandon_unless(&wish);
+    }
+
+    /// Hears the bytes of a packet, and sends what the node answers. Whether the core's bank worked.
+    pub(crate) fn hear(
+        &mut self,
+        identity: &mut Identity,
+        role: Role,
+        given: C::Given,
+        bytes: &[u8],
+        outbox: &mut Outbox,
+    ) -> bool
+        requires { outbox.old ≡ [] }
+        ensures half { half_of 0 (C.seen self.new.core) self.new.ends ≡ (finished role identity.old.endpoint identity.old.tid (half_hears (C.does given) result (half_of 0 (C.seen self.old.core) self.old.ends) bytes.now)).half }
+        ensures tid { identity.new.tid ≡ (finished role identity.old.endpoint identity.old.tid (half_hears (C.does given) result (half_of 0 (C.seen self.old.core) self.old.ends) bytes.now)).tid }
+        ensures packets { outbox.new ≡ all_packets (finished role identity.old.endpoint identity.old.tid (half_hears (C.does given) result (half_of 0 (C.seen self.old.core) self.old.ends) bytes.now)).sent }
+        ensures told { IsTold (half_hears (C.does given) result (half_of 0 (C.seen self.old.core) self.old.ends) bytes.now) }
+        ensures spoken { SpeaksAfter (C.does given) (C.seen self.old.core) (C.seen self.new.core) }
+        ensures worked { result ≡ true → C.faults self.new.core ≡ C.faults self.old.core }
+        ensures failed { result ≡ false → Rose (C.faults self.old.core) (C.faults self.new.core) }
+        ensures endpoint { identity.new.endpoint ≡ identity.old.endpoint }
+        ensures own { self.new.ends.asking.own ≡ self.old.ends.asking.own }
+    {
+        match self.incoming(bytes) {
+            Incoming::Nothing => true,
+            Incoming::Learnt(heard) => self.learn(given, &heard),
+            Incoming::Again(answer) => {
+                outbox.send(&answer);
+                true
+            }
+            Incoming::New(request) => self.serve(identity, role, given, &request, outbox),
+            Incoming::Strays(message) => {
+                send_control(&identity.endpoint, &message, outbox);
+                true
+            }
+        }
+    }
+
+    /// What the bytes of a packet bring.
+    fn incoming(&mut self, bytes: &[u8]) -> Incoming
+        ensures brings { (given : C.Given) (works : Bool) → half_hears (C.does given) works (half_of 0 (C.seen self.old.core) self.old.ends) bytes.now ≡ half_brings (C.does given) works (half_of 0 (C.seen self.new.core) self.new.ends) (incoming_of result) }
+        ensures core { self.new.core ≡ self.old.core }
+        ensures own { self.new.ends.asking.own ≡ self.old.ends.asking.own }
+    {
+        self.ends.hear(bytes)
+    }
+
+    /// The core learns the answer to its request. Whether its bank worked.
+    fn learn(&mut self, given: C::Given, heard: &ReplyIn) -> bool
+        ensures half { half_of 0 (C.seen self.new.core) self.new.ends ≡ recast (C.does given) (half_of 0 (C.seen self.old.core) self.old.ends) ((C.does given).learn (C.seen self.old.core) (answer_read heard.now.command heard.now.reply.items) result) }
+        ensures spoken { MaySpeak (C.does given) (C.seen self.new.core) }
+        ensures worked { result ≡ true → C.faults self.new.core ≡ C.faults self.old.core }
+        ensures failed { result ≡ false → Rose (C.faults self.old.core) (C.faults self.new.core) }
+        ensures own { self.new.ends.asking.own ≡ self.old.ends.asking.own }
+    {
+        let works = self.learn_answer(given, heard);
+        self.settle(given);
+        works
+    }
+
+    /// The core learns an answer, as it was written. Whether its bank worked.
+    fn learn_answer(&mut self, given: C::Given, heard: &ReplyIn) -> bool
+        ensures core { C.seen self.new.core ≡ (C.does given).learn (C.seen self.old.core) (answer_read heard.now.command heard.now.reply.items) result }
+        ensures ends { self.new.ends ≡ self.old.ends }
+        ensures worked { result ≡ true → C.faults self.new.core ≡ C.faults self.old.core }
+        ensures failed { result ≡ false → Rose (C.faults self.old.core) (C.faults self.new.core) }
+    {
+        match fwup_wire::read_answer(heard.command, heard.reply.as_slice()) {
+            Ok(answer) => self.core.learn(given, Ok(&answer)),
+            Err(malformed) => self.core.learn(given, Err(malformed)),
+        }
+    }
+
+    /// Answers a new request. Whether the core's bank worked.
+    #[tactic(auto, using(crate::proofs::NodeServes::node_serves))]
+    fn serve(
+        &mut self,
+        identity: &mut Identity,
+        role: Role,
+        given: C::Given,
+        request: &Request,
+        outbox: &mut Outbox,
+    ) -> bool
+        requires { outbox.old ≡ [] }
+        ensures half { half_of 0 (C.seen self.new.core) self.new.ends ≡ (finished role identity.old.endpoint identity.old.tid (half_brings (C.does given) result (half_of 0 (C.seen self.old.core) self.old.ends) (IncomingOf.New request.now))).half }
+        ensures tid { identity.new.tid ≡ (finished role identity.old.endpoint identity.old.tid (half_brings (C.does given) result (half_of 0 (C.seen self.old.core) self.old.ends) (IncomingOf.New request.now))).tid }
+        ensures packets { outbox.new ≡ all_packets (finished role identity.old.endpoint identity.old.tid (half_brings (C.does given) result (half_of 0 (C.seen self.old.core) self.old.ends) (IncomingOf.New request.now))).sent }
+        ensures told { IsTold (half_brings (C.does given) result (half_of 0 (C.seen self.old.core) self.old.ends) (IncomingOf.New request.now)) }
+        ensures spoken { SpeaksAfter (C.does given) (C.seen self.old.core) (C.seen self.new.core) }
+        ensures worked { result ≡ true → C.faults self.new.core ≡ C.faults self.old.core }
+        ensures failed { result ≡ false → Rose (C.faults self.old.core) (C.faults self.new.core) }
+        ensures endpoint { identity.new.endpoint ≡ identity.old.endpoint }
+        ensures own { self.new.ends.asking.own ≡ self.old.ends.asking.own }
+    {
+        if request.head().pldm_type == TYPE_FIRMWARE_UPDATE {
+            return self.take(given, request, outbox);
+        }
+        let reply = reply_to_other(&mut identity.tid, role, request);
+        self.answer(request, reply.as_slice(), outbox);
+        true
+    }
+
+    /// Keeps and sends the answer to a new request.
+    fn answer(&mut self, request: &Request, reply: &[u8], outbox: &mut Outbox)
+        requires reply { length reply.now ≤ 252 }
+        requires outbox { outbox.old ≡ [] }
+        ensures after { self.new ≡ record self.old { ends = record self.old.ends { answering = answered_with self.old.ends.answering request.now reply.now } } }
+        ensures packets { outbox.new ≡ all_packets (reply_message request.now.message request.now.head reply.now ∷ []) }
+    {
+        let answer = self.ends.answer(request, reply);
+        outbox.send(&answer);
+    }
+
+    /// Takes a firmware update command, and answers it. Whether the core's bank worked.
+    fn take(&mut self, given: C::Given, request: &Request, outbox: &mut Outbox) -> bool
+        requires { outbox.old ≡ [] }
+        ensures half { half_of 0 (C.seen self.new.core) self.new.ends ≡ settled (C.does given) (replied (half_of 0 (reply_read (C.does given) (is_quiet self.old.ends.asking.caller) result (C.seen self.old.core) (read_by (C.does given) request.now.head.command request.now.body)).core self.old.ends) (reply_message request.now.message request.now.head (reply_read (C.does given) (is_quiet self.old.ends.asking.caller) result (C.seen self.old.core) (read_by (C.does given) request.now.head.command request.now.body)).reply)) }
+        ensures packets { outbox.new ≡ all_packets (reply_message request.now.message request.now.head (reply_read (C.does given) (is_quiet self.old.ends.asking.caller) result (C.seen self.old.core) (read_by (C.does given) request.now.head.command request.now.body)).reply ∷ []) }
+        ensures told { IsAnswered (C.does given) (is_quiet self.old.ends.asking.caller) result (C.seen self.old.core) (read_by (C.does given) request.now.head.command request.now.body) }
+        ensures spoken { MaySpeak (C.does given) (C.seen self.new.core) }
+        ensures worked { result ≡ true → C.faults self.new.core ≡ C.faults self.old.core }
+        ensures failed { result ≡ false → Rose (C.faults self.old.core) (C.faults self.new.core) }
+        ensures own { self.new.ends.asking.own ≡ self.old.ends.asking.own }
+    {
+        let (reply, works) = self.reply_to(given, request);
+        self.answer(request, reply.as_slice(), outbox);
+        self.settle(given);
+        works
+    }
+
+    /// The core's reply to a firmware update command, and whether its bank worked.
+    #[tactic(auto, using(crate::proofs::NodeServes::node_serves))]
+    fn reply_to(&mut self, given: C::Given, request: &Request) -> (Reply, bool)
+        ensures core { C.seen self.new.core ≡ (reply_read (C.does given) (is_quiet self.old.ends.asking.caller) result.1 (C.seen self.old.core) (read_by (C.does given) request.now.head.command request.now.body)).core }
+        ensures ends { self.new.ends ≡ self.old.ends }
+        ensures reply { result.0.items ≡ (reply_read (C.does given) (is_quiet self.old.ends.asking.caller) result.1 (C.seen self.old.core) (read_by (C.does given) request.now.head.command request.now.body)).reply }
+        ensures told { IsAnswered (C.does given) (is_quiet self.old.ends.asking.caller) result.1 (C.seen self.old.core) (read_by (C.does given) request.now.head.command request.now.body) }
+        ensures worked { result.1 ≡ true → C.faults self.new.core ≡ C.faults self.old.core }
+        ensures failed { result.1 ≡ false → Rose (C.faults self.old.core) (C.faults self.new.core) }
+    {
+        let command = request.head().command;
+        if !self.core.serves(given, command) {
+            return (code_alone(ERROR_UNSUPPORTED_PLDM_CMD), true);
+        }
+        let quiet = self.ends.is_quiet();
+        match fwup_wire::read(command, request.body()) {
+            Ok(command) => self.core.take(given, &command, quiet),
+            Err(code) => (code_alone(code), true),
+        }
+    }
+
+    /// The first part of a tick: what is held and kept grows older, and the open request is sent again, or given up.
+    pub(crate) fn grow(&mut self, given: C::Given, outbox: &mut Outbox)
+        requires { length outbox.old ≤ 60 }
+        ensures half { half_of 0 (C.seen self.new.core) self.new.ends ≡ half_grows (C.does given) (half_of 0 (C.seen self.old.core) self.old.ends) }
+        ensures packets { outbox.new ≡ outbox.old ++ all_packets (sent_by (caller_tick self.old.ends.asking.caller).1) }
+        ensures few { length outbox.new ≤ length outbox.old + 4 * length (sent_by (caller_tick self.old.ends.asking.caller).1) }
+        ensures lawful { IsAsking self.old.ends.asking.peer self.old.ends.asking.caller }
+        ensures faults { C.faults self.new.core ≡ C.faults self.old.core }
+        ensures own { self.new.ends.asking.own ≡ self.old.ends.asking.own }
+    {
+        let call = self.ends.tick();
+        send_again(outbox, &call);
+        if let CallTick::GaveUp = call {
+            self.core.silent(given);
+        }
+    }
+
+    /// The rest of a tick: the core's own; then what isn't wished is given up, and what is wished begins.
+    pub(crate) fn wait(&mut self, given: C::Given, outbox: &mut Outbox)
+        requires { length outbox.old + 4 * length (half_waits (C.does given) (half_of 0 (C.seen self.old.core) self.old.ends)).sent ≤ 64 }
+        ensures half { half_of 0 (C.seen self.new.core) self.new.ends ≡ (half_waits (C.does given) (half_of 0 (C.seen self.old.core) self.old.ends)).half }
+        ensures packets { outbox.new ≡ outbox.old ++ all_packets (half_waits (C.does given) (half_of 0 (C.seen self.old.core) self.old.ends)).sent }
+        ensures few { length outbox.new ≤ length outbox.old + 4 * length (half_waits (C.does given) (half_of 0 (C.seen self.old.core) self.old.ends)).sent }
+        ensures core { C.seen self.new.core ≡ (C.does given).ticked (C.seen self.old.core) }
+        ensures spoken { MaySpeak (C.does given) (C.seen self.new.core) }
+        ensures faults { C.faults self.new.core ≡ C.faults self.old.core }
+        ensures own { self.new.ends.asking.own ≡ self.old.ends.asking.own }
+    {
+        self.core.tick(given);
+        self.ask(given, outbox);
+    }
+
+    /// Gives up what isn't wished, and begins what is.
+    fn ask(&mut self, given: C::Given, outbox: &mut Outbox)
+        requires { length outbox.old + 4 * length (last_part (C.does given) (half_of 0 (C.seen self.old.core) self.old.ends) []).sent ≤ 64 }
+        ensures half { half_of 0 (C.seen self.new.core) self.new.ends ≡ (last_part (C.does given) (half_of 0 (C.seen self.old.core) self.old.ends) []).half }
+        ensures packets { outbox.new ≡ outbox.old ++ all_packets (last_part (C.does given) (half_of 0 (C.seen self.old.core) self.old.ends) []).sent }
+        ensures few { length outbox.new ≤ length outbox.old + 4 * length (last_part (C.does given) (half_of 0 (C.seen self.old.core) self.old.ends) []).sent }
+        ensures core { self.new.core ≡ self.old.core }
+        ensures spoken { MaySpeak (C.does given) (C.seen self.new.core) }
+        ensures own { self.new.ends.asking.own ≡ self.old.ends.asking.own }
+    {
+        let wish = self.core.wish(given);
+        self.ends.abandon_unless(&wish);
+        let Some(command) = wish else {
+            return;
+        };
+        if !self.ends.can_begin() {
+            return;
+        }
+        let message = self.ends.begin(&command);
+        outbox.send(&message);
+    }
+
+    /// Starts anew.
+    pub(crate) fn restart(&mut self)
+        ensures core { (given : C.Given) → C.seen self.new.core ≡ (C.does given).restarted (C.seen self.old.core) }
+        ensures ends { self.new.ends ≡ ends_new self.old.ends.asking.own self.old.ends.asking.peer }
+        ensures faults { C.faults self.new.core ≡ C.faults self.old.core }
+    {
+        self.core.restart();
+        self.ends = Ends::new(self.ends.own(), self.ends.peer());
+    }
+}

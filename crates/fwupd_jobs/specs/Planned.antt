@@ -1,0 +1,39 @@
+-- What is written of an update that isn't begun.
+use Rattle.std.specs.Prelude.{ℕ, ◌≡◌, ◌≤◌, ◌⊎◌, List, length}
+use Rattle.fw_package.specs.Package.{PackageText}
+use Rattle.fw_script.specs.Configs.{ConfigOf, config_of}
+use Rattle.ua_core.specs.Lent.{package_at}
+use Rattle.fwupd_jobs.specs.Forecasts.{forecast_of}
+use Rattle.fwupd_jobs.specs.Outputs.{FailsToPrint, OutputOf, Prints}
+use Rattle.fwupd_jobs.specs.Setups.{ArePackages, FileOf, LacksPackage, Says, SetupFails}
+use Rattle.fwupd_jobs.specs.declared.faults.RunFault.{RunFault}
+use Rattle.fwupd_jobs.specs.declared.faults.RunFault.TheVariants as faults
+
+-- A text says what comes of an update of the devices of the configuration in a file, with its package of this number, from 1 on.
+pub record Forecasts (files : List ℕ → FileOf) (path : List ℕ) (number : ℕ) (text : List ℕ) : Type 0 where
+  pub config : ConfigOf
+  pub packages : List PackageText
+  pub says : Says config_of (files path) config
+  pub are : ArePackages files config.packages packages
+  pub counted : 1 ≤ number
+  pub there : number ≤ length packages
+  pub is : text ≡ forecast_of number (package_at packages number) config.devices
+
+-- It is written.
+pub record Plans (files : List ℕ → FileOf) (path : List ℕ) (number : ℕ) (before now : OutputOf) : Type 0 where
+  pub text : List ℕ
+  pub forecasts : Forecasts files path number text
+  pub written : Prints before now text
+
+-- A beginning of it is.
+pub record BreaksPlan (files : List ℕ → FileOf) (path : List ℕ) (number : ℕ) (told : RunFault) (before now : OutputOf) : Type 0 where
+  pub is : told ≡ faults.Output
+  pub text : List ℕ
+  pub forecasts : Forecasts files path number text
+  pub begun : FailsToPrint before now text
+
+-- How a forecast ends that doesn't end well: else nothing is written, and memory was refused, or there is no such package.
+abbrev pub PlanEnds : (files : List ℕ → FileOf) (path : List ℕ) (number : ℕ) (told : RunFault) (before now : OutputOf) → Type 0
+PlanEnds files path number told before now =
+    BreaksPlan files path number told before now
+    ⊎ (((told ≡ faults.Memory) ⊎ (SetupFails files path told ⊎ ((told ≡ faults.NoPackage) × LacksPackage files path number))) × (now ≡ before))

@@ -1,0 +1,24 @@
+-- How far a device is, as the requests for bytes of its image say.
+use Rattle.std.specs.Prelude.{ℕ, ◌==◌, ◌&&◌, ◌+◌, ◌-◌, ◌^◌, if◌then◌else◌, List, Option, None, Some, Result, Ok, Err, min}
+use Rattle.fwup_wire.specs.Commands.{command_read}
+use Rattle.fwup_wire.specs.Values.{CommandOf}
+use Rattle.mctp_wire.specs.declared.fault.WireFault.{WireFault}
+use Rattle.mctp_wire.specs.declared.layout.Head.{Head}
+use Rattle.pldm_base.specs.Header.{pldm_of}
+use Rattle.pldm_base.specs.declared.header.PldmFault.{PldmFault}
+use Rattle.pldm_base.specs.declared.header.PldmHead.{PldmHead}
+
+-- where the bytes end that a request is for, if it is RequestFirmwareData (DSP0267)
+abbrev pub end_of : Result CommandOf ℕ → Option ℕ
+end_of (Ok (CommandOf.RequestFirmwareData offset size)) = Some (min (offset + size) (2 ^ 32 - 1))
+end_of other = None
+
+-- so of a message that comes from the device
+abbrev pub end_in : (device : ℕ) → Head → Result (PldmHead × List ℕ) PldmFault → Option ℕ
+end_in device h (Err fault) = None
+end_in device h (Ok m) = if h.source == device && m.0.rq && m.0.pldm_type == 5 then end_of (command_read m.0.command m.1) else None
+
+-- and of a packet
+abbrev pub end_asked : (device : ℕ) → Result (Head × List ℕ) WireFault → Option ℕ
+end_asked device (Err fault) = None
+end_asked device (Ok p) = end_in device p.0 (pldm_of p.1)

@@ -1,0 +1,54 @@
+//! Updating the devices of a configuration, where each session may have to be Done in the end.
+
+ghost use Rattle.std.specs.Prelude.{◌≡◌, ◌⊎◌, IfErr, OnOk, Some};
+ghost use Rattle.fwupd_jobs.specs.Checked.{CheckedEnds, ReportsChecked};
+ghost use Rattle.fwupd_jobs.specs.Running.{show_of};
+
+use crate::command_line::{Order, Show};
+use crate::faults::RunFault;
+use crate::files::Files;
+use crate::output::Output;
+use crate::running::{Watch, WatchFault};
+use crate::sessions::undone_fault;
+use crate::updating::{Wires, update_files};
+use fw_edge::Link;
+use std::alloc::Global;
+use std::io::Write;
+
+/// Updates the devices of the configuration in a file as it is asked for, each over a link of its own, and writes the report of what
+/// that leaves.
+///
+/// # Errors
+/// Those of `update_files`. `Session`, where that is asked for, of the first session in configured order that isn't Done: the report is
+/// written.
+#[tactic(auto, using(crate::proofs::Checks::checking))]
+pub fn update_checked<F: Files, L: Link + Drop, S: Wires<L>, V: Watch, W: Write + Drop>(
+    alloc: Global,
+    files: &F,
+    config: &str,
+    order: Order,
+    folder: &str,
+    show: Show<'_>,
+    wires: &mut S,
+    watch: &mut V,
+    output: &mut Output<W>,
+) -> Result<(), RunFault>
+    ensures ok { OnOk result (ReportsChecked (F.holds files.now) config.now order (show_of show.entry) (V.watched watch.new) output.old output.new) }
+    ensures fault { IfErr result (λ e. CheckedEnds (F.holds files.now) config.now order (show_of show.entry) (V.refuses watch.old) (S.lacks wires.old folder.now) e (V.watched watch.new) output.old output.new) }
+    ensures untouched { IfErr result (λ e. e ≡ RunFault.Trace → (watch.new ≡ watch.old) ⊎ ((V.watched watch.new).fault ≡ Some WatchFault.Unwritten)) }
+{
+    let number = order.number;
+    let undone = match update_files(
+        alloc, files, config, number, folder, show, wires, watch, output,
+    ) {
+        Ok(undone) => undone,
+        Err(fault) => return Err(fault),
+    };
+    if !order.is_checked {
+        return Ok(());
+    }
+    match undone {
+        Some(undone) => Err(undone_fault(undone)),
+        None => Ok(()),
+    }
+}

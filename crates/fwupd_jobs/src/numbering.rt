@@ -1,0 +1,25 @@
+//! The numbers of packages, which count from 1.
+
+ghost use Rattle.std.specs.Prelude.{◌≡◌, ◌≤◌, ◌<◌, ◌⊎◌, IfSome, false, length, true};
+ghost use Rattle.ua_core.specs.Lent.{package_at};
+
+use fw_package::Package;
+
+/// Whether there is a package of this number, from 1 on, among so many.
+pub fn is_numbered(count: usize, number: usize) -> bool
+    ensures there { result ≡ true → (1 ≤ number) × (number ≤ count) }
+    ensures none { result ≡ false → (number ≡ 0) ⊎ (count < number) }
+{
+    1 <= number && number <= count
+}
+
+/// The package of this number, from 1 on, if there is one.
+pub fn numbered<'a>(packages: &'a [Package<'a>], number: usize) -> Option<&'a Package<'a>>
+    ensures is { IfSome result (λ p. p.now ≡ package_at packages.now number) }
+    ensures there { IfSome result (λ p. (1 ≤ number) × (number ≤ length packages.now)) }
+{
+    let Some(place) = number.checked_sub(1) else {
+        return None;
+    };
+    packages.get(place)
+}

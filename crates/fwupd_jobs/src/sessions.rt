@@ -1,0 +1,62 @@
+//! Which session of a world isn't Done.
+
+ghost use Rattle.std.specs.Prelude.{◌≡◌, ◌≢◌};
+ghost use Rattle.fwupd_jobs.specs.Sessions.{TellsUndone, is_done, undone_in, undone_word};
+
+use crate::faults::RunFault;
+use fd_core::MemBank;
+use fw_script::{cause_name, session_name, session_of};
+use fw_world::World;
+use ua_core::SessionState;
+
+/// A session that isn't Done.
+#[derive(Clone, Copy)]
+pub struct Undone {
+    /// The device's endpoint identifier.
+    pub eid: u8,
+    /// Where the session stands.
+    pub state: Option<SessionState>,
+}
+
+/// Whether a session is Done.
+fn is_done(state: Option<SessionState>) -> bool
+    ensures { result ≡ is_done state }
+{
+    matches!(state, Some(SessionState::Done))
+}
+
+/// The first session of a world, in configured order, that isn't Done.
+pub fn first_undone(world: &World<'_, MemBank>) -> Option<Undone>
+    ensures { result ≡ undone_in world.now }
+{
+    for place in 0..world.device_count() {
+        let Some(node) = world.device_at(place) else {
+            unreachable!()
+        };
+        let eid = node.eid();
+        let state = session_of(world.agent(), eid);
+        if !is_done(state) {
+            return Some(Undone { eid, state });
+        }
+    }
+    None
+}
+
+/// The word of a session that isn't Done: the cause of its failure, or where it stands.
+fn undone_word(state: Option<SessionState>) -> &'static str
+    ensures { result.now ≡ undone_word state }
+{
+    match state {
+        None => "-",
+        Some(SessionState::Failed(cause)) => cause_name(cause),
+        Some(state) => session_name(state),
+    }
+}
+
+/// What is told of a session that isn't Done.
+pub fn undone_fault(undone: Undone) -> RunFault
+    ensures tells { TellsUndone undone result }
+    ensures other { result ≢ RunFault.Trace }
+{
+    RunFault::Session(undone.eid, undone_word(undone.state))
+}

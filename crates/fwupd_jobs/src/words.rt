@@ -1,0 +1,36 @@
+//! The words of the command line.
+
+ghost use Rattle.std.specs.Prelude.{◌≡◌, ◌≢◌, ◌⊎◌, IfErr};
+ghost use Rattle.std.specs.Process.{exit_status};
+
+use crate::faults::RunFault;
+use crate::program::{USAGE, failed};
+use std::io::ErrorKind;
+use std::process::ExitCode;
+
+/// Prints why the words of the command line can't be read, where standard error takes it, and gives the status that says so: 1 where
+/// memory was refused, and else 2 for wrong usage.
+fn no_words(rt: &HostRuntime, kind: ErrorKind) -> ExitCode
+    ensures memory { kind ≡ ErrorKind.OutOfMemory → exit_status result ≡ 1 }
+    ensures mistake { kind ≢ ErrorKind.OutOfMemory → exit_status result ≡ 2 }
+{
+    if kind == ErrorKind::OutOfMemory {
+        return failed(rt, &RunFault::Memory);
+    }
+    let _ = eprintln!(rt; "error: an argument isn't UTF-8 text");
+    ExitCode::from(USAGE)
+}
+
+/// The words of the command line, or the status where there are none to read.
+pub(crate) fn words(rt: &HostRuntime) -> Result<Vec<String>, ExitCode>
+    ensures { IfErr result (λ status. (exit_status status ≡ 1) ⊎ (exit_status status ≡ 2)) }
+{
+    let args = match std::env::args(rt) {
+        Ok(args) => args,
+        Err(error) => return Err(no_words(rt, error.kind())),
+    };
+    match args.collect(rt.alloc()) {
+        Ok(words) => Ok(words),
+        Err(_) => Err(failed(rt, &RunFault::Memory)),
+    }
+}
