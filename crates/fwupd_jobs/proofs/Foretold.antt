@@ -8,7 +8,7 @@ use Rattle.fw_script.specs.Seen.{config_seen, device_of}
 use Rattle.fw_script.specs.declared.config.Config.{Config}
 use Rattle.fw_script.specs.declared.config.DeviceConfig.{DeviceConfig}
 use Rattle.ua_core.specs.Lent.{package_at}
-use Rattle.fwupd_jobs.specs.Forecasts.{forecast_of}
+use Rattle.fw_setup.specs.Forecasts.{forecast_of}
 use Rattle.fwupd_jobs.specs.Outputs.{FailsToPrint, OutputOf}
 use Rattle.fwupd_jobs.specs.Planned.{Forecasts, PlanEnds}
 use Rattle.fwupd_jobs.specs.Setups.{ArePacked, FileOf, Says}

@@ -4,8 +4,6 @@ mod Checks
 mod Ended
 mod Examined
 mod Foretold
-mod Leading
-mod Making
 mod Packed
 mod Started
 mod Told

@@ -16,7 +16,7 @@ use Rattle.fw_script.specs.declared.faults.ScriptCause.TheVariants as causes
 use Rattle.fw_script.specs.declared.faults.ScriptFault.{ScriptFault}
 use Rattle.fw_world.specs.Replays.{new_world}
 use Rattle.fw_world.specs.Worlds.{WorldOf}
-use Rattle.fwupd_jobs.specs.Nodes.{nodes_made}
+use Rattle.fw_setup.specs.Nodes.{nodes_made}
 use Rattle.fwupd_jobs.specs.Running.{IsApart, IsBarred, IsNamed, IsWatched, LacksTrace, ShowOf, WatchOf}
 use Rattle.fwupd_jobs.specs.Setups.{ArePackages, ArePacked, FileOf, IsOver, IsOverOne, IsPacked, IsSetup, IsUnreadable, IsUnsaid, MayHold, PackageFails, PackagesFail, Says, TextFails, TextFault, misread_by, misread_told, unread_told}
 use Rattle.fwupd_jobs.specs.declared.faults.RunFault.{RunFault}

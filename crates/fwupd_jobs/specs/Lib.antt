@@ -1,11 +1,8 @@
 pub mod Answering
 pub mod Built
 pub mod Checked
-pub mod ForecastLaws
-pub mod Forecasts
 pub mod Inspected
 pub mod Jobs
-pub mod Nodes
 pub mod Outputs
 pub mod Planned
 pub mod Progress

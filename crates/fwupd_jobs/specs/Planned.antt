@@ -3,7 +3,7 @@ use Rattle.std.specs.Prelude.{ℕ, ◌≡◌, ◌≤◌, ◌⊎◌, List, length
 use Rattle.fw_package.specs.Package.{PackageText}
 use Rattle.fw_script.specs.Configs.{ConfigOf, config_of}
 use Rattle.ua_core.specs.Lent.{package_at}
-use Rattle.fwupd_jobs.specs.Forecasts.{forecast_of}
+use Rattle.fw_setup.specs.Forecasts.{forecast_of}
 use Rattle.fwupd_jobs.specs.Outputs.{FailsToPrint, OutputOf, Prints}
 use Rattle.fwupd_jobs.specs.Setups.{ArePackages, FileOf, LacksPackage, Says, SetupFails}
 use Rattle.fwupd_jobs.specs.declared.faults.RunFault.{RunFault}

@@ -10,7 +10,7 @@ use Rattle.fw_script.specs.declared.faults.ScriptCause.TheVariants as causes
 use Rattle.fw_script.specs.declared.faults.ScriptFault.{ScriptFault}
 use Rattle.fw_world.specs.Replays.{new_world}
 use Rattle.fw_world.specs.Worlds.{WorldOf}
-use Rattle.fwupd_jobs.specs.Nodes.{nodes_made}
+use Rattle.fw_setup.specs.Nodes.{nodes_made}
 use Rattle.fwupd_jobs.specs.declared.faults.RunFault.{RunFault}
 use Rattle.fwupd_jobs.specs.declared.faults.RunFault.TheVariants as faults
 use Rattle.fwupd_jobs.specs.declared.files.FileFault.{FileFault}

@@ -5,7 +5,7 @@ ghost use Rattle.fwupd_jobs.specs.Planned.{PlanEnds, Plans};
 
 use crate::faults::RunFault;
 use crate::files::Files;
-use crate::forecast_text::forecast;
+use fw_setup::forecast;
 use crate::numbering::{is_numbered, numbered};
 use crate::output::Output;
 use crate::setups::{configuration, package_files, packages_in};

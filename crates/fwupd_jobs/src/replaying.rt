@@ -4,12 +4,12 @@ ghost use Rattle.std.specs.Prelude.{IfErr, IfOk, None, OnOk, map};
 ghost use Rattle.fw_script.specs.Seen.{device_of};
 ghost use Rattle.fw_script.specs.Whole.{AreWhole};
 ghost use Rattle.fw_world.specs.Replays.{new_world};
-ghost use Rattle.fwupd_jobs.specs.Nodes.{nodes_made};
+ghost use Rattle.fw_setup.specs.Nodes.{nodes_made};
 ghost use Rattle.fwupd_jobs.specs.Replayed.{IsReplayed, ReplayEnds, Reports};
 
 use crate::faults::RunFault;
 use crate::files::Files;
-use crate::nodes::opening_world;
+use fw_setup::opening_world;
 use crate::output::Output;
 use crate::setups::{configuration, package_files, packages_in, schedule};
 use fw_package::Package;

@@ -10,7 +10,7 @@ ghost use Rattle.fwupd_jobs.specs.Running.{DrivingEnds, IsApart, IsBarred, IsCau
 use crate::command_line::Show;
 use crate::faults::RunFault;
 use crate::files::{Files, is_read};
-use crate::nodes::opening_world;
+use fw_setup::opening_world;
 use crate::numbering::is_numbered;
 use crate::output::Output;
 use crate::running::{Watch, WatchFault, update_watched, watch_fault};

@@ -1,6 +1,7 @@
 //! Texts that are read where memory is refused, and what their faults are called.
 
 use fw_script::{ScriptCause, ScriptFault, read_config, read_package_spec, read_schedule};
+use fw_setup::opening_world;
 use std::test::Fail;
 
 /// Holds whichever single allocation is refused.
@@ -16,6 +17,22 @@ fn refused_memory_is_told_of_configurations(rt: HostRuntime) {
     match read_config(rt.alloc(), text) {
         Ok(config) => assert!(rt; (config.devices.len(), config.packages.len()) == (2, 1)),
         Err(fault) => assert!(rt; fault.cause == ScriptCause::Memory),
+    }
+}
+
+/// Holds whichever single allocation is refused.
+#[test]
+fn refused_memory_opens_no_world(rt: HostRuntime) {
+    let text = b"agent 8 00000000000000000000000000000000\n\
+        device 9 00000000000000000000000000000000\n\
+        component 10 1 0 1 1.0 AA\n\
+        device 10 00000000000000000000000000000000\n\
+        component 10 1 0 1 1.0 AABB\n";
+    let Ok(config) = read_config(rt.alloc(), text) else {
+        return;
+    };
+    if let Ok(world) = opening_world(rt.alloc(), config.agent, config.devices, &[]) {
+        assert!(rt; (world.now(), world.device_count()) == (0, 2));
     }
 }
 

@@ -1,7 +1,7 @@
 use Rattle.std.proofs.Common.{map, subst, sym}
 use Rattle.fw_script.specs.Seen.{device_of}
 use Rattle.fw_world.specs.Replays.{new_world}
-use Rattle.fwupd_jobs.specs.Nodes.{nodes_made}
+use Rattle.fw_setup.specs.Nodes.{nodes_made}
 use Rattle.fwupd_jobs.specs.Replayed.{Leaves}
 use Rattle.fwupd_jobs.proofs.Told.{replayed_by}
 use Rattle.fwupd_jobs.proofs.replaying.replayed.Goals.{in-Err, in-Ok}

@@ -1,0 +1,81 @@
+-- The nodes that are made of a configuration.
+use Rattle.std.proofs.Common.{◌≡◌, ◌≤◌, ◌<◌, ◌∙◌, ◌++◌, ℕ, List, [], ◌∷◌, length, map, append_assoc, arith, ap, sym, subst, refl}
+use Rattle.std.specs.List.{AllByRecursion, remove, slice_index_or}
+use Rattle.std.proofs.lemmas.List.Elements.{All-from_recursion}
+use Rattle.std.proofs.lemmas.List.{length-map, map-append}
+use Rattle.fd_core.proofs.Rows.{apart_more}
+use Rattle.fd_core.specs.Banks.{AreApart}
+use Rattle.fd_core.specs.Components.{HasComponents}
+use Rattle.fd_core.specs.Images.{RowOf, key_of}
+use Rattle.fwup_wire.specs.declared.values.Key.{Key}
+use Rattle.fw_message.specs.Laws.{IsUnapplied}
+use Rattle.fw_node.specs.Nodes.{DeviceNodeOf}
+use Rattle.fw_script.specs.Configs.{ComponentConfigOf, DeviceConfigOf}
+use Rattle.fw_script.specs.Whole.{AreNew, AreWhole, IsDevice, eids_of, keys_of}
+use Rattle.fw_script.specs.Seen.{component_of}
+use Rattle.fw_script.specs.declared.config.ComponentConfig.{ComponentConfig}
+use Rattle.fw_world.specs.Replays.{AreDifferent, AreNewNodes, IsNewNode}
+use Rattle.fw_setup.specs.Nodes.{device_made, node_made, nodes_made, row_made}
+
+pub keys_made : (cs : List ComponentConfigOf) → map key_of (map row_made cs) ≡ map (λ c. c.key) (map (λ c. c.component) cs)
+keys_made [] = refl
+keys_made (c ∷ cs) = ap (λ ks. c.component.key ∷ ks) (keys_made cs)
+
+unapplied : (cs : List ComponentConfigOf) → AllByRecursion IsUnapplied (map row_made cs)
+unapplied [] = tt
+unapplied (c ∷ cs) = (refl, unapplied cs)
+
+pub new_made : (agent : ℕ) (x : DeviceConfigOf) → IsDevice x → HasComponents (device_made x).device → IsNewNode agent (node_made agent x)
+new_made agent x h components = record {
+  device = device_made x;
+  is = refl;
+  idle = refl;
+  unapplied = All-from_recursion IsUnapplied (map row_made x.components) (unapplied x.components);
+  components = components;
+  eid = h.eid;
+}
+
+eids_made : (agent : ℕ) (xs : List DeviceConfigOf) → map (λ n. n.endpoint.eid) (nodes_made agent xs) ≡ eids_of xs
+eids_made agent [] = refl
+eids_made agent (x ∷ xs) = ap (λ es. x.endpoint.eid ∷ es) (eids_made agent xs)
+
+-- the nodes of a whole configuration are a world's
+pub nodes_new : (agent : ℕ) (xs : List DeviceConfigOf) (ns : List DeviceNodeOf) → AreWhole agent xs → ns ≡ nodes_made agent xs
+    → AllByRecursion (IsNewNode agent) ns → AreNewNodes agent ns
+nodes_new agent xs ns h is new = record {
+  some = subst (λ n. 1 ≤ n) (sym (ap length is ∙ length-map xs (node_made agent))) h.some;
+  few = subst (λ n. n ≤ 16) (sym (ap length is ∙ length-map xs (node_made agent))) h.few;
+  agent_eid = h.agent_eid;
+  new = new;
+  apart = subst (λ es. AreDifferent (agent ∷ es)) (sym (ap (map (λ n. n.endpoint.eid)) is ∙ eids_made agent xs)) h.apart;
+}
+
+-- one more row leaves the keys behind it new
+pub rest_new : (rows : List RowOf) (row : RowOf) (keys : List Key) → AreNew (map key_of rows) (row.key ∷ keys) → AreNew (map key_of (rows ++ row ∷ [])) keys
+rest_new rows row keys h = subst (λ ks. AreNew ks keys) (sym (map-append key_of rows (row ∷ []))) h.1
+
+-- the first of a list, and the rest
+headed : {X : Type 0} (xs : List X) (x : X) → 0 < length xs → x ≡ slice_index_or xs 0 x → xs ≡ x ∷ remove xs 0
+headed [] x some is = absurd (omega (arith, some))
+headed (y ∷ ys) x some is = ap (λ z. z ∷ ys) (sym is)
+
+-- One component moves from those that are left to the bank.
+pub record Filled (total : List RowOf) (rows : List RowOf) (left : List ComponentConfigOf) : Type 0 where
+  pub all : rows ++ map row_made left ≡ total
+  pub new : AreNew (map key_of rows) (keys_of left)
+  pub apart : AreApart (map key_of rows)
+
+moved : (total rows : List RowOf) (x : ComponentConfigOf) (left : List ComponentConfigOf) → Filled total rows (x ∷ left) → Filled total (rows ++ row_made x ∷ []) left
+moved total rows x left h = record {
+  all = append_assoc rows (row_made x ∷ []) (map row_made left) ∙ h.all;
+  new = rest_new rows (row_made x) (keys_of left) h.new;
+  apart = apart_more rows (row_made x) h.apart h.new.0;
+}
+
+pub filled : (total rows after : List RowOf) (cs rest : List ComponentConfig) (c : ComponentConfig) → 0 < length cs → c ≡ slice_index_or cs 0 c → rest ≡ remove cs 0
+    → after ≡ rows ++ row_made (component_of c) ∷ [] → Filled total rows (map component_of cs) → Filled total after (map component_of rest)
+filled total rows after cs rest c some is left e h =
+    subst (λ a. Filled total a (map component_of rest)) (sym e)
+    (subst (λ r. Filled total (rows ++ row_made (component_of c) ∷ []) (map component_of r)) (sym left)
+    (moved total rows (component_of c) (map component_of (remove cs 0))
+    (subst (λ xs. Filled total rows (map component_of xs)) (headed cs c some is) h)))

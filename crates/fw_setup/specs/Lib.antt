@@ -1,0 +1,3 @@
+pub mod ForecastLaws
+pub mod Forecasts
+pub mod Nodes

@@ -1,0 +1,11 @@
+//! What a configuration comes to: the world that it opens, and what an update of its devices would do.
+#![tactic(auto)]
+
+mod forecast;
+mod forecast_laws;
+mod forecast_text;
+mod nodes;
+
+pub use forecast_laws::foretells_sessions;
+pub use forecast_text::forecast;
+pub use nodes::opening_world;

@@ -1,9 +1,0 @@
-//! What holds of forecasts.
-
-ghost use Rattle.fwupd_jobs.specs.ForecastLaws.{ForetellsSessions};
-
-/// A session that learns what a device answers fails with the cause that is foretold, and where none is, it doesn't fail before it offers
-/// a component.
-pub fn foretells_sessions()
-    ensures { ForetellsSessions }
-{}
