@@ -1,10 +1,10 @@
 -- What stands at a place, and room there.
-use Rattle.std.proofs.Common.{◌≡◌, ◌≤◌, ◌<◌, ◌+◌, ◌∙◌, ℕ, zero, suc, List, [], ◌∷◌, ◌++◌, drop, get_or, length, map, slice_get, slice_set, take, true, Option, Some, None, refl, sym, ap, subst, arith}
+use Rattle.std.proofs.Common.{◌≡◌, ◌≤◌, ◌<◌, ◌+◌, ◌∙◌, ℕ, zero, suc, List, [], ◌∷◌, ◌++◌, drop, get_or, length, map, slice_get, slice_set, take, true, Option, Some, None, inl, inr, refl, sym, ap, subst, arith}
 use Rattle.std.proofs.lemmas.List.{drop-set-lt, map-set, take_more}
 use Rattle.std.specs.List.{AllByRecursion}
 use Rattle.fw_world.specs.Replays.{SiteSpeaksIn}
 use Rattle.exch_lane.specs.Steps.{sent_at}
-use Rattle.fw_world.specs.Sites.{HaveRoom, RoomyOf, sites_of}
+use Rattle.fw_world.specs.Sites.{HaveRoom, LacksRoom, RoomyOf, sites_of}
 use Rattle.fw_world.specs.Worlds.{SiteOf, counts, place_for, place_of, post, post_at, posts, site_at, site_for, site_restarts}
 use Rattle.fw_node.specs.Cores.{device_core}
 use Rattle.fw_node.specs.Halves.{half_ticks}
@@ -55,6 +55,23 @@ pub same_put : (ss : List RoomyOf) (i : ℕ) (x y : RoomyOf) → i < length ss �
 same_put [] i x y lt is e = absurd (omega arith)
 same_put (s ∷ ss) zero x y lt is e = ap (λ v. v ∷ sites_of ss) (e ∙ ap (λ z. z.site) is)
 same_put (s ∷ ss) (suc i) x y lt is e = ap (λ vs. s.site ∷ vs) (same_put ss i x y (omega arith) is e)
+
+-- one of those that are left lacks room
+pub lacks_here : (n : ℕ) (ss : List RoomyOf) (i : ℕ) (x : RoomyOf) → i < length ss → x ≡ get_or ss i x → x.room < n → LacksRoom n (drop i ss)
+lacks_here n [] i x lt is h = absurd (omega arith)
+lacks_here n (s ∷ ss) zero x lt is h = inl (subst (λ y. y.room < n) is h)
+lacks_here n (s ∷ ss) (suc i) x lt is h = lacks_here n ss i x (omega arith) is h
+
+lacks_before : (n : ℕ) (ss : List RoomyOf) (i : ℕ) → LacksRoom n (drop (suc i) ss) → LacksRoom n (drop i ss)
+lacks_before n [] i h = absurd h
+lacks_before n (s ∷ ss) zero h = inr h
+lacks_before n (s ∷ ss) (suc i) h = lacks_before n ss i h
+
+pub lacks_later : (n : ℕ) (ss : List RoomyOf) (i : ℕ) (y : RoomyOf) → LacksRoom n (drop (i + 1) (slice_set ss i y)) → LacksRoom n (drop i ss)
+lacks_later n ss i y h =
+    let next : i + 1 ≡ suc i = omega arith in
+    let same : drop (i + 1) (slice_set ss i y) ≡ drop (i + 1) ss = drop-set-lt (i + 1) ss i y (omega arith) in
+    lacks_before n ss i (subst (λ k. LacksRoom n (drop k ss)) next (subst (LacksRoom n) same h))
 
 -- room of those that are left
 pub room_left : (n : ℕ) (ss : List RoomyOf) (i : ℕ) (x : RoomyOf) → i < length ss → x ≡ get_or ss i x → HaveRoom n (drop i ss) → n ≤ x.room

@@ -10,6 +10,7 @@ use Rattle.fd_core.specs.Components.{HasComponents}
 use Rattle.fd_core.specs.States.{DeviceOf, Phase}
 use Rattle.fd_core.specs.Steps.{device_verdict}
 use Rattle.fd_core.specs.declared.states.Verdict.{Verdict}
+use Rattle.fd_core.specs.declared.states.Verdict.TheVariants as verdicts
 use Rattle.ua_core.specs.Session.{SessionOf}
 use Rattle.fw_message.specs.Laws.{IsUnapplied}
 use Rattle.fw_node.specs.Agents.{HalfMaySpeak, agent_ticks, free_for, half_for, hearer, new_agent, ready_for}
@@ -90,12 +91,17 @@ may_step w (steps.Verdict device verdict) = verdict_fault verdict (site_for w.si
 may_step w (steps.Restart node) = where_known (is_node w node) None
 may_step w (steps.Sel bytes) = None
 
+-- of the verdicts ApplyOk adds an entry of the history
+abbrev pub adds_entry : Verdict → Bool
+adds_entry verdicts.ApplyOk = true
+adds_entry verdict = false
+
 -- a step that adds packets, entries of the history or records of a session needs memory for them
 abbrev pub needs_memory : Step → Bool
 needs_memory (steps.Deliver device number node) = true
 needs_memory (steps.Tick missed) = true
 needs_memory (steps.Start device number) = true
-needs_memory (steps.Verdict device verdict) = true
+needs_memory (steps.Verdict device verdict) = adds_entry verdict
 needs_memory s = false
 
 -- the bank's count of failures of the device that a step is for

@@ -1,5 +1,5 @@
 -- A device's node in the world, as the code has it.
-use Rattle.std.specs.Prelude.{ℕ, ◌≡◌, ◌≤◌, ◌++◌, [], ◌∷◌, Bool, false, true, IfSome, is_some, List, length, map, slice_get, slice_set, Option, Some, None}
+use Rattle.std.specs.Prelude.{ℕ, ◌≡◌, ◌≤◌, ◌<◌, ◌⊎◌, ◌++◌, [], ◌∷◌, Bool, false, true, IfSome, is_some, List, length, map, slice_get, slice_set, Option, Some, None}
 use Rattle.fd_core.specs.Banks.{Rose}
 use Rattle.fd_core.specs.States.{DeviceState, Phase}
 use Rattle.fd_core.specs.Images.{Put, RowOf, applied_of, puts, row_of}
@@ -74,6 +74,11 @@ IsCopyOf rows capacity images (Some s) = IfSome (applied_of (row_of rows s.0)) (
 abbrev pub HaveRoom : ℕ → List RoomyOf → Type 0
 HaveRoom n [] = Unit {0}
 HaveRoom n (s ∷ ss) = (n ≤ s.room) × HaveRoom n ss
+
+-- one of these lacks it
+abbrev pub LacksRoom : ℕ → List RoomyOf → Type 0
+LacksRoom n [] = ⊥
+LacksRoom n (s ∷ ss) = (s.room < n) ⊎ LacksRoom n ss
 
 -- the nodes with their packets
 abbrev pub sites_of : List RoomyOf → List SiteOf

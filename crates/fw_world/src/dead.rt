@@ -3,7 +3,7 @@
 ghost use Rattle.std.specs.Prelude.{◌≡◌, List, map, true};
 ghost use Rattle.exch_lane.specs.Journals.{sent_of};
 ghost use Rattle.exch_lane.specs.Lanes.{Sent};
-ghost use Rattle.fw_world.specs.Dead.{AreDead};
+ghost use Rattle.fw_world.specs.Dead.{AreDead, dead_count};
 
 use exch_lane::SentPacket;
 
@@ -49,9 +49,10 @@ impl FirstDead {
 
 /// How many of the first packets are dead at this time, where so many are known to be.
 #[tactic(auto, using(crate::proofs::Aging::dead_more))]
-fn first_dead(packets: &[SentPacket], now: u32, known: usize) -> usize
+pub(crate) fn first_dead(packets: &[SentPacket], now: u32, known: usize) -> usize
     requires { AreDead now known (map sent_of packets.now) }
-    ensures { AreDead now result (map sent_of packets.now) }
+    ensures dead { AreDead now result (map sent_of packets.now) }
+    ensures exact { result ≡ dead_count now (map sent_of packets.now) }
 {
     let mut count = known;
     while count < packets.len() && !packets[count].lives(now) {

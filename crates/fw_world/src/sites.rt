@@ -1,11 +1,11 @@
 //! The nodes of all devices in the world, in their order.
 
-ghost use Rattle.std.specs.Prelude.{[], ◌≡◌, ◌≤◌, ◌<◌, ◌+◌, ◌⊎◌, IfErr, IfOk, IfSome, None, OnErr, OnOk, Some, ℕ, length, map, option_map, slice_get};
+ghost use Rattle.std.specs.Prelude.{[], ◌≡◌, ◌≤◌, ◌<◌, ◌+◌, ◌⊎◌, IfErr, IfOk, IfSome, None, OnErr, OnOk, Some, ℕ, length, map, option_map, slice_get, true};
 ghost use Rattle.std.specs.List.{AllByRecursion, list_all};
 ghost use Rattle.fd_core.specs.Components.{HasComponents};
 ghost use Rattle.fw_message.specs.Entries.{entry_of};
-ghost use Rattle.fw_world.specs.Replays.{SiteSpeaksIn, may_site_beat, new_site, verdict_fault};
-ghost use Rattle.fw_world.specs.Sites.{HaveRoom, HeardAt, JudgedAt, sites_of};
+ghost use Rattle.fw_world.specs.Replays.{SiteSpeaksIn, adds_entry, may_site_beat, new_site, verdict_fault};
+ghost use Rattle.fw_world.specs.Sites.{HaveRoom, HeardAt, JudgedAt, LacksRoom, sites_of};
 ghost use Rattle.fw_world.specs.Worlds.{place_for, place_of, post, posts, site_at, site_for, site_goes_on, site_restarts};
 
 use crate::site::Site;
@@ -76,6 +76,7 @@ pub(crate) fn site_for<B: Bank>(sites: &[Site<B>], eid: u8) -> Option<&Site<B>>
 /// Makes room for so many packets at each device.
 pub(crate) fn make_room<B: Bank>(sites: &mut [Site<B>], count: usize) -> Result<(), AllocError>
     ensures room { OnOk result (HaveRoom count sites.new) }
+    ensures lacked { OnErr result (LacksRoom count sites.old) }
     ensures same { sites_of sites.new ≡ sites_of sites.old }
     ensures count { length sites.new ≡ length sites.old }
 {
@@ -189,7 +190,7 @@ pub(crate) fn judge_at<B: Bank>(
     requires place { place < length sites.old }
     ensures judged { OnOk result (JudgedAt (sites_of sites.old) place verdict (sites_of sites.new) (map entry_of history.old.items) (map entry_of history.new.items)) }
     ensures may { OnOk result (verdict_fault verdict (slice_get (sites_of sites.old) place) ≡ None) }
-    ensures refused { IfErr result (λ e. (verdict_fault verdict (slice_get (sites_of sites.old) place) ≡ Some e) ⊎ ((e ≡ StepFault.Memory) × (verdict_fault verdict (slice_get (sites_of sites.old) place) ≡ None))) }
+    ensures refused { IfErr result (λ e. (verdict_fault verdict (slice_get (sites_of sites.old) place) ≡ Some e) ⊎ ((e ≡ StepFault.Memory) × (adds_entry verdict ≡ true) × (verdict_fault verdict (slice_get (sites_of sites.old) place) ≡ None))) }
     ensures same { OnErr result (sites_of sites.new ≡ sites_of sites.old) }
     ensures unnoted { OnErr result (map entry_of history.new.items ≡ map entry_of history.old.items) }
     ensures count { length sites.new ≡ length sites.old }

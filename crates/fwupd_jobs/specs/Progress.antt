@@ -1,7 +1,9 @@
 -- How far a device is, as the requests for bytes of its image say.
-use Rattle.std.specs.Prelude.{ℕ, ◌==◌, ◌&&◌, ◌+◌, ◌-◌, ◌^◌, if◌then◌else◌, List, Option, None, Some, Result, Ok, Err, min}
+use Rattle.std.specs.Prelude.{ℕ, ◌==◌, ◌&&◌, ◌+◌, ◌++◌, codes, ◌-◌, ◌^◌, if◌then◌else◌, List, Option, None, Some, Result, Ok, Err, min}
 use Rattle.fwup_wire.specs.Commands.{command_read}
 use Rattle.fwup_wire.specs.Values.{CommandOf}
+use Rattle.fwup_wire.specs.declared.values.Key.{Key}
+use Rattle.fw_text.specs.Printing.{numbered}
 use Rattle.mctp_wire.specs.declared.fault.WireFault.{WireFault}
 use Rattle.mctp_wire.specs.declared.layout.Head.{Head}
 use Rattle.pldm_base.specs.Header.{pldm_of}
@@ -22,3 +24,10 @@ end_in device h (Ok m) = if h.source == device && m.0.rq && m.0.pldm_type == 5 t
 abbrev pub end_asked : (device : ℕ) → Result (Head × List ℕ) WireFault → Option ℕ
 end_asked device (Err fault) = None
 end_asked device (Ok p) = end_in device p.0 (pldm_of p.1)
+
+-- The line of a device that loads an image of this size for a component, of which it has asked for so many bytes. It begins where
+-- the line before it began, and covers it.
+abbrev pub progress_line : (device : ℕ) → Key → (bytes size : ℕ) → List ℕ
+progress_line device key bytes size =
+    numbered (codes "\rdevice ") device ++ numbered (codes " component ") key.classification ++ numbered (codes " ") key.identifier
+    ++ numbered (codes ": ") bytes ++ numbered (codes " of ") size ++ codes " bytes        "

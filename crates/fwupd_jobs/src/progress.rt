@@ -1,15 +1,19 @@
 //! How far a run is, shown on a terminal.
 
-ghost use Rattle.std.specs.Prelude.{◌≡◌};
-ghost use Rattle.fwupd_jobs.specs.Progress.{end_asked};
+ghost use Rattle.std.specs.Prelude.{◌≡◌, IfOk, OnOk, codes};
+ghost use Rattle.fw_text.specs.Printing.{Adds, numbered};
+ghost use Rattle.fwupd_jobs.specs.Progress.{end_asked, progress_line};
 ghost use Rattle.mctp_wire.specs.Packet.{packet_of};
 
 use exch_lane::SentPacket;
-use fd_core::MemBank;
+use fd_core::{Key, MemBank};
 use fw_node::DeviceNode;
+use fw_text::{push_number, push_words};
 use fw_world::World;
 use fwup_wire::Command;
 use pldm_base::TYPE_FIRMWARE_UPDATE;
+use std::alloc::{AllocError, Global};
+use std::io::Print;
 use std::time::{Duration, Instant};
 
 /// How many milliseconds pass at least until progress is shown again.
@@ -57,6 +61,34 @@ fn asked(packets: &[SentPacket], device: u8) -> u32 {
     0
 }
 
+/// The line that shows how far a device is that loads an image of this size for a component: so many bytes it has asked for.
+///
+/// # Errors
+/// `AllocError` where memory for it is refused.
+fn progress_line(
+    alloc: Global,
+    device: u8,
+    key: Key,
+    bytes: u32,
+    size: u32,
+) -> Result<Vec<u8>, AllocError>
+    ensures { IfOk result (λ line. line.items ≡ progress_line device key bytes size) }
+{
+    let mut line = Vec::new(alloc);
+    push_number(alloc, &mut line, "\rdevice ", usize::from(device))?;
+    push_number(
+        alloc,
+        &mut line,
+        " component ",
+        usize::from(key.classification),
+    )?;
+    push_number(alloc, &mut line, " ", usize::from(key.identifier))?;
+    push_number(alloc, &mut line, ": ", bytes as usize)?;
+    push_number(alloc, &mut line, " of ", size as usize)?;
+    push_words(&mut line, " bytes        ")?;
+    Ok(line)
+}
+
 impl<'a> Progress<'a> {
     /// Progress of which nothing is shown.
     pub fn new(rt: &'a HostRuntime) -> Progress<'a> {
@@ -81,10 +113,10 @@ impl<'a> Progress<'a> {
         };
         let device = node.eid();
         let bytes = asked(packets, device).min(size);
-        let (class, identifier) = (key.classification, key.identifier);
-        let _ = eprint!(self.rt;
-            "\rdevice {device} component {class} {identifier}: {bytes} of {size} bytes        "
-        );
+        let Ok(line) = progress_line(self.rt.alloc(), device, key, bytes, size) else {
+            return false;
+        };
+        let _ = self.rt.stderr().write_all(&line);
         true
     }
 
