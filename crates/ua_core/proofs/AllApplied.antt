@@ -1,5 +1,5 @@
 -- Where a session gets into AllApplied from, row by row.
-use Rattle.std.specs.Prelude.{Bool, Err, List, Ok, Result, [], false, if◌then◌else◌, nat_lt, true, ◌&&◌, ◌||◌, ◌==◌, ◌∷◌, ◌≡◌, ℕ, length, map}
+use Rattle.std.specs.Prelude.{Bool, Err, List, Ok, Result, [], false, if◌then◌else◌, nat_lt, true, ◌&&◌, ◌||◌, ◌==◌, ◌∷◌, ◌≡◌, ℕ, map}
 use Rattle.std.proofs.Common.{refl}
 use Rattle.fw_package.specs.Choice.{component_at, record_number}
 use Rattle.fw_package.specs.Package.{PackageText}

@@ -1,5 +1,5 @@
 -- The laws, row by row.
-use Rattle.std.specs.Prelude.{Bool, IsSome, List, [], false, if◌then◌else◌, length, nat_lt, true, ◌&&◌, ◌++◌, ◌==◌, ◌∷◌, ◌≡◌, ℕ}
+use Rattle.std.specs.Prelude.{Bool, IsSome, List, [], false, if◌then◌else◌, nat_lt, true, ◌&&◌, ◌++◌, ◌==◌, ◌∷◌, ◌≡◌, ℕ}
 use Rattle.std.proofs.Common.{refl, subst, sym, append-nil}
 use Rattle.fw_package.specs.Choice.{component_at}
 use Rattle.fw_package.specs.Package.{PackageText}
