@@ -6,6 +6,7 @@ use Rattle.mctp_reasm.specs.Held.{Held, fed, held_after}
 use Rattle.mctp_reasm.specs.declared.outcomes.Fed.{Fed}
 use Rattle.mctp_reasm.specs.declared.outcomes.Fed.TheVariants.{Dropped, Whole}
 use Rattle.mctp_reasm.specs.declared.outcomes.Fed.TheVariants as outcomes
+use Rattle.pldm_base.specs.Limits.{reply_limit}
 use Rattle.pldm_exch.specs.Caller.{Open, answer_body, answer_in, closed_by, heard_as}
 use Rattle.exch_lane.specs.Cells.{cell_at_asker}
 use Rattle.exch_lane.specs.Clocks.{Clock}
@@ -78,7 +79,7 @@ row_fed l w g tag e r (Dropped cause) o comes c h =
 
 -- the row of a packet of a reply
 row_is : (l : Laws) (w : LaneOf) (tag : ℕ) (e : Exchange) (r : List ℕ) (s : Sent) (p : IsPacketOf (reply_of (ends_of w tag) e r) s.bytes)
-    → w.asker.deaf ≡ 0 → length r ≤ 252 → tag < 8
+    → w.asker.deaf ≡ 0 → length r ≤ reply_limit → tag < 8
     → asker_row_in w s.bytes ≡ asker_fed (slice_set w.asker.replies tag (held_after (held_at w.asker.replies tag) p.packet)) w.asker.caller (fed (held_at w.asker.replies tag) p.packet)
 row_is l w tag e r s p hears few low =
     let lawful = reply_is (ends_of w tag) e r few in
@@ -92,7 +93,7 @@ part_from : (c : Clock) (x : Ends) (e : Exchange) (r : List ℕ) (o : Option Hel
 part_from c x e r None is h = tt
 part_from c x e r (Some held) is h = rw is at h.part
 
-pub few_of : (e : Exchange) (r : List ℕ) → e.reply ≡ Some r → IsWording e → length r ≤ 252
+pub few_of : (e : Exchange) (r : List ℕ) → e.reply ≡ Some r → IsWording e → length r ≤ reply_limit
 few_of e r is h = rw is at h.reply
 
 -- a packet of a reply comes to the hearing asker

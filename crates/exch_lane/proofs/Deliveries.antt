@@ -5,6 +5,7 @@ use Rattle.mctp_reasm.specs.Held.{Held}
 use Rattle.mctp_reasm.specs.declared.outcomes.Fed.{Fed}
 use Rattle.mctp_reasm.specs.declared.outcomes.Fed.TheVariants.{Dropped, Open, Whole}
 use Rattle.pldm_base.specs.Header.{pldm_of}
+use Rattle.pldm_base.specs.Limits.{reply_limit}
 use Rattle.exch_lane.specs.Clocks.{Clock, IsClock}
 use Rattle.exch_lane.proofs.Below.{Laws}
 use Rattle.exch_lane.proofs.Elapsed.{elapsed_start}
@@ -16,7 +17,7 @@ use Rattle.exch_lane.proofs.Views.{AskerView, Ends, Exchange, IsAsker, IsExchang
 pub request_is : (x : Ends) (e : Exchange) → IsWording e → IsMessage (request_of x e)
 request_is x e h = let few = h.body in (omega arith, omega arith)
 
-pub reply_is : (x : Ends) (e : Exchange) (r : List ℕ) → length r ≤ 252 → IsMessage (reply_of x e r)
+pub reply_is : (x : Ends) (e : Exchange) (r : List ℕ) → length r ≤ reply_limit → IsMessage (reply_of x e r)
 reply_is x e r few = (omega arith, omega arith)
 
 pub request_reads : (l : Laws) (x : Ends) (e : Exchange) → IsWording e
@@ -102,7 +103,7 @@ unanswered_is_current v e none soon h = current_from v e v.is_current refl none 
 no_replies : (c : Clock) (x : Ends) (e : Exchange) (w : AskerView) → e.reply ≡ None → IsAsker c x e w → w.replies ≡ None
 no_replies c x e w none h = none_of w.replies (IsReplies c x e) h.replies (λ o r. rw none at r.part)
 
-pub view_takes : (v : TagView) (e : Exchange) (r : List ℕ) → IsClock (taker_time v) → v.taker.deaf ≡ 0 → e.reply ≡ None → length r ≤ 252
+pub view_takes : (v : TagView) (e : Exchange) (r : List ℕ) → IsClock (taker_time v) → v.taker.deaf ≡ 0 → e.reply ≡ None → length r ≤ reply_limit
     → v.now ≤ e.last + 8 → IsExchange v e
     → IsExchange (record v { taker = record { deaf = v.taker.deaf; kept = Some (record { identifier = e.identifier; reply = reply_of v.ends e r; age = 0 }); requests = None } }) (answered_with r e)
 view_takes v e r ok hears none few soon h =

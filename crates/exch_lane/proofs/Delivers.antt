@@ -5,6 +5,7 @@ use Rattle.std.proofs.lemmas.Bool.Decides.{eqb_tells}
 use Rattle.exch_lane.specs.Cells.{cell_delivers, cell_hears}
 use Rattle.exch_lane.specs.Lanes.{LaneOf, Sent, numbered}
 use Rattle.mctp_reasm.specs.Inboxes.{packet_for}
+use Rattle.pldm_base.specs.Limits.{reply_limit}
 use Rattle.exch_lane.specs.Steps.{asker_row_in, delivers, lane_hears, may_deliver, taker_row_in}
 use Rattle.exch_lane.specs.declared.step.End.{End}
 use Rattle.exch_lane.specs.declared.step.End.TheVariants as ends
@@ -39,7 +40,7 @@ taker_misses w g reply bytes misses h = elim (eqb_tells w.taker.deaf 0) [
 -- a packet of a request
 request_comes : (l : Laws) (w : LaneOf) (g : Ghost) (tag : ℕ) (e : Exchange) (end : End) (reply : List ℕ) (s : Sent)
     → IsPacketOf (request_of (ends_of w tag) e) s.bytes → s.date ≤ e.last → w.now ≤ s.date + 8 → tag < 8 → g.exchanges tag ≡ Some e
-    → length reply ≤ 252 → LaneGood w g
+    → length reply ≤ reply_limit → LaneGood w g
     → Hears w g end reply s.bytes
 request_comes l w g tag e ends.Asker reply s p before soon low is few h =
     asker_misses w g reply s.bytes
@@ -71,19 +72,19 @@ reply_from l w g tag e None end reply s answered of soon low is h = absurd of
 reply_from l w g tag e (Some r) end reply s answered of soon low is h = reply_comes l w g tag e r end reply s of.0 of.1 soon low is answered h
 
 packet_from : (l : Laws) (w : LaneOf) (g : Ghost) (tag : ℕ) (e : Exchange) (end : End) (reply : List ℕ) (s : Sent) → IsOfExchange (ends_of w tag) e s
-    → w.now ≤ s.date + 8 → tag < 8 → g.exchanges tag ≡ Some e → length reply ≤ 252 → LaneGood w g
+    → w.now ≤ s.date + 8 → tag < 8 → g.exchanges tag ≡ Some e → length reply ≤ reply_limit → LaneGood w g
     → Hears w g end reply s.bytes
 packet_from l w g tag e end reply s (inl of) soon low is few h = request_comes l w g tag e end reply s of.0 of.1 soon low is few h
 packet_from l w g tag e end reply s (inr of) soon low is few h = reply_from l w g tag e e.reply end reply s refl of soon low is h
 
 exchange_from : (l : Laws) (w : LaneOf) (g : Ghost) (tag : ℕ) (o : Option Exchange) (end : End) (reply : List ℕ) (s : Sent) → g.exchanges tag ≡ o
-    → IsSomeAnd o (λ e. IsOfExchange (ends_of w tag) e s) → w.now ≤ s.date + 8 → tag < 8 → length reply ≤ 252 → LaneGood w g
+    → IsSomeAnd o (λ e. IsOfExchange (ends_of w tag) e s) → w.now ≤ s.date + 8 → tag < 8 → length reply ≤ reply_limit → LaneGood w g
     → Hears w g end reply s.bytes
 exchange_from l w g tag None end reply s is of soon low few h = absurd of
 exchange_from l w g tag (Some e) end reply s is of soon low few h = packet_from l w g tag e end reply s of soon low is few h
 
 living_comes : (l : Laws) (w : LaneOf) (g : Ghost) (end : End) (reply : List ℕ) (s : Sent) → IsExplained w.asker_eid w.taker_eid g.exchanges s
-    → w.now ≤ s.date + 8 → length reply ≤ 252 → LaneGood w g → Hears w g end reply s.bytes
+    → w.now ≤ s.date + 8 → length reply ≤ reply_limit → LaneGood w g → Hears w g end reply s.bytes
 living_comes l w g end reply s k soon few h = exchange_from l w g k.tag (g.exchanges k.tag) end reply s refl k.of soon k.low few h
 
 -- the packet of a number
@@ -100,7 +101,7 @@ still_living now s e = elim (cases_lt (s.date + 8) now) [
 ]
 
 delivers_from : (l : Laws) (w : LaneOf) (g : Ghost) (number : ℕ) (end : End) (reply : List ℕ) (o : Option Sent) → numbered w.packets number ≡ o
-    → may_deliver w.now o ≡ None → length reply ≤ 252 → LaneGood w g
+    → may_deliver w.now o ≡ None → length reply ≤ reply_limit → LaneGood w g
     → GoesOn (delivers w end reply o) (cell_delivers w end reply o (run_of w g))
 delivers_from l w g number end reply None is may few h = absurd (cc)
 delivers_from l w g number end reply (Some s) is may few h =
@@ -108,6 +109,6 @@ delivers_from l w g number end reply (Some s) is may few h =
     living_comes l w g end reply s (all_at (IsLiving w.now w.asker_eid w.taker_eid g.exchanges) w.packets (number - 1) s h.body.packets (at_number w.packets number s is) soon) soon few h
 
 pub goes_deliver : (l : Laws) (w : LaneOf) (g : Ghost) (number : ℕ) (end : End) (reply : List ℕ)
-    → may_deliver w.now (numbered w.packets number) ≡ None → length reply ≤ 252 → LaneGood w g
+    → may_deliver w.now (numbered w.packets number) ≡ None → length reply ≤ reply_limit → LaneGood w g
     → GoesOn (delivers w end reply (numbered w.packets number)) (cell_delivers w end reply (numbered w.packets number) (run_of w g))
 goes_deliver l w g number end reply may few h = delivers_from l w g number end reply (numbered w.packets number) refl may few h

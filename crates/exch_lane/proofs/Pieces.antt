@@ -5,9 +5,11 @@ use Rattle.std.proofs.lemmas.Bool.Decides.{eqb_tells}
 use Rattle.std.proofs.lemmas.List.{length-drop, length-take-le}
 use Rattle.std.proofs.lemmas.Option.{slice_get_within}
 use Rattle.mctp_wire.specs.Packet.{packet_of}
+use Rattle.mctp_wire.specs.declared.layout.TheConstants.{MAX_BODY}
 use Rattle.mctp_reasm.specs.Pieces.{IsMessage, MessageOf, PacketOf, Route, message_route, piece, pieces, pieces_from, spelled}
 use Rattle.mctp_reasm.specs.Held.{Held, fed, held_after}
 use Rattle.mctp_reasm.specs.Laws.{holding}
+use Rattle.mctp_reasm.specs.declared.messages.TheConstants.{MAX_PACKETS}
 use Rattle.mctp_reasm.specs.declared.outcomes.Fed.{Fed}
 use Rattle.mctp_reasm.specs.declared.outcomes.Fed.TheVariants.{Dropped, Open, Whole}
 use Rattle.exch_lane.proofs.Below.{Laws}
@@ -16,7 +18,7 @@ use Rattle.exch_lane.proofs.Views.{IsPart}
 
 -- a body that a packet can carry
 abbrev pub IsSized : PacketOf → Type 0
-IsSized p = (1 ≤ length p.body) × (length p.body ≤ 64)
+IsSized p = (1 ≤ length p.body) × (length p.body ≤ MAX_BODY)
 
 sized_last : (q : PacketOf) (i : ℕ) (p : PacketOf) → IsSized q → slice_get (q ∷ []) i ≡ Some p → IsSized p
 sized_last q zero p sized e = let is : q ≡ p = cc in subst IsSized is sized
@@ -27,17 +29,17 @@ sized_more : (q : PacketOf) (qs : List PacketOf) (i : ℕ) (p : PacketOf) → Is
 sized_more q qs zero p sized later e = let is : q ≡ p = cc in subst IsSized is sized
 sized_more q qs (suc j) p sized later e = later j e
 
-sized_from : (fuel : ℕ) (r : Route) (n : ℕ) (bytes : List ℕ) (i : ℕ) (p : PacketOf) → 1 ≤ length bytes → length bytes ≤ 64 * fuel
+sized_from : (fuel : ℕ) (r : Route) (n : ℕ) (bytes : List ℕ) (i : ℕ) (p : PacketOf) → 1 ≤ length bytes → length bytes ≤ MAX_BODY * fuel
     → slice_get (pieces_from fuel r n bytes) i ≡ Some p → IsSized p
 unfolding pieces_from
 sized_from zero r n bytes i p some le h = absurd (cc)
-sized_from (suc fuel) r n bytes i p some le h = elim (cases_lt 64 (length bytes)) [
+sized_from (suc fuel) r n bytes i p some le h = elim (cases_lt MAX_BODY (length bytes)) [
   | inl more ↦
-      let left : length (drop 64 bytes) ≡ length bytes - 64 = length-drop 64 bytes in
-      let cut : length (take 64 bytes) ≡ 64 = length-take-le 64 bytes (omega arith) in
-      sized_more (piece r n false (take 64 bytes)) (pieces_from fuel r (n + 1) (drop 64 bytes)) i p (omega (arith, cut), omega (arith, cut))
-      (λ j e. sized_from fuel r (n + 1) (drop 64 bytes) j p (omega arith) (omega arith) e) (rw (lt-leb (length bytes) 64 more) at h)
-  | inr less ↦ sized_last (piece r n true bytes) i p (some, less) (rw (le-leb (length bytes) 64 less) at h)
+      let left : length (drop MAX_BODY bytes) ≡ length bytes - MAX_BODY = length-drop MAX_BODY bytes in
+      let cut : length (take MAX_BODY bytes) ≡ MAX_BODY = length-take-le MAX_BODY bytes (omega arith) in
+      sized_more (piece r n false (take MAX_BODY bytes)) (pieces_from fuel r (n + 1) (drop MAX_BODY bytes)) i p (omega (arith, cut), omega (arith, cut))
+      (λ j e. sized_from fuel r (n + 1) (drop MAX_BODY bytes) j p (omega arith) (omega arith) e) (rw (lt-leb (length bytes) MAX_BODY more) at h)
+  | inr less ↦ sized_last (piece r n true bytes) i p (some, less) (rw (le-leb (length bytes) MAX_BODY less) at h)
 ]
 
 -- each piece of a message reads back
@@ -49,7 +51,7 @@ piece_reads l m i p lawful low h =
     let few = all.few in
     let seq = here.seq in
     let within = slice_get_within (pieces m) i p h in
-    let sized = sized_from 4 (message_route m) 0 m.bytes i p lawful.0 (omega (arith, lawful.1)) h in
+    let sized = sized_from MAX_PACKETS (message_route m) 0 m.bytes i p lawful.0 (omega (arith, lawful.1)) h in
     let tag : p.head.tag ≡ m.tag = ap (λ r. r.tag) here.route in
     l.packets_read (spelled p) p.head p.body (l.packets_written p.head p.body (omega arith, omega (arith, low, tag)) sized.0 sized.1)
 

@@ -5,6 +5,7 @@ use Rattle.mctp_reasm.specs.Held.{Held, fed, held_after}
 use Rattle.mctp_reasm.specs.declared.outcomes.Fed.{Fed}
 use Rattle.mctp_reasm.specs.declared.outcomes.Fed.TheVariants.{Dropped, Open, Whole}
 use Rattle.pldm_base.specs.Header.{pldm_of}
+use Rattle.pldm_base.specs.Limits.{reply_limit}
 use Rattle.pldm_base.specs.declared.header.PldmHead.{PldmHead}
 use Rattle.pldm_exch.specs.Kept.{Kept, asked_as, identifier_in, identifier_of, kept_as, kept_at, kept_with, request_heard}
 use Rattle.exch_lane.specs.Cells.{cell_at_taker, cell_take}
@@ -42,7 +43,7 @@ row_again : (w : LaneOf) (g : Ghost) (tag : ℕ) (e : Exchange) (reply : List �
     → DoesRow w g reply (TakerRow.Repeats (slice_set w.taker.requests tag None) k.reply)
 row_again w g tag e reply k kept c h = taker_repeats w g tag e k kept c h
 
-row_new : (l : Laws) (w : LaneOf) (g : Ghost) (tag : ℕ) (e : Exchange) (reply : List ℕ) → length reply ≤ 252 → kept_at w.taker.kept tag ≡ None
+row_new : (l : Laws) (w : LaneOf) (g : Ghost) (tag : ℕ) (e : Exchange) (reply : List ℕ) → length reply ≤ reply_limit → kept_at w.taker.kept tag ≡ None
     → RequestCame w g tag e → LaneGood w g
     → DoesRow w g reply (TakerRow.TakesUp (slice_set w.taker.requests tag None) (request_of (ends_of w tag) e) (request_head e) e.body)
 row_new l w g tag e reply few new c h =
@@ -56,12 +57,12 @@ row_new l w g tag e reply few new c h =
     (sym kept) (taker_takes w g tag e reply few new c h)
 
 row_asked : (l : Laws) (w : LaneOf) (g : Ghost) (tag : ℕ) (e : Exchange) (reply : List ℕ) (k : Option Kept) → kept_at w.taker.kept tag ≡ k
-    → IfSome k (IsKept (taker_clock w) (ends_of w tag) e) → length reply ≤ 252 → RequestCame w g tag e → LaneGood w g
+    → IfSome k (IsKept (taker_clock w) (ends_of w tag) e) → length reply ≤ reply_limit → RequestCame w g tag e → LaneGood w g
     → DoesRow w g reply (taker_asked (slice_set w.taker.requests tag None) (request_of (ends_of w tag) e) (request_head e) e.body (asked_as k (Some e.identifier)))
 row_asked l w g tag e reply None is kept few c h = row_new l w g tag e reply few is c h
 row_asked l w g tag e reply (Some k) is kept few c h = rw (eq-eqb k.identifier e.identifier kept.identifier) (row_again w g tag e reply k kept c h)
 
-row_whole : (l : Laws) (w : LaneOf) (g : Ghost) (tag : ℕ) (e : Exchange) (reply : List ℕ) → length reply ≤ 252 → RequestCame w g tag e → LaneGood w g
+row_whole : (l : Laws) (w : LaneOf) (g : Ghost) (tag : ℕ) (e : Exchange) (reply : List ℕ) → length reply ≤ reply_limit → RequestCame w g tag e → LaneGood w g
     → DoesRow w g reply (taker_read (slice_set w.taker.requests tag None) w.taker.kept (request_of (ends_of w tag) e) (pldm_of (request_of (ends_of w tag) e).bytes))
 row_whole l w g tag e reply few c h =
     let k = came_of w g tag e c.low c.is h in
@@ -73,7 +74,7 @@ row_whole l w g tag e reply few c h =
 
 -- what its assembly says of a packet of a request
 row_fed : (l : Laws) (w : LaneOf) (g : Ghost) (tag : ℕ) (e : Exchange) (reply : List ℕ) (f : Fed) (o : Option Held)
-    → Comes (request_of (ends_of w tag) e) f o → length reply ≤ 252 → RequestCame w g tag e → LaneGood w g
+    → Comes (request_of (ends_of w tag) e) f o → length reply ≤ reply_limit → RequestCame w g tag e → LaneGood w g
     → DoesRow w g reply (taker_fed (slice_set w.taker.requests tag o) w.taker.kept f)
 row_fed l w g tag e reply (Whole m) o comes few c h =
     subst (λ o. DoesRow w g reply (taker_fed (slice_set w.taker.requests tag o) w.taker.kept (Whole m))) (sym comes.1)
@@ -94,7 +95,7 @@ row_is l w tag e s p hears wording low =
 
 -- a packet of a request comes to the hearing taker
 pub hears_request : (l : Laws) (w : LaneOf) (g : Ghost) (tag : ℕ) (e : Exchange) (reply : List ℕ) (s : Sent)
-    → IsPacketOf (request_of (ends_of w tag) e) s.bytes → length reply ≤ 252 → RequestCame w g tag e → LaneGood w g
+    → IsPacketOf (request_of (ends_of w tag) e) s.bytes → length reply ≤ reply_limit → RequestCame w g tag e → LaneGood w g
     → DoesRow w g reply (taker_row_in w s.bytes)
 hears_request l w g tag e reply s p few c h =
     let k = came_of w g tag e c.low c.is h in

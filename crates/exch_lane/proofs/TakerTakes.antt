@@ -4,6 +4,7 @@ use Rattle.std.specs.List.{AllByRecursion}
 use Rattle.std.proofs.lemmas.Bool.{eq-eqb}
 use Rattle.std.proofs.lemmas.Bool.Decides.{eqb_tells}
 use Rattle.std.proofs.lemmas.Cmp.{nat_list_eq_equiv}
+use Rattle.pldm_base.specs.Limits.{reply_limit}
 use Rattle.pldm_exch.specs.Kept.{Kept, kept_at}
 use Rattle.exch_lane.specs.Cells.{cell_take}
 use Rattle.exch_lane.specs.Lanes.{EntryOf, LaneOf, asker_clock, taker_clock}
@@ -54,7 +55,7 @@ abbrev pub taken_lane : LaneOf → ℕ → Exchange → List ℕ → LaneOf
 taken_lane w tag e reply =
     taker_turned w (taker_after w tag e reply) (w.packets ++ sendings w.now (reply_of (ends_of w tag) e reply)) (w.entries ++ EntryOf.Taken e.command e.body reply ∷ [])
 
-takes_tags : (w : LaneOf) (g : Ghost) (tag : ℕ) (e : Exchange) (reply : List ℕ) → length reply ≤ 252 → e.reply ≡ None → RequestCame w g tag e → LaneGood w g
+takes_tags : (w : LaneOf) (g : Ghost) (tag : ℕ) (e : Exchange) (reply : List ℕ) → length reply ≤ reply_limit → e.reply ≡ None → RequestCame w g tag e → LaneGood w g
     → (t : ℕ) → t < 8 → TagOf (view_of (taken_lane w tag e reply) g.current t) (put tag (answered_with reply e) g.exchanges t)
 takes_tags w g tag e reply few none c h t lt = elim (eqb_tells t tag) [
   | inl same ↦
@@ -65,7 +66,7 @@ takes_tags w g tag e reply few none c h t lt = elim (eqb_tells t tag) [
   | inr other ↦ rw (other.0, set_there w.taker.requests tag t None other.1, set_there w.taker.kept tag t (Some (record { identifier = e.identifier; reply = reply_of (ends_of w tag) e reply; age = 0 })) other.1) (h.body.tags t lt)
 ]
 
-takes_good : (w : LaneOf) (g : Ghost) (tag : ℕ) (e : Exchange) (reply : List ℕ) → length reply ≤ 252 → e.reply ≡ None → RequestCame w g tag e → LaneGood w g
+takes_good : (w : LaneOf) (g : Ghost) (tag : ℕ) (e : Exchange) (reply : List ℕ) → length reply ≤ reply_limit → e.reply ≡ None → RequestCame w g tag e → LaneGood w g
     → LaneGood (taken_lane w tag e reply) (record { exchanges = put tag (answered_with reply e) g.exchanges; current = g.current })
 takes_good w g tag e reply few none c h =
     let living = packets_grow w.now w.asker_eid w.taker_eid g.exchanges tag e e.last (Some reply) w.packets c.is (omega arith) (λ r is. absurd (let clash : None ≡ Some r = sym none ∙ is in cc)) h.body.packets in
@@ -83,7 +84,7 @@ takes_runs : (w : LaneOf) (g : Ghost) (tag : ℕ) (e : Exchange) (reply : List �
     → cell_take e.command e.body reply (run_of w g) ≡ Some (run_of (taken_lane w tag e reply) (record { exchanges = put tag (answered_with reply e) g.exchanges; current = g.current }))
 takes_runs w g tag e reply none is current = rw (current, is, none, eq-eqb e.command e.command refl, nat_list_eq_equiv.refl e.body, eq-eqb tag tag refl) refl
 
-pub taker_takes : (w : LaneOf) (g : Ghost) (tag : ℕ) (e : Exchange) (reply : List ℕ) → length reply ≤ 252 → kept_at w.taker.kept tag ≡ None
+pub taker_takes : (w : LaneOf) (g : Ghost) (tag : ℕ) (e : Exchange) (reply : List ℕ) → length reply ≤ reply_limit → kept_at w.taker.kept tag ≡ None
     → RequestCame w g tag e → LaneGood w g
     → GoesOn (taken_lane w tag e reply) (cell_take e.command e.body reply (run_of w g))
 taker_takes w g tag e reply few new c h =

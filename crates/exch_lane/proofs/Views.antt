@@ -3,6 +3,7 @@ use Rattle.std.proofs.Common.{◌≡◌, ◌+◌, ◌-◌, ◌≤◌, ◌<◌, �
 use Rattle.mctp_reasm.specs.Pieces.{MessageOf, PacketOf, pieces}
 use Rattle.mctp_reasm.specs.Held.{Held, held_tick}
 use Rattle.pldm_base.specs.Header.{pldm_bytes}
+use Rattle.pldm_base.specs.Limits.{reply_limit}
 use Rattle.pldm_exch.specs.Kept.{Kept, kept_tick}
 use Rattle.exch_lane.specs.Clocks.{Clock, beat, elapsed}
 
@@ -148,8 +149,8 @@ pub record IsSpan (now : ℕ) (e : Exchange) : Type 0 where
 -- the exchange can be written
 pub record IsWording (e : Exchange) : Type 0 where
   pub identifier : e.identifier ≤ 31
-  pub body : length e.body ≤ 252
-  pub reply : IfSome e.reply (λ r. length r ≤ 252)
+  pub body : length e.body ≤ reply_limit
+  pub reply : IfSome e.reply (λ r. length r ≤ reply_limit)
 
 -- the asker's side: the tag rests until nothing of the exchange can be left
 pub record IsAsker (c : Clock) (x : Ends) (e : Exchange) (w : AskerView) : Type 0 where

@@ -2,6 +2,7 @@
 use Rattle.std.specs.Prelude.{◌≡◌, ◌⊎◌, ◌≤◌, ℕ, ◌+◌, ◌-◌, ◌^◌, ◌==◌, ◌&&◌, nat_lt, if◌then◌else◌, Bool, false, true, List, [], ◌∷◌, ◌++◌, length, map, Option, Some, None, is_some}
 use Rattle.mctp_reasm.specs.Held.{Held}
 use Rattle.mctp_reasm.specs.Pieces.{MessageOf, pieces, spelled}
+use Rattle.pldm_base.specs.Limits.{reply_limit}
 use Rattle.pldm_base.specs.declared.header.PldmHead.{PldmHead}
 use Rattle.pldm_exch.specs.Caller.{abandoned, begun, may_begin}
 use Rattle.pldm_exch.specs.Kept.{kept_with}
@@ -159,12 +160,11 @@ needs_memory (StepOf.Restart end) = false
 abbrev pub IsCause : LaneOf → StepOf → LaneFault → Type 0
 IsCause w s e = (may_step w s ≡ Some e) ⊎ ((e ≡ faults.Memory) × (needs_memory s ≡ true) × (may_step w s ≡ None))
 
--- request data and a reply with its code have at most 252 bytes, so that their messages have at most 256 (DSP0240's
--- header of four bytes stands before them)
+-- request data and a reply with its code fit a message behind its header
 abbrev pub IsStep : StepOf → Type 0
-IsStep (StepOf.Begin command body) = length body ≤ 252
+IsStep (StepOf.Begin command body) = length body ≤ reply_limit
 IsStep StepOf.Abandon = Unit {0}
-IsStep (StepOf.Deliver number end reply) = length reply ≤ 252
+IsStep (StepOf.Deliver number end reply) = length reply ≤ reply_limit
 IsStep (StepOf.Tick asker taker) = Unit {0}
 IsStep (StepOf.Restart end) = Unit {0}
 

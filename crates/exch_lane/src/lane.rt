@@ -13,7 +13,7 @@ use crate::clock::{UNMISSED, may_beat, since_after};
 use crate::entry::LaneEntry;
 use crate::journal::{Journal, SentPacket};
 use crate::step::{End, LaneFault, LaneStep};
-use pldm_base::Reply;
+use pldm_base::{MAX_REPLY, Reply};
 use pldm_exch::{Asker, Brought, CallTick, DEAF, Taker};
 use std::alloc::Global;
 use std::marker::Model;
@@ -134,7 +134,7 @@ impl Lane {
     /// The asker begins a request.
     #[tactic(auto, using(crate::proofs::LaneRows::rows))]
     fn begin(&mut self, command: u8, body: &[u8]) -> Result<(), LaneFault>
-        requires { length body.now ≤ 252 }
+        requires { length body.now ≤ MAX_REPLY }
         ensures ok { OnOk result ((may_step self.old (StepOf.Begin command body.now) ≡ None) × (self.new ≡ begins self.old command body.now)) }
         ensures err { OnErr result (self.new ≡ self.old) }
         ensures cause { IfErr result (λ e. IsCause self.old (StepOf.Begin command body.now) e) }
@@ -166,7 +166,7 @@ impl Lane {
 
     /// A packet comes to an end.
     fn deliver(&mut self, number: usize, end: End, reply: &[u8]) -> Result<(), LaneFault>
-        requires { length reply.now ≤ 252 }
+        requires { length reply.now ≤ MAX_REPLY }
         ensures ok { OnOk result ((may_step self.old (StepOf.Deliver number end reply.now) ≡ None) × (self.new ≡ lane_after self.old (StepOf.Deliver number end reply.now))) }
         ensures err { OnErr result (self.new ≡ self.old) }
         ensures cause { IfErr result (λ e. IsCause self.old (StepOf.Deliver number end reply.now) e) }
@@ -261,7 +261,7 @@ fn asker_hears(deaf: u8, asker: &mut Asker, journal: &mut Journal, bytes: &[u8])
 #[tactic(auto, using(crate::proofs::LaneRows::rows))]
 fn taker_hears(deaf: u8, taker: &mut Taker, journal: &mut Journal, bytes: &[u8], reply: &[u8])
     requires room { HasRoom journal.old }
-    requires reply { length reply.now ≤ 252 }
+    requires reply { length reply.now ≤ MAX_REPLY }
     ensures taker { taker_of deaf taker.new ≡ taker_after (taker_of deaf taker.old) reply.now (taker_row taker.old.own taker.old.peer (taker_of deaf taker.old) bytes.now) }
     ensures between { (taker.new.own ≡ taker.old.own) × (taker.new.peer ≡ taker.old.peer) }
     ensures packets { map sent_of journal.new.packets.items ≡ with_sent journal.old.time (map sent_of journal.old.packets.items) (heard_in reply.now (taker_row taker.old.own taker.old.peer (taker_of deaf taker.old) bytes.now)) }
@@ -313,7 +313,7 @@ fn taker_ticks(deaf: &mut u8, taker: &mut Taker)
 
 /// Request data, or a reply, of their own.
 fn data_of(bytes: &[u8]) -> Reply
-    requires { length bytes.now ≤ 252 }
+    requires { length bytes.now ≤ MAX_REPLY }
     ensures { result.items ≡ bytes.now }
 {
     let mut data = Reply::new();

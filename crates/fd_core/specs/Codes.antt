@@ -54,13 +54,6 @@ application_failed = 0xB0
 abbrev pub no_stamp : ℕ
 no_stamp = 0xFFFFFFFF
 
--- the fewest and the most bytes that a device asks for at once
-abbrev pub least_length : ℕ
-least_length = 32
-
-abbrev pub greatest_length : ℕ
-greatest_length = 240
-
 -- the longest image
 abbrev pub longest_image : ℕ
 longest_image = 1048576

@@ -2,7 +2,7 @@
 -- row does. In a row the tests stand in their order. `quiet` says that the device has no request of its own under way,
 -- `works` that the one call of the bank that a row makes succeeds.
 use Rattle.std.specs.Prelude.{[], ◌&&◌, ◌≡◌, ◌+◌, ◌++◌, ◌==◌, ◌||◌, ◌∷◌, Bool, List, None, Option, Some, false, if◌then◌else◌, is_some, length, map, nat_lt, not, true, ℕ}
-use Rattle.fd_core.specs.Codes.{activation_not_required, already_in_update_mode, application_failed, can_be_updated, cannot_be_updated, incomplete_update, invalid_state_for_command, least_length, longest_image, most_components, no_restriction, no_stamp, not_in_update_mode, not_supported, progress_unsupported, stamp_identical, stamp_lower, transfer_failed, verification_failed}
+use Rattle.fd_core.specs.Codes.{activation_not_required, already_in_update_mode, application_failed, can_be_updated, cannot_be_updated, incomplete_update, invalid_state_for_command, longest_image, most_components, no_restriction, no_stamp, not_in_update_mode, not_supported, progress_unsupported, stamp_identical, stamp_lower, transfer_failed, verification_failed}
 use Rattle.fd_core.specs.Images.{Put, RowOf, applied_of, active_of, dropped, label_of, puts, row_of, same_key, switched, version_at}
 use Rattle.fd_core.specs.States.{DeviceState, DeviceOf, Phase, UpdateOf, WorkOf, moved, reset, rested, state_of}
 use Rattle.fd_core.specs.declared.parts.Component.{Component}
@@ -21,6 +21,7 @@ use Rattle.fwup_wire.specs.declared.answer.TableResponse.{TableResponse}
 use Rattle.fwup_wire.specs.declared.values.Key.{Key}
 use Rattle.fwup_wire.specs.declared.values.TransferFlag.{TransferFlag}
 use Rattle.fwup_wire.specs.declared.values.TransferFlag.TheVariants as flags
+use Rattle.fwup_wire.specs.declared.transfers.TheConstants.{MIN_TRANSFER}
 use Rattle.pldm_base.specs.Codes.{error, invalid_data, not_ready, unsupported_command}
 
 -- What a command does: the device after it, the answer, the images that it activates, and whether the count of ticks
@@ -50,7 +51,7 @@ pub data RequestRow : Type 0 where
 
 -- whether no update is like this: too few bytes at once, no component or too many
 abbrev pub is_odd_request : RequestOf → Bool
-is_odd_request r = nat_lt r.transfer_size least_length || ((r.components == 0) || nat_lt most_components r.components)
+is_odd_request r = nat_lt r.transfer_size MIN_TRANSFER || ((r.components == 0) || nat_lt most_components r.components)
 
 abbrev pub request_row : Phase → RequestOf → Bool → RequestRow
 request_row Phase.Idle r false = RequestRow.RefuseRequest not_ready

@@ -1,16 +1,17 @@
 -- What a device asks of the agent, and what it learns from the answers (DSP0267 1.0).
 use Rattle.std.specs.Prelude.{[], ◌++◌, ◌-◌, ◌==◌, Bool, List, None, Option, Some, false, if◌then◌else◌, length, max, min, take, true, ℕ}
-use Rattle.fd_core.specs.Codes.{application_failed, greatest_length, least_length, succeeded, transfer_failed, verification_failed}
+use Rattle.fd_core.specs.Codes.{application_failed, succeeded, transfer_failed, verification_failed}
 use Rattle.fd_core.specs.Commands.{download_progress}
 use Rattle.fd_core.specs.States.{DeviceState, Phase, UpdateOf, WorkOf, moved, rested}
 use Rattle.fd_core.specs.declared.states.Progress.{Progress}
 use Rattle.fd_core.specs.declared.states.Progress.TheVariants as progress
 use Rattle.fwup_wire.specs.Values.{AnswerOf, CommandOf}
+use Rattle.fwup_wire.specs.declared.transfers.TheConstants.{MAX_TRANSFER, MIN_TRANSFER}
 
 -- How many bytes it asks for at once: what is missing, at most as many as the agent gives and as fit a message, and never
 -- fewer than the least length. What is then too much is padding.
 abbrev pub asked_length : UpdateOf → WorkOf → ℕ → ℕ
-asked_length u w have = max least_length (min greatest_length (min u.transfer_size (w.size - have)))
+asked_length u w have = max MIN_TRANSFER (min MAX_TRANSFER (min u.transfer_size (w.size - have)))
 
 -- the result that is to be reported: success, or the state's own failure until it is reported
 abbrev pub report_of : Progress → ℕ → Option ℕ

@@ -2,6 +2,7 @@
 use Rattle.std.specs.Prelude.{ℕ, ◌≡◌, ◌≤◌, ◌<◌, ◌⊎◌, List, [], ◌∷◌, ◌++◌, length, take, Option}
 use Rattle.std.specs.Io.KnownBytes.{Appends, Consumes, IsAtEnd, Keeps}
 use Rattle.byteorder.specs.Endian.{little_bytes, little_number}
+use Rattle.mctp_wire.specs.declared.layout.TheConstants.{MAX_PACKET}
 use Rattle.fw_edge.specs.declared.frame.FrameFault.{FrameFault}
 use Rattle.fw_edge.specs.declared.frame.FrameFault.TheVariants as faults
 
@@ -29,11 +30,11 @@ pub record BeginsOf (before now : Option (List ℕ)) (bytes : List ℕ) : Type 0
 abbrev pub IsCut : List ℕ → Type 0
 IsCut [] = Unit {0}
 IsCut (low ∷ []) = Unit {0}
-IsCut (low ∷ high ∷ rest) = (length rest < little_number 2 (low ∷ high ∷ [])) × (little_number 2 (low ∷ high ∷ []) ≤ 68)
+IsCut (low ∷ high ∷ rest) = (length rest < little_number 2 (low ∷ high ∷ [])) × (little_number 2 (low ∷ high ∷ []) ≤ MAX_PACKET)
 
 -- two bytes are no length of a packet
 abbrev pub IsNoLength : List ℕ → Type 0
-IsNoLength bytes = (length bytes ≡ 2) × ((little_number 2 bytes ≡ 0) ⊎ (68 < little_number 2 bytes))
+IsNoLength bytes = (length bytes ≡ 2) × ((little_number 2 bytes ≡ 0) ⊎ (MAX_PACKET < little_number 2 bytes))
 
 -- the reader ended within a frame, after these bytes
 pub record ReadCut (before now : Option (List ℕ)) : Type 0 where

@@ -8,18 +8,18 @@ ghost use Rattle.fw_edge.specs.Frames.{ReadStops, WriteStops, frame_of, frames_o
 use crate::retries::{read_up_to, write_whole};
 use arrayvec::ArrayVec;
 use byteorder::{ByteOrder, LittleEndian};
-use mctp_wire::RawPacket;
+use mctp_wire::{MAX_PACKET, RawPacket};
 use std::io::{Read, Write};
 use thiserror::Error;
 
 /// The bytes of a frame's length.
 const LENGTH_SIZE: usize = 2;
 
-/// The most bytes of a packet: a head of 4, and a body of the baseline transmission unit (DSP0236).
-const MAX_PACKET: usize = 68;
+/// The most bytes of a frame: its length and a packet.
+const MAX_FRAME: usize = LENGTH_SIZE + MAX_PACKET;
 
 /// The bytes of a frame.
-type Frame = ArrayVec<u8, 70>;
+type Frame = ArrayVec<u8, MAX_FRAME>;
 
 /// Why a frame isn't read or written, or a link gives or takes none.
 #[derive(Clone, Copy, Debug, PartialEq, Eq, Error)]
@@ -30,7 +30,7 @@ pub enum FrameFault {
     /// The stream ends within a frame.
     #[error("Cut")]
     Cut,
-    /// A length that no packet has: 0, or more than 68.
+    /// A length that no packet has: 0, or more than `MAX_PACKET`.
     #[error("Size")]
     Size,
     /// The stream failed.
@@ -38,13 +38,13 @@ pub enum FrameFault {
     Io,
 }
 
-/// Reads a frame: the length of a packet in two bytes, the low byte first, and the packet, 1 to 68 bytes. Reads that are
-/// interrupted are tried again.
+/// Reads a frame: the length of a packet in two bytes, the low byte first, and the packet, of 1 byte to `MAX_PACKET`. Reads
+/// that are interrupted are tried again.
 ///
 /// # Errors
 /// - `End` where the reader is at its end, and nothing is read;
 /// - `Cut` where it ends before the frame does, and all that it had is read;
-/// - `Size` for a length of 0 or more than 68, which alone is read;
+/// - `Size` for a length of 0 or more than `MAX_PACKET`, which alone is read;
 /// - `Io` where the reader fails, after a part of a frame.
 pub fn read_frame<R: Read>(reader: &mut R) -> Result<RawPacket, FrameFault>
     ensures ok { IfOk result (λ p. Consumes (R.remaining reader.old) (R.remaining reader.new) (frames_of (p.items ∷ []))) }

@@ -5,7 +5,7 @@ ghost use Rattle.std.specs.Io.KnownBytes.{Appends, Consumes, IsAtEnd};
 ghost use Rattle.std.specs.IoError.{error_kind};
 ghost use Rattle.fw_edge.specs.Frames.{BeginsOf, PartOf};
 
-use mctp_wire::RawPacket;
+use mctp_wire::{MAX_PACKET, RawPacket};
 use std::io::{self, ErrorKind, Read, Write};
 
 /// Reads so many bytes, fewer only where the reader is at its end.
@@ -14,7 +14,7 @@ use std::io::{self, ErrorKind, Read, Write};
 /// Why the reader failed, which isn't that it was interrupted.
 pub(crate) fn read_up_to<R: Read>(reader: &mut R, size: usize) -> io::Result<RawPacket>
     requires some { 1 ≤ size }
-    requires fits { size ≤ 68 }
+    requires fits { size ≤ MAX_PACKET }
     ensures bytes { IfOk result (λ b. Consumes (R.remaining reader.old) (R.remaining reader.new) b.items) }
     ensures within { IfOk result (λ b. length b.items ≤ size) }
     ensures end { IfOk result (λ b. length b.items < size → IsAtEnd (R.remaining reader.new)) }
@@ -22,7 +22,7 @@ pub(crate) fn read_up_to<R: Read>(reader: &mut R, size: usize) -> io::Result<Raw
     ensures retried { IfErr result (λ e. error_kind e ≢ ErrorKind.Interrupted) }
 {
     let mut held = RawPacket::new();
-    let mut piece = [0; 68];
+    let mut piece = [0; MAX_PACKET];
     for _ in 0..u64::MAX {
         let most = size - held.len();
         match reader.read(&mut piece[..most]) {

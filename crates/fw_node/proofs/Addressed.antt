@@ -5,6 +5,8 @@ use Rattle.fw_package.specs.Package.{PackageText}
 use Rattle.ua_core.specs.Session.{TimedOf}
 use Rattle.fwup_wire.specs.Commands.{command_bytes, command_code}
 use Rattle.fwup_wire.specs.Values.{CommandOf}
+use Rattle.mctp_wire.specs.declared.layout.TheConstants.{MAX_BODY}
+use Rattle.mctp_reasm.specs.declared.messages.TheConstants.{MAX_PACKETS}
 use Rattle.mctp_reasm.specs.Pieces.{MessageOf, Route, message_route, piece, pieces_from, spelled}
 use Rattle.pldm_exch.specs.Caller.{CallerState, Open, begun, caller_tick, may_begin, sends_at, ticked}
 use Rattle.fw_node.specs.AgentViews.{half_in}
@@ -27,13 +29,13 @@ first_if last r n bytes ps rest = (refl, rest)
 pieces_for : (most : ℕ) (r : Route) (n : ℕ) (bytes : List ℕ) → AllByRecursion (IsFor r.dest) (map spelled (pieces_from most r n bytes))
 unfolding pieces_from
 pieces_for zero r n bytes = tt
-pieces_for (suc most) r n bytes = elim (bool_cases (nat_le (length bytes) 64)) [
+pieces_for (suc most) r n bytes = elim (bool_cases (nat_le (length bytes) MAX_BODY)) [
   | inl last ↦ rw last (first_if true r n bytes [] tt)
-  | inr more ↦ rw more (first_if false r n (take 64 bytes) (map spelled (pieces_from most r (n + 1) (drop 64 bytes))) (pieces_for most r (n + 1) (drop 64 bytes)))
+  | inr more ↦ rw more (first_if false r n (take MAX_BODY bytes) (map spelled (pieces_from most r (n + 1) (drop MAX_BODY bytes))) (pieces_for most r (n + 1) (drop MAX_BODY bytes)))
 ]
 
 message_for : (m : MessageOf) → AllByRecursion (IsFor m.dest) (packets_of m)
-message_for m = pieces_for 4 (message_route m) 0 m.bytes
+message_for m = pieces_for MAX_PACKETS (message_route m) 0 m.bytes
 
 one_for : (eid : ℕ) (m : MessageOf) → m.dest ≡ eid → AllByRecursion (IsFor eid) (all_packets (m ∷ []))
 one_for eid m is = subst (AllByRecursion (IsFor eid)) (sym (append-nil (packets_of m))) (subst (λ d. AllByRecursion (IsFor d) (packets_of m)) is (message_for m))

@@ -3,6 +3,7 @@ use Rattle.std.proofs.Common.{◌≡◌, ◌∷◌, [], ℕ, Bool, ◌≤◌, Li
 use Rattle.mctp_reasm.specs.Held.{Held}
 use Rattle.std.proofs.lemmas.Bool.{eq-eqb}
 use Rattle.mctp_ctl.specs.declared.answers.Endpoint.{Endpoint}
+use Rattle.pldm_base.specs.Limits.{reply_limit}
 use Rattle.pldm_base.specs.declared.terminus.Role.{Role}
 use Rattle.pldm_exch.specs.Caller.{is_quiet}
 use Rattle.pldm_exch.specs.Requests.{RequestOf, reply_message}
@@ -48,7 +49,7 @@ told core works h r five is =
     rw (eq-eqb r.head.pldm_type 5 five) (told_read core (is_quiet h.asker.caller) works h h.taker.requests r (read_by core r.head.command r.body) is)
 
 -- an answer that was written
-pub heard_again : (k : CommandOf) (a : AnswerOf) (bytes : List ℕ) → bytes ≡ answer_bytes a → answer_in (command_code k) bytes ≡ Some a → length bytes ≤ 252 → IsHeardAgain k a
+pub heard_again : (k : CommandOf) (a : AnswerOf) (bytes : List ℕ) → bytes ≡ answer_bytes a → answer_in (command_code k) bytes ≡ Some a → length bytes ≤ reply_limit → IsHeardAgain k a
 heard_again k a bytes is reads fits = record { reads = rw is at reads; fits = rw is at fits }
 
 pub ruleset node_serves = (taken, told)

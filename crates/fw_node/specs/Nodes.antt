@@ -6,6 +6,7 @@ use Rattle.mctp_ctl.specs.declared.answers.Endpoint.{Endpoint}
 use Rattle.mctp_reasm.specs.Pieces.{MessageOf}
 use Rattle.pldm_base.specs.Base.{base_reply, tid_after}
 use Rattle.pldm_base.specs.Codes.{invalid_pldm_type}
+use Rattle.pldm_base.specs.Limits.{reply_limit}
 use Rattle.pldm_base.specs.declared.header.PldmHead.{PldmHead}
 use Rattle.pldm_base.specs.declared.terminus.Role.{Role}
 use Rattle.pldm_base.specs.declared.terminus.Role.TheVariants as roles
@@ -73,7 +74,7 @@ finished role endpoint tid (HalfHeard.Strayed half m) =
 -- an answer to a command can be read again, and fits a message
 pub record IsHeardAgain (command : CommandOf) (answer : AnswerOf) : Type 0 where
   pub reads : answer_in (command_code command) (answer_bytes answer) ≡ Some answer
-  pub fits : length (answer_bytes answer) ≤ 252
+  pub fits : length (answer_bytes answer) ≤ reply_limit
 
 -- The answer of a core that took a command is such a one.
 abbrev pub IsTold : {C : Type 0} → HalfHeard C → Type 0

@@ -13,6 +13,7 @@ ghost use Rattle.fw_node.specs.Brings.{incoming_of};
 use crate::incoming::Incoming;
 use fwup_wire::Command;
 use mctp_reasm::Message;
+use pldm_base::MAX_REPLY;
 use pldm_exch::{Asker, Brought, CallTick, Request, Taker};
 use std::marker::Model;
 
@@ -131,7 +132,7 @@ impl Ends {
 
     /// Answers a new request with a completion code and fields: the message to send, which is kept.
     pub(crate) fn answer(&mut self, request: &Request, reply: &[u8]) -> Message
-        requires { length reply.now ≤ 252 }
+        requires { length reply.now ≤ MAX_REPLY }
         ensures answer { result ≡ reply_message request.now.message request.now.head reply.now }
         ensures after { self.new ≡ record self.old { answering = answered_with self.old.answering request.now reply.now } }
     {

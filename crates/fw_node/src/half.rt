@@ -21,7 +21,7 @@ use crate::incoming::Incoming;
 use crate::outbox::Outbox;
 use crate::sending::{code_alone, reply_to_other, send_again, send_control};
 use pldm_base::completion::ERROR_UNSUPPORTED_PLDM_CMD;
-use pldm_base::{Reply, Role, TYPE_FIRMWARE_UPDATE};
+use pldm_base::{MAX_REPLY, Reply, Role, TYPE_FIRMWARE_UPDATE};
 use pldm_exch::{CallTick, ReplyIn, Request};
 
 /// One half of a pair: both ends for a peer, and the core.
@@ -160,7 +160,7 @@ impl<'p, C: Core<'p>> Half<C> {
 
     /// Keeps and sends the answer to a new request.
     fn answer(&mut self, request: &Request, reply: &[u8], outbox: &mut Outbox)
-        requires reply { length reply.now ≤ 252 }
+        requires reply { length reply.now ≤ MAX_REPLY }
         requires outbox { outbox.old ≡ [] }
         ensures after { self.new ≡ record self.old { ends = record self.old.ends { answering = answered_with self.old.ends.answering request.now reply.now } } }
         ensures packets { outbox.new ≡ all_packets (reply_message request.now.message request.now.head reply.now ∷ []) }

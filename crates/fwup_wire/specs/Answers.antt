@@ -2,6 +2,7 @@
 use Rattle.std.specs.Prelude.{[], ◌%◌, ◌++◌, ◌<◌, ◌==◌, ◌&&◌, ◌^◌, ◌∷◌, ◌≡◌, ◌≢◌, ◌≤◌, Bool, Err, List, None, Ok, Option, Result, Some, if◌then◌else◌, length, option_map, replicate, true, ℕ}
 use Rattle.std.specs.List.{list_any}
 use Rattle.byteorder.specs.Endian.{little_bytes}
+use Rattle.pldm_base.specs.Limits.{reply_limit}
 use Rattle.fwup_wire.specs.Fields.{bit, u16_of, u32_of}
 use Rattle.fwup_wire.specs.Descriptors.{HasDescriptorWidths, descriptors_bytes, descriptors_in}
 use Rattle.fwup_wire.specs.Items.{EachItem}
@@ -214,7 +215,7 @@ answer_bytes a = answer_code a ∷ success_bytes a
 -- an answer that fits a message, and no refusal with the code of success
 abbrev pub IsAnswerWritable : AnswerOf → Type 0
 IsAnswerWritable (AnswerOf.Refused code) = code ≢ 0
-IsAnswerWritable a = length (answer_bytes a) ≤ 252
+IsAnswerWritable a = length (answer_bytes a) ≤ reply_limit
 
 -- each number fits its field
 abbrev pub HasAnswerWidths : AnswerOf → Type 0

@@ -3,6 +3,7 @@ use Rattle.std.specs.Prelude.{[], ◌%◌, ◌++◌, ◌^◌, ◌<◌, ◌==◌,
 use Rattle.std.specs.Option.{option_map}
 use Rattle.byteorder.specs.Endian.{little_bytes}
 use Rattle.pldm_base.specs.Codes.{invalid_data, invalid_length, unsupported_command}
+use Rattle.pldm_base.specs.Limits.{reply_limit}
 use Rattle.fwup_wire.specs.Fields.{HasComponentWidths, IsText, bit, component_bytes, flag_byte, flag_of, last_text, text_bytes, u16_of, u32_of}
 use Rattle.fwup_wire.specs.Values.{CommandOf, EntryOf, OfferOf, RequestOf, TextOf}
 use Rattle.fwup_wire.specs.declared.values.Key.{Key}
@@ -191,7 +192,7 @@ command_bytes CommandOf.CancelUpdate = []
 
 -- a command whose text fits its length byte and a message
 abbrev pub IsWritable : CommandOf → Type 0
-IsWritable c = length (command_bytes c) ≤ 252
+IsWritable c = length (command_bytes c) ≤ reply_limit
 
 -- each number fits its field
 abbrev pub HasWidths : CommandOf → Type 0

@@ -16,6 +16,7 @@ mod laws;
 mod parameter_list;
 mod parameters;
 mod same;
+mod transfers;
 mod values;
 mod writer;
 
@@ -33,4 +34,5 @@ pub use laws::{
 };
 pub use parameter_list::{MAX_PARAMETER_BYTES, ParameterList};
 pub use parameters::Parameters;
+pub use transfers::{MAX_TRANSFER, MIN_TRANSFER};
 pub use values::{ComponentParameters, Descriptor, Key, Text, TransferFlag, Version};

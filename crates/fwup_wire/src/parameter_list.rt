@@ -8,7 +8,7 @@ use crate::parameters::Parameters;
 use crate::values::{ComponentParameters, Text};
 use crate::writer::{put_component, put_u32};
 use arrayvec::ArrayVec;
-use pldm_base::Reply;
+use pldm_base::{MAX_REPLY, Reply};
 use std::marker::Model;
 
 /// The most bytes of components that an answer to GetFirmwareParameters has room for: what is left of the longest answer
@@ -107,7 +107,7 @@ fn written(parameters: &ComponentParameters<'_>) -> Reply
 
 /// Appends the type and the length of a text whose bytes come later, and a release date that isn't set.
 fn put_text_head(out: &mut Reply, text: &Text<'_>)
-    requires room { length out.old.items + 10 ≤ 252 }
+    requires room { length out.old.items + 10 ≤ MAX_REPLY }
     requires short { length text.now.bytes.now < 256 }
     ensures { out.new.items ≡ out.old.items ++ text_head_bytes (text_of text.now) }
 {

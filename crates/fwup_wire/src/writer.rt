@@ -8,11 +8,11 @@ ghost use Rattle.fwup_wire.specs.Lent.{text_of};
 
 use crate::values::{Key, Text};
 use byteorder::{ByteOrder, LittleEndian};
-use pldm_base::Reply;
+use pldm_base::{MAX_REPLY, Reply};
 
 /// Appends a number of two bytes.
 pub fn put_u16(out: &mut Reply, number: u16)
-    requires { array_vec_len out.old + 2 ≤ 252 }
+    requires { array_vec_len out.old + 2 ≤ MAX_REPLY }
     ensures bytes { out.new.items ≡ out.old.items ++ little_bytes 2 number }
     ensures width { number < 65536 }
 {
@@ -23,7 +23,7 @@ pub fn put_u16(out: &mut Reply, number: u16)
 
 /// Appends a number of four bytes.
 pub fn put_u32(out: &mut Reply, number: u32)
-    requires { array_vec_len out.old + 4 ≤ 252 }
+    requires { array_vec_len out.old + 4 ≤ MAX_REPLY }
     ensures { out.new.items ≡ out.old.items ++ little_bytes 4 number }
 {
     let mut bytes = [0; 4];
@@ -33,7 +33,7 @@ pub fn put_u32(out: &mut Reply, number: u32)
 
 /// Appends a key, an index and a comparison stamp.
 pub fn put_component(out: &mut Reply, key: &Key, index: u8, stamp: u32)
-    requires { array_vec_len out.old + 9 ≤ 252 }
+    requires { array_vec_len out.old + 9 ≤ MAX_REPLY }
     ensures bytes { out.new.items ≡ out.old.items ++ component_bytes key.now index stamp }
     ensures widths { HasComponentWidths key.now stamp }
 {
@@ -45,7 +45,7 @@ pub fn put_component(out: &mut Reply, key: &Key, index: u8, stamp: u32)
 
 /// Appends a text: its type, its length and its bytes.
 pub fn put_text(out: &mut Reply, text: &Text<'_>)
-    requires { array_vec_len out.old + 2 + length text.now.bytes.now ≤ 252 }
+    requires { array_vec_len out.old + 2 + length text.now.bytes.now ≤ MAX_REPLY }
     ensures { out.new.items ≡ out.old.items ++ text_bytes (text_of text.now) }
 {
     out.push(text.text_type);

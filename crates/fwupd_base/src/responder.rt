@@ -1,6 +1,6 @@
 //! An endpoint without a device behind it: what it answers to a packet.
 
-ghost use Rattle.std.specs.Prelude.{◌≡◌, ◌<◌, ◌≤◌, [], ◌∷◌, length};
+ghost use Rattle.std.specs.Prelude.{◌≡◌, ◌+◌, ◌<◌, ◌≤◌, [], ◌∷◌, length};
 ghost use Rattle.std.specs.Result.{result_map_both};
 ghost use Rattle.mctp_wire.specs.Packet.{packet_of};
 ghost use Rattle.pldm_base.specs.declared.header.PldmHead.{PldmHead};
@@ -9,10 +9,10 @@ ghost use Rattle.fwupd_base.specs.Answers.{answered, body_reply, completion_of, 
 
 use crate::drops::DropCause;
 use mctp_ctl::{CONTROL, Endpoint};
-use mctp_wire::{Head, RawPacket};
+use mctp_wire::{Head, MAX_BODY, RawPacket};
 use pldm_base::{
-    MESSAGE_TYPE, PldmHead, Reply, Role, TYPE_BASE, TYPE_FIRMWARE_UPDATE, Tid, answer_base,
-    completion,
+    HEADER_SIZE, MESSAGE_TYPE, PldmHead, Reply, Role, TYPE_BASE, TYPE_FIRMWARE_UPDATE, Tid,
+    answer_base, completion,
 };
 
 /// An MCTP endpoint and PLDM terminus that holds no firmware device.
@@ -98,7 +98,7 @@ impl Responder {
     /// The code and fields that answer a PLDM request.
     fn complete(&mut self, request: &PldmHead, fields: &[u8]) -> Reply
         ensures reply { result.items ≡ completion_of self.old.tid request.now fields.now }
-        ensures one_packet { length result.items ≤ 60 }
+        ensures one_packet { length result.items + HEADER_SIZE ≤ MAX_BODY }
         ensures after { self.new ≡ record self.old { tid = tid_left self.old.tid request.now fields.now } }
     {
         match request.pldm_type {
@@ -111,7 +111,7 @@ impl Responder {
     /// The packet that carries an answer to a packet with this head.
     fn packet(&self, head: &Head, answer: &[u8]) -> RawPacket
         requires head { head.now.tag < 8 }
-        requires answer { (1 ≤ length answer.now) × (length answer.now ≤ 64) }
+        requires answer { (1 ≤ length answer.now) × (length answer.now ≤ MAX_BODY) }
         ensures { Ok result.items ≡ (answered self.now.endpoint head.now self.now.tid answer.now).reply }
     {
         let head = Head {

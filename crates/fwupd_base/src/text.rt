@@ -9,10 +9,16 @@ use crate::drops::DropCause;
 use crate::responder::Responder;
 use arrayvec::ArrayVec;
 use hex::FromHexError;
-use mctp_wire::RawPacket;
+use mctp_wire::{MAX_PACKET, RawPacket};
 
-/// One line of output: a packet of 68 bytes in digits, and a line feed.
-pub type LineText = ArrayVec<u8, 137>;
+/// The most digits of a packet: two a byte.
+const MAX_DIGITS: usize = 2 * MAX_PACKET;
+
+/// The most bytes of a line of output: a packet in digits, and a line feed.
+const MAX_LINE: usize = MAX_DIGITS + 1;
+
+/// One line of output: a packet in digits, and a line feed.
+pub type LineText = ArrayVec<u8, MAX_LINE>;
 
 /// What a line that gets no answer begins with.
 const DROP: &[u8] = b"drop ";
@@ -32,7 +38,7 @@ fn decode_digits(digits: &[u8], bytes: &mut Vec<u8>) -> Result<(), FromHexError>
 
 /// Appends a byte in two upper-case digits.
 fn push_byte(byte: u8, text: &mut LineText)
-    requires { length text.old.items ≤ 135 }
+    requires { length text.old.items + 2 ≤ MAX_LINE }
     ensures digits { text.new.items ≡ text.old.items ++ encode_upper (byte ∷ []) }
     ensures room { length text.new.items ≡ length text.old.items + 2 }
 {
@@ -44,7 +50,7 @@ fn push_byte(byte: u8, text: &mut LineText)
 
 /// Appends a packet in upper-case digits.
 fn push_digits(packet: &[u8], text: &mut LineText)
-    requires { length text.old.items + 2 * length packet.now ≤ 136 }
+    requires { length text.old.items + 2 * length packet.now ≤ MAX_DIGITS }
     ensures digits { text.new.items ≡ text.old.items ++ encode_upper packet.now }
     ensures room { length text.new.items ≡ length text.old.items + 2 * length packet.now }
 {

@@ -2,6 +2,8 @@
 use Rattle.std.proofs.Common.{◌≡◌, ◌↔◌, ◌+◌, ◌≤◌, ◌<◌, ◌∙◌, ◌⊎◌, inl, inr, ℕ, zero, suc, Bool, true, false, if◌then◌else◌, List, [], ◌∷◌, ◌++◌, Option, Some, None, IfNone, length, take, drop, refl, sym, ap, subst, arith, append-nil, slice_get}
 use Rattle.std.proofs.lemmas.Bool.{eq-eqb}
 use Rattle.std.proofs.lemmas.List.{length-append, take-append-le, drop-append-le, take_all, drop_all}
+use Rattle.mctp_wire.specs.declared.layout.TheConstants.{MAX_BODY}
+use Rattle.mctp_reasm.specs.declared.messages.TheConstants.{MAX_PACKETS}
 use Rattle.mctp_reasm.specs.Pieces.{MessageOf, IsMessage, PacketOf, Route, bodies, message_route, piece, pieces, pieces_from, route_of}
 use Rattle.mctp_reasm.specs.Held.{AreFirst, AreOpen, Held, IsHeld, IsOfSame, Joins, base_of, cause_of, fed, fed_as, joined, message_of, packets_of}
 use Rattle.mctp_reasm.specs.declared.outcomes.DropCause.{DropCause}
@@ -17,7 +19,7 @@ bodies_some [] p some = rw (append-nil p.body) some
 bodies_some (q ∷ qs) p some = rw (length-append q.body (bodies (qs ++ p ∷ []))) (let rest = bodies_some qs p some in omega arith)
 
 -- open pieces and a last one are the pieces of their bytes
-pieces_of : (fuel : ℕ) (r : Route) (n : ℕ) (qs : List PacketOf) (p : PacketOf) → AreOpen r n qs → p ≡ piece r (n + length qs) true p.body → 1 ≤ length p.body → length p.body ≤ 64 → length qs < fuel
+pieces_of : (fuel : ℕ) (r : Route) (n : ℕ) (qs : List PacketOf) (p : PacketOf) → AreOpen r n qs → p ≡ piece r (n + length qs) true p.body → 1 ≤ length p.body → length p.body ≤ MAX_BODY → length qs < fuel
     → pieces_from fuel r n (bodies (qs ++ p ∷ [])) ≡ qs ++ p ∷ []
 pieces_of zero r n qs p h is some fits lt = absurd (omega arith)
 pieces_of (suc fuel) r n [] p h is some fits lt =
@@ -26,9 +28,9 @@ pieces_of (suc fuel) r n [] p h is some fits lt =
 pieces_of (suc fuel) r n (q ∷ qs) p h is some fits lt =
     let sum : n + suc (length qs) ≡ n + 1 + length qs = omega arith in
     let rest : pieces_from fuel r (n + 1) (bodies (qs ++ p ∷ [])) ≡ qs ++ p ∷ [] = pieces_of fuel r (n + 1) qs p h.2 (rw sum at is) some fits (omega arith) in
-    let more : 64 < length (q.body ++ bodies (qs ++ p ∷ [])) = rw (length-append q.body (bodies (qs ++ p ∷ []))) (let some = bodies_some qs p some in omega (arith, h.1)) in
-    let front : take 64 (q.body ++ bodies (qs ++ p ∷ [])) ≡ q.body = take-append-le 64 q.body (bodies (qs ++ p ∷ [])) (omega (arith, h.1)) ∙ take_all 64 q.body (omega (arith, h.1)) in
-    let back : drop 64 (q.body ++ bodies (qs ++ p ∷ [])) ≡ bodies (qs ++ p ∷ []) = drop-append-le 64 q.body (bodies (qs ++ p ∷ [])) (omega (arith, h.1)) ∙ ap (λ xs. xs ++ bodies (qs ++ p ∷ [])) (drop_all 64 q.body (omega (arith, h.1))) in
+    let more : MAX_BODY < length (q.body ++ bodies (qs ++ p ∷ [])) = rw (length-append q.body (bodies (qs ++ p ∷ []))) (let some = bodies_some qs p some in omega (arith, h.1)) in
+    let front : take MAX_BODY (q.body ++ bodies (qs ++ p ∷ [])) ≡ q.body = take-append-le MAX_BODY q.body (bodies (qs ++ p ∷ [])) (omega (arith, h.1)) ∙ take_all MAX_BODY q.body (omega (arith, h.1)) in
+    let back : drop MAX_BODY (q.body ++ bodies (qs ++ p ∷ [])) ≡ bodies (qs ++ p ∷ []) = drop-append-le MAX_BODY q.body (bodies (qs ++ p ∷ [])) (omega (arith, h.1)) ∙ ap (λ xs. xs ++ bodies (qs ++ p ∷ [])) (drop_all MAX_BODY q.body (omega (arith, h.1))) in
     pieces_more fuel r n (q.body ++ bodies (qs ++ p ∷ [])) more ∙ (rw (front, back, rest, sym h.0) refl)
 
 -- the common part of all pieces
@@ -44,7 +46,7 @@ base_from : (som : Bool) (r : Route) (ps : List PacketOf) → (som ≡ false →
 base_from true r ps h = tt
 base_from false r ps h = h refl
 
-whole_from : (o : Option DropCause) (last : Bool) (held : Option Held) (p : PacketOf) (m : MessageOf) → AreOpen (route_of p.head) 0 (base_of held p.head) → 1 ≤ length p.body → length p.body ≤ 64
+whole_from : (o : Option DropCause) (last : Bool) (held : Option Held) (p : PacketOf) (m : MessageOf) → AreOpen (route_of p.head) 0 (base_of held p.head) → 1 ≤ length p.body → length p.body ≤ MAX_BODY
     → (o ≡ None → Joins (base_of held p.head) p.head) → p.head.eom ≡ last → fed_as o last (message_of p.head (joined held p)) ≡ outcomes.Whole m → joined held p ≡ pieces m
 whole_from (Some cause) last held p m begun some fits joins eom h = absurd (cc)
 whole_from None false held p m begun some fits joins eom h = absurd (cc)
@@ -53,9 +55,9 @@ whole_from None true held p m begun some fits joins eom h =
     let at = joins refl in
     let sum : 0 + length (base_of held p.head) ≡ length (base_of held p.head) = omega arith in
     subst (λ x. joined held p ≡ pieces x) is
-    (sym (pieces_of 4 (route_of p.head) 0 (base_of held p.head) p begun (rw sum (piece_is p (route_of p.head) (length (base_of held p.head)) true refl at.2 at.1 eom)) some fits at.0))
+    (sym (pieces_of MAX_PACKETS (route_of p.head) 0 (base_of held p.head) p begun (rw sum (piece_is p (route_of p.head) (length (base_of held p.head)) true refl at.2 at.1 eom)) some fits at.0))
 
-pub whole_only : (held : Option Held) (p : PacketOf) (m : MessageOf) → IsHeld held → (p.head.som ≡ true) ⊎ IsOfSame (packets_of held) p.head → 1 ≤ length p.body → length p.body ≤ 64
+pub whole_only : (held : Option Held) (p : PacketOf) (m : MessageOf) → IsHeld held → (p.head.som ≡ true) ⊎ IsOfSame (packets_of held) p.head → 1 ≤ length p.body → length p.body ≤ MAX_BODY
     → (cause_of held p ≡ None → Joins (base_of held p.head) p.head) → fed held p ≡ outcomes.Whole m → joined held p ≡ pieces m
 whole_only held p m lawful same some fits joins h =
     whole_from (cause_of held p) p.head.eom held p m
@@ -66,7 +68,7 @@ get_after : (qs : List PacketOf) (p : PacketOf) → slice_get (qs ++ p ∷ []) (
 get_after [] p = refl
 get_after (q ∷ qs) p = get_after qs p
 
-cause_free : (held : Option Held) (m : MessageOf) (p : PacketOf) (som : Bool) → IsMessage m → p.head.som ≡ som → slice_get (pieces m) (length (base_of held p.head)) ≡ Some p → length (base_of held p.head) < 4 → cause_of held p ≡ None
+cause_free : (held : Option Held) (m : MessageOf) (p : PacketOf) (som : Bool) → IsMessage m → p.head.som ≡ som → slice_get (pieces m) (length (base_of held p.head)) ≡ Some p → length (base_of held p.head) < MAX_PACKETS → cause_of held p ≡ None
 cause_free held m p true lawful s h lt =
     let here = piece_at m (length (base_of held p.head)) p lawful h in
     let none : length (base_of held p.head) ≡ 0 = rw s refl in
@@ -85,7 +87,7 @@ pub whole_if : (held : Option Held) (p : PacketOf) (m : MessageOf) → IsMessage
 whole_if held p m lawful h =
     let qs : List PacketOf = base_of held p.head in
     let get : slice_get (pieces m) (length (base_of held p.head)) ≡ Some p = subst (λ ps. slice_get ps (length (base_of held p.head)) ≡ Some p) h (get_after (base_of held p.head) p) in
-    let few = pieces_length 4 (message_route m) 0 m.bytes in
+    let few = pieces_length MAX_PACKETS (message_route m) 0 m.bytes in
     let count : length (base_of held p.head) + 1 ≡ length (pieces m) = sym (length-append (base_of held p.head) (p ∷ [])) ∙ ap length h in
     let front : base_of held p.head ≡ take (length (base_of held p.head)) (pieces m)
     = sym (take-append_seam (base_of held p.head) (p ∷ [])) ∙ ap (take (length (base_of held p.head))) h in
@@ -96,7 +98,7 @@ none_of : {A : Type 0} (o : Option A) (P : Type 0) → IfNone o P → o ≡ None
 none_of None P h e = h
 none_of (Some x) P h e = absurd (cc)
 
-pub exact : (held : Option Held) (p : PacketOf) (result : Fed) → IsHeld held → (p.head.som ≡ true) ⊎ IsOfSame (packets_of held) p.head → 1 ≤ length p.body → length p.body ≤ 64
+pub exact : (held : Option Held) (p : PacketOf) (result : Fed) → IsHeld held → (p.head.som ≡ true) ⊎ IsOfSame (packets_of held) p.head → 1 ≤ length p.body → length p.body ≤ MAX_BODY
     → IfNone (cause_of held p) (Joins (base_of held p.head) p.head) → result ≡ fed held p
     → (m : MessageOf) → IsMessage m → (result ≡ outcomes.Whole m) ↔ (joined held p ≡ pieces m)
 exact held p result lawful same some fits joins is m ok =

@@ -3,6 +3,8 @@ use Rattle.std.proofs.Common.{◌≡◌, ◌≢◌, ◌&&◌, not, ◌+◌, ◌-
 use Rattle.std.proofs.lemmas.Bool.{ne_eqb, eq-eqb, eqb-true, cases_lt}
 use Rattle.std.proofs.lemmas.List.{length-drop, length-take-le, take-append-drop, take_more, take_all}
 use Rattle.std.proofs.lemmas.Option.{slice_get_within, get_or_from_slice_get}
+use Rattle.mctp_wire.specs.declared.layout.TheConstants.{MAX_BODY}
+use Rattle.mctp_reasm.specs.declared.messages.TheConstants.{MAX_PACKETS}
 use Rattle.mctp_wire.specs.declared.layout.Head.{Head}
 use Rattle.mctp_reasm.specs.Pieces.{MessageOf, IsMessage, PacketOf, Route, bodies, message_route, piece, pieces, pieces_from, route_of}
 use Rattle.mctp_reasm.specs.Held.{Held, base_of, cause_of, fed, held_after, joined, message_of, is_cut}
@@ -14,7 +16,7 @@ use Rattle.mctp_reasm.proofs.Cuts.{pieces_last, pieces_more}
 
 pieces_some : (fuel : ℕ) (r : Route) (n : ℕ) (bytes : List ℕ) → 0 < fuel → 0 < length (pieces_from fuel r n bytes)
 pieces_some zero r n bytes lt = absurd (omega arith)
-pieces_some (suc fuel) r n bytes lt = elim (cases_lt 64 (length bytes)) [
+pieces_some (suc fuel) r n bytes lt = elim (cases_lt MAX_BODY (length bytes)) [
   | inl more ↦ rw (pieces_more fuel r n bytes more) (omega arith)
   | inr less ↦ rw (pieces_last (suc fuel) r n bytes lt less) (omega arith)
 ]
@@ -26,7 +28,7 @@ last_at r n bytes zero p e =
     rw sum (subst (IsPieceAt r n (n + 1)) is (record { route = refl; seq = refl; som = refl; eom = sym (eq-eqb (n + 1) (n + 1) refl); full = λ e. absurd (cc) }))
 last_at r n bytes (suc i) p e = absurd (cc)
 
-more_at : (r : Route) (n : ℕ) (body : List ℕ) (rest : List PacketOf) (i : ℕ) (p : PacketOf) → length body ≡ 64 → 0 < length rest → slice_get (piece r n false body ∷ rest) i ≡ Some p
+more_at : (r : Route) (n : ℕ) (body : List ℕ) (rest : List PacketOf) (i : ℕ) (p : PacketOf) → length body ≡ MAX_BODY → 0 < length rest → slice_get (piece r n false body ∷ rest) i ≡ Some p
     → ((j : ℕ) → slice_get rest j ≡ Some p → IsPieceAt r (n + 1 + j) (n + 1 + length rest) p) → IsPieceAt r (n + i) (n + suc (length rest)) p
 more_at r n body rest zero p e some h later =
     let is : piece r n false body ≡ p = cc in
@@ -37,28 +39,28 @@ more_at r n body rest (suc j) p e some h later =
     let sum2 : n + suc (length rest) ≡ n + 1 + length rest = omega arith in
     rw (sum, sum2) (later j h)
 
-pub pieces_at : (fuel : ℕ) (r : Route) (n : ℕ) (bytes : List ℕ) (i : ℕ) (p : PacketOf) → length bytes ≤ 64 * fuel → slice_get (pieces_from fuel r n bytes) i ≡ Some p
+pub pieces_at : (fuel : ℕ) (r : Route) (n : ℕ) (bytes : List ℕ) (i : ℕ) (p : PacketOf) → length bytes ≤ MAX_BODY * fuel → slice_get (pieces_from fuel r n bytes) i ≡ Some p
     → IsPieceAt r (n + i) (n + length (pieces_from fuel r n bytes)) p
 unfolding pieces_from
 pieces_at zero r n bytes i p le h = absurd (cc)
-pieces_at (suc fuel) r n bytes i p le h = elim (cases_lt 64 (length bytes)) [
+pieces_at (suc fuel) r n bytes i p le h = elim (cases_lt MAX_BODY (length bytes)) [
   | inl more ↦
-      let left : length (drop 64 bytes) ≡ length bytes - 64 = length-drop 64 bytes in
-      let some : 0 < length (pieces_from fuel r (n + 1) (drop 64 bytes)) = pieces_some fuel r (n + 1) (drop 64 bytes) (omega arith) in
+      let left : length (drop MAX_BODY bytes) ≡ length bytes - MAX_BODY = length-drop MAX_BODY bytes in
+      let some : 0 < length (pieces_from fuel r (n + 1) (drop MAX_BODY bytes)) = pieces_some fuel r (n + 1) (drop MAX_BODY bytes) (omega arith) in
       let opens = pieces_more fuel r n bytes more in
-      rw opens (more_at r n (take 64 bytes) (pieces_from fuel r (n + 1) (drop 64 bytes)) i p (length-take-le 64 bytes (omega arith)) some (rw opens at h)
-      (λ j e. pieces_at fuel r (n + 1) (drop 64 bytes) j p (omega arith) e))
+      rw opens (more_at r n (take MAX_BODY bytes) (pieces_from fuel r (n + 1) (drop MAX_BODY bytes)) i p (length-take-le MAX_BODY bytes (omega arith)) some (rw opens at h)
+      (λ j e. pieces_at fuel r (n + 1) (drop MAX_BODY bytes) j p (omega arith) e))
   | inr less ↦
       let opens = pieces_last (suc fuel) r n bytes (omega arith) less in
       rw opens (last_at r n bytes i p (rw opens at h))
 ]
 
-pub pieces_bodies : (fuel : ℕ) (r : Route) (n : ℕ) (bytes : List ℕ) → 0 < fuel → length bytes ≤ 64 * fuel → bodies (pieces_from fuel r n bytes) ≡ bytes
+pub pieces_bodies : (fuel : ℕ) (r : Route) (n : ℕ) (bytes : List ℕ) → 0 < fuel → length bytes ≤ MAX_BODY * fuel → bodies (pieces_from fuel r n bytes) ≡ bytes
 pieces_bodies zero r n bytes lt le = absurd (omega arith)
-pieces_bodies (suc fuel) r n bytes lt le = elim (cases_lt 64 (length bytes)) [
+pieces_bodies (suc fuel) r n bytes lt le = elim (cases_lt MAX_BODY (length bytes)) [
   | inl more ↦
-      let left : length (drop 64 bytes) ≡ length bytes - 64 = length-drop 64 bytes in
-      rw (pieces_more fuel r n bytes more, pieces_bodies fuel r (n + 1) (drop 64 bytes) (omega arith) (omega arith)) (take-append-drop 64 bytes)
+      let left : length (drop MAX_BODY bytes) ≡ length bytes - MAX_BODY = length-drop MAX_BODY bytes in
+      rw (pieces_more fuel r n bytes more, pieces_bodies fuel r (n + 1) (drop MAX_BODY bytes) (omega arith) (omega arith)) (take-append-drop MAX_BODY bytes)
   | inr less ↦ rw (pieces_last (suc fuel) r n bytes lt less) (append-nil bytes)
 ]
 
@@ -69,23 +71,23 @@ take_next ps i p e = take_more ps i p (slice_get_within ps i p e) ∙ ap (λ q. 
 pub pieces_length : (fuel : ℕ) (r : Route) (n : ℕ) (bytes : List ℕ) → length (pieces_from fuel r n bytes) ≤ fuel
 unfolding pieces_from
 pieces_length zero r n bytes = omega arith
-pieces_length (suc fuel) r n bytes = elim (cases_lt 64 (length bytes)) [
-  | inl more ↦ let rest = pieces_length fuel r (n + 1) (drop 64 bytes) in rw (pieces_more fuel r n bytes more) (omega arith)
+pieces_length (suc fuel) r n bytes = elim (cases_lt MAX_BODY (length bytes)) [
+  | inl more ↦ let rest = pieces_length fuel r (n + 1) (drop MAX_BODY bytes) in rw (pieces_more fuel r n bytes more) (omega arith)
   | inr less ↦ rw (pieces_last (suc fuel) r n bytes (omega arith) less) (omega arith)
 ]
 
-pub not_cut : (eom : Bool) (n : ℕ) → (eom ≡ false → n ≡ 64) → (not eom && not (n == 64)) ≡ false
+pub not_cut : (eom : Bool) (n : ℕ) → (eom ≡ false → n ≡ MAX_BODY) → (not eom && not (n == MAX_BODY)) ≡ false
 not_cut true n h = refl
 not_cut false n h = rw (h refl) refl
 
 pub cause_first : (held : Option Held) (p : PacketOf) → p.head.som ≡ true → p.head.seq ≡ 0 → is_cut p ≡ false → cause_of held p ≡ None
 cause_first held p s q c = rw (s, q, c) refl
 
-pub cause_later : (ps : List PacketOf) (age k : ℕ) (p : PacketOf) → p.head.som ≡ false → p.head.seq ≡ k → length ps ≡ k → k < 4 → is_cut p ≡ false
+pub cause_later : (ps : List PacketOf) (age k : ℕ) (p : PacketOf) → p.head.som ≡ false → p.head.seq ≡ k → length ps ≡ k → k < MAX_PACKETS → is_cut p ≡ false
     → cause_of (Some (record { packets = ps; age = age })) p ≡ None
 cause_later ps age k p s q l lt c =
     let same : k % 4 ≡ k = omega arith in
-    rw (s, q, l, same, eq-eqb k k refl, ne_eqb k 4 (λ e. absurd (omega (arith, e))), c) refl
+    rw (s, q, l, same, eq-eqb k k refl, ne_eqb k MAX_PACKETS (λ e. absurd (omega (arith, e))), c) refl
 
 -- what comes of a packet that is not dropped
 taken : (held : Option Held) (p : PacketOf) (m : MessageOf) (qs : List PacketOf) (last : Bool) → cause_of held p ≡ None → p.head.eom ≡ last → joined held p ≡ qs → (last ≡ true → message_of p.head qs ≡ m)
@@ -97,14 +99,14 @@ taken held p m qs false c e j h = (rw (c, e) refl, rw (c, j, e) refl)
 message_again : (m : MessageOf) (h : Head) → IsMessage m → route_of h ≡ message_route m → message_of h (pieces m) ≡ m
 message_again m h lawful r =
     ap (λ x. record { dest = x.dest; source = x.source; to = x.to; tag = x.tag; bytes = bodies (pieces m) }) r
-    ∙ ap (λ b. record { dest = m.dest; source = m.source; to = m.to; tag = m.tag; bytes = b }) (pieces_bodies 4 (message_route m) 0 m.bytes (omega arith) (omega (arith, lawful.1)))
+    ∙ ap (λ b. record { dest = m.dest; source = m.source; to = m.to; tag = m.tag; bytes = b }) (pieces_bodies MAX_PACKETS (message_route m) 0 m.bytes (omega arith) (omega (arith, lawful.1)))
 
 -- what is known of a message's piece i
 pub piece_at : (m : MessageOf) (i : ℕ) (p : PacketOf) → IsMessage m → slice_get (pieces m) i ≡ Some p → IsPieceAt (message_route m) i (length (pieces m)) p
 piece_at m i p lawful h =
     let sum : 0 + i ≡ i = omega arith in
     let all : 0 + length (pieces m) ≡ length (pieces m) = omega arith in
-    rw (sum, all) at (pieces_at 4 (message_route m) 0 m.bytes i p (omega (arith, lawful.1)) h)
+    rw (sum, all) at (pieces_at MAX_PACKETS (message_route m) 0 m.bytes i p (omega (arith, lawful.1)) h)
 
 -- a piece that joins those before it
 pub piece_taken : (held : Option Held) (m : MessageOf) (i : ℕ) (p : PacketOf) → IsMessage m → slice_get (pieces m) i ≡ Some p → base_of held p.head ≡ take i (pieces m) → cause_of held p ≡ None
@@ -129,13 +131,13 @@ feeds_next m k i age p lawful lt h (inl first) = rw first (feeds_first (holding 
 feeds_next m zero i age p lawful lt h (inr next) = rw next (feeds_first (holding m zero age) m p lawful (rw next at h))
 feeds_next m (suc k) i age p lawful lt h (inr next) =
     let here = piece_at m i p lawful h in
-    let few = pieces_length 4 (message_route m) 0 m.bytes in
+    let few = pieces_length MAX_PACKETS (message_route m) 0 m.bytes in
     let later : p.head.som ≡ false = here.som ∙ ne_eqb i 0 (λ e. absurd (omega (arith, e, next))) in
     rw (ne_eqb (suc k) 0 (λ e. absurd (omega (arith, e))))
     (piece_taken (Some (record { packets = take (suc k) (pieces m); age = age })) m i p lawful h (rw (later, next) refl)
     (cause_later (take (suc k) (pieces m)) age (suc k) p later (here.seq ∙ next) (length-take-le (suc k) (pieces m) (omega arith)) (omega arith) (not_cut p.head.eom (length p.body) here.full)))
 
-cause_other : (ps : List PacketOf) (age k : ℕ) (p : PacketOf) → p.head.som ≡ false → p.head.seq ≢ k → length ps ≡ k → k < 4
+cause_other : (ps : List PacketOf) (age k : ℕ) (p : PacketOf) → p.head.som ≡ false → p.head.seq ≢ k → length ps ≡ k → k < MAX_PACKETS
     → cause_of (Some (record { packets = ps; age = age })) p ≡ Some causes.Sequence
 cause_other ps age k p s q l lt =
     let same : k % 4 ≡ k = omega arith in
@@ -151,7 +153,7 @@ feeds_other m zero i age p lawful lt h first next =
     dropped None p causes.NoStart (rw later refl)
 feeds_other m (suc k) i age p lawful lt h first next =
     let here = piece_at m i p lawful h in
-    let few = pieces_length 4 (message_route m) 0 m.bytes in
+    let few = pieces_length MAX_PACKETS (message_route m) 0 m.bytes in
     let later : p.head.som ≡ false = here.som ∙ ne_eqb i 0 first in
     rw (ne_eqb (suc k) 0 (λ e. absurd (omega (arith, e))))
     (dropped (Some (record { packets = take (suc k) (pieces m); age = age })) p causes.Sequence
@@ -160,8 +162,8 @@ feeds_other m (suc k) i age p lawful lt h first next =
 -- the form of a message's pieces
 pub pieces_of_a_message : PiecesOfAMessage
 pieces_of_a_message m lawful = record {
-  some = pieces_some 4 (message_route m) 0 m.bytes (omega arith);
-  few = pieces_length 4 (message_route m) 0 m.bytes;
-  bytes = pieces_bodies 4 (message_route m) 0 m.bytes (omega arith) (omega (arith, lawful.1));
+  some = pieces_some MAX_PACKETS (message_route m) 0 m.bytes (omega arith);
+  few = pieces_length MAX_PACKETS (message_route m) 0 m.bytes;
+  bytes = pieces_bodies MAX_PACKETS (message_route m) 0 m.bytes (omega arith) (omega (arith, lawful.1));
   each = λ i p e. piece_at m i p lawful e;
 }

@@ -2,6 +2,8 @@
 use Rattle.std.proofs.Common.{◌≡◌, ◌≢◌, ◌+◌, ◌*◌, ◌==◌, ◌≤◌, ◌∙◌, ℕ, zero, suc, Bool, false, List, [], ◌∷◌, ◌++◌, Some, length, drop, refl, sym, ap, arith, append_assoc, append-nil}
 use Rattle.std.proofs.lemmas.List.{length-drop, length-take-le, take-append-drop, take-append-le, drop-append-le, take_all}
 use Rattle.std.proofs.lemmas.Bool.{ne_eqb}
+use Rattle.mctp_wire.specs.declared.layout.TheConstants.{MAX_BODY}
+use Rattle.mctp_reasm.specs.declared.messages.TheConstants.{MAX_PACKETS}
 use Rattle.mctp_wire.specs.declared.layout.Head.{Head}
 use Rattle.mctp_reasm.specs.Pieces.{PacketOf, Route, bodies, piece, route_of}
 use Rattle.mctp_reasm.specs.Held.{AreFirst, AreOpen, IsHeld, IsOfSame, held_of, opened, packets_of}
@@ -10,21 +12,21 @@ use Rattle.mctp_reasm.specs.Held.{AreFirst, AreOpen, IsHeld, IsOfSame, held_of, 
 pub opened_count : (count : ℕ) (r : Route) (n : ℕ) (bytes : List ℕ) → length (opened count r n bytes) ≡ count
 unfolding opened
 opened_count zero r n bytes = refl
-opened_count (suc count) r n bytes = ap suc (opened_count count r (n + 1) (drop 64 bytes))
+opened_count (suc count) r n bytes = ap suc (opened_count count r (n + 1) (drop MAX_BODY bytes))
 
 empty_of : (xs : List ℕ) → length xs ≡ 0 → xs ≡ []
 empty_of [] e = refl
 empty_of (x ∷ xs) e = absurd (omega (arith, e))
 
 -- one more piece is held
-pub opened_push : (count : ℕ) (r : Route) (n : ℕ) (xs body : List ℕ) → length xs ≡ 64 * count → length body ≡ 64 → opened (suc count) r n (xs ++ body) ≡ opened count r n xs ++ piece r (n + count) false body ∷ []
+pub opened_push : (count : ℕ) (r : Route) (n : ℕ) (xs body : List ℕ) → length xs ≡ MAX_BODY * count → length body ≡ MAX_BODY → opened (suc count) r n (xs ++ body) ≡ opened count r n xs ++ piece r (n + count) false body ∷ []
 unfolding opened
-opened_push zero r n xs body e f = let same : n + 0 ≡ n = omega arith in rw (empty_of xs e, take_all 64 body (omega arith), same) refl
+opened_push zero r n xs body e f = let same : n + 0 ≡ n = omega arith in rw (empty_of xs e, take_all MAX_BODY body (omega arith), same) refl
 opened_push (suc count) r n xs body e f =
-    let again : opened (suc count) r (n + 1) (drop 64 xs ++ body) ≡ opened count r (n + 1) (drop 64 xs) ++ piece r (n + 1 + count) false body ∷ []
-    = opened_push count r (n + 1) (drop 64 xs) body (length-drop 64 xs ∙ omega arith) f in
+    let again : opened (suc count) r (n + 1) (drop MAX_BODY xs ++ body) ≡ opened count r (n + 1) (drop MAX_BODY xs) ++ piece r (n + 1 + count) false body ∷ []
+    = opened_push count r (n + 1) (drop MAX_BODY xs) body (length-drop MAX_BODY xs ∙ omega arith) f in
     let sum : n + suc count ≡ n + 1 + count = omega arith in
-    rw (take-append-le 64 xs body (omega arith), drop-append-le 64 xs body (omega arith), again, sum) refl
+    rw (take-append-le MAX_BODY xs body (omega arith), drop-append-le MAX_BODY xs body (omega arith), again, sum) refl
 
 piece_from : (d o t n : ℕ) (to som eom last : Bool) (seq : ℕ) (body : List ℕ) → som ≡ (n == 0) → seq ≡ n → eom ≡ last
     → record { head = record { dest = d; source = o; som = som; eom = eom; seq = seq; to = to; tag = t }; body = body } ≡ piece (record { dest = d; source = o; to = to; tag = t }) n last body
@@ -40,7 +42,7 @@ packets_held r xs zero age = refl
 packets_held r xs (suc count) age = rw (ne_eqb (suc count) 0 (λ e. absurd (omega (arith, e)))) refl
 
 -- one more packet of the same message is held
-more : (r : Route) (xs : List ℕ) (count : ℕ) (p : PacketOf) → length xs ≡ 64 * count → length p.body ≡ 64 → p.head.som ≡ (count == 0) → p.head.seq ≡ count → p.head.eom ≡ false
+more : (r : Route) (xs : List ℕ) (count : ℕ) (p : PacketOf) → length xs ≡ MAX_BODY * count → length p.body ≡ MAX_BODY → p.head.som ≡ (count == 0) → p.head.seq ≡ count → p.head.eom ≡ false
     → IsOfSame (opened count r 0 xs) p.head → opened (suc count) (route_of p.head) 0 (xs ++ p.body) ≡ opened count r 0 xs ++ p ∷ []
 unfolding opened
 more r xs zero p e f som seq eom same =
@@ -52,7 +54,7 @@ more r xs (suc count) p e f som seq eom same =
     = rw sum at (opened_push (suc count) r 0 xs p.body e f) in
     ap (λ s. opened (suc (suc count)) s 0 (xs ++ p.body)) (sym is) ∙ (pushed ∙ ap (λ q. opened (suc count) r 0 xs ++ q ∷ []) (sym (piece_is p r (suc count) false is som seq eom)))
 
-pub held_more : (r : Route) (xs : List ℕ) (count age : ℕ) (p : PacketOf) → length xs ≡ 64 * count → length p.body ≡ 64 → p.head.som ≡ (count == 0) → p.head.seq ≡ count → p.head.eom ≡ false
+pub held_more : (r : Route) (xs : List ℕ) (count age : ℕ) (p : PacketOf) → length xs ≡ MAX_BODY * count → length p.body ≡ MAX_BODY → p.head.som ≡ (count == 0) → p.head.seq ≡ count → p.head.eom ≡ false
     → IsOfSame (packets_of (held_of r xs count age)) p.head
     → held_of (route_of p.head) (xs ++ p.body) (count + 1) 0 ≡ Some (record { packets = packets_of (held_of r xs count age) ++ p ∷ []; age = 0 })
 held_more r xs count age p e f som seq eom same =
@@ -67,28 +69,28 @@ bodies_append : (ps qs : List PacketOf) → bodies (ps ++ qs) ≡ bodies ps ++ b
 bodies_append [] qs = refl
 bodies_append (p ∷ ps) qs = rw (bodies_append ps qs, append_assoc p.body (bodies ps) (bodies qs)) refl
 
-opened_bodies : (count : ℕ) (r : Route) (n : ℕ) (xs : List ℕ) → length xs ≡ 64 * count → bodies (opened count r n xs) ≡ xs
+opened_bodies : (count : ℕ) (r : Route) (n : ℕ) (xs : List ℕ) → length xs ≡ MAX_BODY * count → bodies (opened count r n xs) ≡ xs
 unfolding opened
 opened_bodies zero r n xs e = sym (empty_of xs e)
 opened_bodies (suc count) r n xs e =
-    rw (opened_bodies count r (n + 1) (drop 64 xs) (length-drop 64 xs ∙ omega arith)) (take-append-drop 64 xs)
+    rw (opened_bodies count r (n + 1) (drop MAX_BODY xs) (length-drop MAX_BODY xs ∙ omega arith)) (take-append-drop MAX_BODY xs)
 
-pub held_bodies : (r : Route) (xs : List ℕ) (count age : ℕ) (p : PacketOf) → length xs ≡ 64 * count → bodies (packets_of (held_of r xs count age) ++ p ∷ []) ≡ xs ++ p.body
+pub held_bodies : (r : Route) (xs : List ℕ) (count age : ℕ) (p : PacketOf) → length xs ≡ MAX_BODY * count → bodies (packets_of (held_of r xs count age) ++ p ∷ []) ≡ xs ++ p.body
 held_bodies r xs count age p e =
     rw (packets_held r xs count age, bodies_append (opened count r 0 xs) (p ∷ []), opened_bodies count r 0 xs e, append-nil p.body) refl
 
-opened_open : (count : ℕ) (r : Route) (n : ℕ) (xs : List ℕ) → length xs ≡ 64 * count → AreOpen r n (opened count r n xs)
+opened_open : (count : ℕ) (r : Route) (n : ℕ) (xs : List ℕ) → length xs ≡ MAX_BODY * count → AreOpen r n (opened count r n xs)
 unfolding opened
 opened_open zero r n xs e = tt
 opened_open (suc count) r n xs e =
-    (refl, length-take-le 64 xs (omega arith), opened_open count r (n + 1) (drop 64 xs) (length-drop 64 xs ∙ omega arith))
+    (refl, length-take-le MAX_BODY xs (omega arith), opened_open count r (n + 1) (drop MAX_BODY xs) (length-drop MAX_BODY xs ∙ omega arith))
 
-opened_first : (count : ℕ) (r : Route) (xs : List ℕ) → length xs ≡ 64 * suc count → AreFirst (opened (suc count) r 0 xs)
+opened_first : (count : ℕ) (r : Route) (xs : List ℕ) → length xs ≡ MAX_BODY * suc count → AreFirst (opened (suc count) r 0 xs)
 unfolding opened
 opened_first count r xs e = opened_open (suc count) r 0 xs e
 
 -- what the fields hold is a beginning of a message
-pub held_lawful : (r : Route) (xs : List ℕ) (count age : ℕ) → length xs ≡ 64 * count → count ≤ 4 → age ≤ 8 → IsHeld (held_of r xs count age)
+pub held_lawful : (r : Route) (xs : List ℕ) (count age : ℕ) → length xs ≡ MAX_BODY * count → count ≤ MAX_PACKETS → age ≤ 8 → IsHeld (held_of r xs count age)
 held_lawful r xs zero age e le young = tt
 held_lawful r xs (suc count) age e le young =
     rw (ne_eqb (suc count) 0 (λ e. absurd (omega (arith, e)))) (opened_first count r xs e, rw (opened_count (suc count) r 0 xs) le, young)

@@ -1,6 +1,8 @@
 -- What an assembly holds, and what one more packet makes of it (DSP0236, section 8).
 use Rattle.std.specs.Prelude.{◌≡◌, ◌<◌, ◌≤◌, ℕ, zero, suc, ◌+◌, ◌%◌, ◌==◌, ◌&&◌, Bool, true, false, not, if◌then◌else◌, List, [], ◌∷◌, ◌++◌, length, take, drop, Option, Some, None}
 use Rattle.mctp_wire.specs.declared.layout.Head.{Head}
+use Rattle.mctp_wire.specs.declared.layout.TheConstants.{MAX_BODY}
+use Rattle.mctp_reasm.specs.declared.messages.TheConstants.{MAX_PACKETS}
 use Rattle.mctp_reasm.specs.Pieces.{MessageOf, PacketOf, Route, bodies, piece, route_of}
 use Rattle.mctp_reasm.specs.declared.outcomes.DropCause.{DropCause}
 use Rattle.mctp_reasm.specs.declared.outcomes.DropCause.TheVariants as causes
@@ -12,10 +14,10 @@ pub record Held : Type 0 where
   pub packets : List PacketOf
   pub age : ℕ
 
--- so many pieces of 64 bytes, from number n on, none of them the last
+-- so many pieces of a whole transmission unit, from number n on, none of them the last
 unfoldable pub opened : ℕ → Route → ℕ → List ℕ → List PacketOf
 opened zero r n bytes = []
-opened (suc count) r n bytes = piece r n false (take 64 bytes) ∷ opened count r (n + 1) (drop 64 bytes)
+opened (suc count) r n bytes = piece r n false (take MAX_BODY bytes) ∷ opened count r (n + 1) (drop MAX_BODY bytes)
 
 -- what a buffer of so many pieces holds
 abbrev pub held_of : Route → List ℕ → ℕ → ℕ → Option Held
@@ -38,9 +40,9 @@ joined held p = base_of held p.head ++ p ∷ []
 abbrev pub message_of : Head → List PacketOf → MessageOf
 message_of h ps = record { dest = h.dest; source = h.source; to = h.to; tag = h.tag; bytes = bodies ps }
 
--- a packet that isn't the last of its message has 64 bytes
+-- a packet that isn't the last of its message has a whole transmission unit
 abbrev pub is_cut : PacketOf → Bool
-is_cut p = not p.head.eom && not (length p.body == 64)
+is_cut p = not p.head.eom && not (length p.body == MAX_BODY)
 
 -- why a packet that starts a message is dropped: the first cause that holds
 abbrev pub start_cause : PacketOf → Option DropCause
@@ -53,7 +55,7 @@ start_cause p =
 abbrev pub next_cause : ℕ → PacketOf → Option DropCause
 next_cause count p =
     if not (p.head.seq == count % 4) then Some causes.Sequence
-    else if count == 4 then Some causes.FifthPacket
+    else if count == MAX_PACKETS then Some causes.FifthPacket
     else if is_cut p then Some causes.«Unit»
     else None
 
@@ -97,12 +99,12 @@ IsOfSame (q ∷ qs) h = route_of q.head ≡ route_of h
 
 -- the packet stands after these, by its number and its start flag
 abbrev pub Joins : List PacketOf → Head → Type 0
-Joins ps h = (length ps < 4) × (h.seq ≡ length ps) × (h.som ≡ (length ps == 0))
+Joins ps h = (length ps < MAX_PACKETS) × (h.seq ≡ length ps) × (h.som ≡ (length ps == 0))
 
 -- pieces of one message from number n on, none of them the last
 abbrev pub AreOpen : Route → ℕ → List PacketOf → Type 0
 AreOpen r n [] = Unit {0}
-AreOpen r n (q ∷ qs) = (q ≡ piece r n false q.body) × (length q.body ≡ 64) × AreOpen r (n + 1) qs
+AreOpen r n (q ∷ qs) = (q ≡ piece r n false q.body) × (length q.body ≡ MAX_BODY) × AreOpen r (n + 1) qs
 
 -- the first pieces of a message that goes on
 abbrev pub AreFirst : List PacketOf → Type 0
@@ -112,4 +114,4 @@ AreFirst (q ∷ qs) = AreOpen (route_of q.head) 0 (q ∷ qs)
 -- what is true of each assembly
 abbrev pub IsHeld : Option Held → Type 0
 IsHeld None = Unit {0}
-IsHeld (Some h) = AreFirst h.packets × (length h.packets ≤ 4) × (h.age ≤ 8)
+IsHeld (Some h) = AreFirst h.packets × (length h.packets ≤ MAX_PACKETS) × (h.age ≤ 8)

@@ -1,5 +1,7 @@
 -- How a message is cut, and what an assembly makes of its pieces.
 use Rattle.std.specs.Prelude.{◌≡◌, ◌≢◌, ◌<◌, ◌≤◌, ◌⊎◌, ℕ, ◌+◌, ◌==◌, false, if◌then◌else◌, length, take, Option, Some, None, slice_get}
+use Rattle.mctp_wire.specs.declared.layout.TheConstants.{MAX_BODY}
+use Rattle.mctp_reasm.specs.declared.messages.TheConstants.{MAX_PACKETS}
 use Rattle.mctp_reasm.specs.Pieces.{MessageOf, IsMessage, PacketOf, Route, bodies, message_route, pieces, route_of}
 use Rattle.mctp_reasm.specs.Held.{Held, fed, held_after}
 use Rattle.mctp_reasm.specs.declared.outcomes.DropCause.TheVariants as causes
@@ -11,12 +13,12 @@ pub record IsPieceAt (r : Route) (n count : ℕ) (p : PacketOf) : Type 0 where
   pub seq : p.head.seq ≡ n
   pub som : p.head.som ≡ (n == 0)
   pub eom : p.head.eom ≡ (n + 1 == count)
-  pub full : p.head.eom ≡ false → length p.body ≡ 64
+  pub full : p.head.eom ≡ false → length p.body ≡ MAX_BODY
 
 -- the pieces of one message
 pub record ArePieces (m : MessageOf) : Type 0 where
   pub some : 1 ≤ length (pieces m)
-  pub few : length (pieces m) ≤ 4
+  pub few : length (pieces m) ≤ MAX_PACKETS
   pub bytes : bodies (pieces m) ≡ m.bytes
   pub each : (i : ℕ) (p : PacketOf) → slice_get (pieces m) i ≡ Some p → IsPieceAt (message_route m) i (length (pieces m)) p
 

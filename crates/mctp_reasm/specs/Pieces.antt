@@ -1,7 +1,9 @@
 -- Messages, and the packets that they are cut into (DSP0236, section 8).
-use Rattle.std.specs.Prelude.{◌≤◌, ℕ, zero, suc, ◌+◌, ◌==◌, nat_le, Bool, true, false, if◌then◌else◌, List, [], ◌∷◌, ◌++◌, length, take, drop}
+use Rattle.std.specs.Prelude.{◌≤◌, ℕ, zero, suc, ◌+◌, ◌*◌, ◌==◌, nat_le, Bool, true, false, if◌then◌else◌, List, [], ◌∷◌, ◌++◌, length, take, drop}
 use Rattle.mctp_wire.specs.declared.layout.Head.{Head}
+use Rattle.mctp_wire.specs.declared.layout.TheConstants.{MAX_BODY}
 use Rattle.mctp_wire.specs.Packet.{packet_bytes}
+use Rattle.mctp_reasm.specs.declared.messages.TheConstants.{MAX_PACKETS}
 
 -- a message between two endpoints
 pub record MessageOf : Type 0 where
@@ -11,9 +13,13 @@ pub record MessageOf : Type 0 where
   pub tag : ℕ
   pub bytes : List ℕ
 
--- a message has 1 to 256 bytes
+-- the most bytes of a message: what its packets carry
+abbrev pub message_limit : ℕ
+message_limit = MAX_PACKETS * MAX_BODY
+
+-- a message has 1 byte to that
 abbrev pub IsMessage : MessageOf → Type 0
-IsMessage m = (1 ≤ length m.bytes) × (length m.bytes ≤ 256)
+IsMessage m = (1 ≤ length m.bytes) × (length m.bytes ≤ message_limit)
 
 -- a packet: its head and its body
 pub record PacketOf : Type 0 where
@@ -41,16 +47,16 @@ abbrev pub piece : Route → ℕ → Bool → List ℕ → PacketOf
 piece r n last body =
     record { head = record { dest = r.dest; source = r.source; som = n == 0; eom = last; seq = n; to = r.to; tag = r.tag }; body = body }
 
--- at most so many pieces, from number n on: the bytes cut every 64
+-- at most so many pieces, from number n on: the bytes cut at each transmission unit
 unfoldable pub pieces_from : ℕ → Route → ℕ → List ℕ → List PacketOf
 pieces_from zero r n bytes = []
 pieces_from (suc most) r n bytes =
-    if nat_le (length bytes) 64 then piece r n true bytes ∷ []
-    else piece r n false (take 64 bytes) ∷ pieces_from most r (n + 1) (drop 64 bytes)
+    if nat_le (length bytes) MAX_BODY then piece r n true bytes ∷ []
+    else piece r n false (take MAX_BODY bytes) ∷ pieces_from most r (n + 1) (drop MAX_BODY bytes)
 
 -- the pieces of a message, one to four
 abbrev pub pieces : MessageOf → List PacketOf
-pieces m = pieces_from 4 (message_route m) 0 m.bytes
+pieces m = pieces_from MAX_PACKETS (message_route m) 0 m.bytes
 
 -- a packet in its written spelling
 abbrev pub spelled : PacketOf → List ℕ

@@ -4,15 +4,12 @@ ghost use Rattle.std.specs.Prelude.{◌≡◌, ◌≢◌, ◌<◌, ◌≤◌, �
 ghost use Rattle.mctp_reasm.specs.Pieces.{IsMessage, MessageOf, packet_of, pieces};
 ghost use Rattle.mctp_reasm.specs.Held.{IsHeld, IsOfSame, Joins, base_of, cause_of, fed, held_after, held_tick, joined, message_of, next_cause, packets_of, start_cause};
 
-use crate::messages::{MAX_MESSAGE, Message};
+use crate::messages::{MAX_MESSAGE, MAX_PACKETS, Message};
 use crate::outcomes::{DropCause, Fed};
 use arrayvec::ArrayVec;
-use mctp_wire::{BASELINE_UNIT, Packet};
+use mctp_wire::{MAX_BODY, Packet};
 use std::marker::Model;
 use std::mem;
-
-/// The most packets of a message.
-const MAX_PACKETS: u8 = 4;
 
 /// Sequence numbers are counted modulo this.
 const SEQUENCE_NUMBERS: u8 = 4;
@@ -36,12 +33,14 @@ pub struct Assembly {
 impl Model for Assembly {
     ghost use Rattle.std.specs.Prelude.{◌≡◌, ◌≤◌, ◌*◌, length, Option};
     ghost use Rattle.mctp_reasm.specs.Held.{Held, held_of};
+    ghost use Rattle.mctp_reasm.specs.declared.messages.TheConstants.{MAX_PACKETS};
+    ghost use Rattle.mctp_wire.specs.declared.layout.TheConstants.{MAX_BODY};
 
     ghost Value = { Option Held };
 
     ghost view = { λ a. held_of (record { dest = a.dest; source = a.source; to = a.to; tag = a.tag }) a.bytes.items a.pieces a.age };
 
-    ghost invariant = { λ a. (a.tag ≤ 7) × (a.age ≤ 8) × (a.pieces ≤ 4) × (length a.bytes.items ≡ 64 * a.pieces) };
+    ghost invariant = { λ a. (a.tag ≤ 7) × (a.age ≤ 8) × (a.pieces ≤ MAX_PACKETS) × (length a.bytes.items ≡ MAX_BODY * a.pieces) };
 }
 
 impl Assembly {
@@ -138,7 +137,7 @@ impl Assembly {
     /// The packet's route must be that of what is held, unless nothing is held or the packet starts a message: there is
     /// one assembly for each source, tag and TO.
     pub fn feed(&mut self, packet: &Packet<'_>) -> Fed
-        requires body { (1 ≤ length packet.now.body.now) × (length packet.now.body.now ≤ 64) }
+        requires body { (1 ≤ length packet.now.body.now) × (length packet.now.body.now ≤ MAX_BODY) }
         requires tag { packet.now.head.tag ≤ 7 }
         requires same { (packet.now.head.som ≡ true) ⊎ IsOfSame (packets_of self.old) packet.now.head }
         ensures answer { result ≡ fed self.old (packet_of packet.now.head packet.now.body.now) }
@@ -150,7 +149,7 @@ impl Assembly {
 
     /// Hears a packet, and says what its tests found.
     fn add(&mut self, packet: &Packet<'_>) -> Fed
-        requires body { (1 ≤ length packet.now.body.now) × (length packet.now.body.now ≤ 64) }
+        requires body { (1 ≤ length packet.now.body.now) × (length packet.now.body.now ≤ MAX_BODY) }
         requires tag { packet.now.head.tag ≤ 7 }
         requires same { (packet.now.head.som ≡ true) ⊎ IsOfSame (packets_of self.old) packet.now.head }
         ensures answer { result ≡ fed self.old (packet_of packet.now.head packet.now.body.now) }
@@ -175,8 +174,8 @@ impl Assembly {
     /// The message that ends with this packet.
     #[tactic(auto, using(crate::proofs::Opened::held))]
     fn finish(&mut self, packet: &Packet<'_>) -> Message
-        requires room { length (packets_of self.old) < 4 }
-        requires body { (1 ≤ length packet.now.body.now) × (length packet.now.body.now ≤ 64) }
+        requires room { length (packets_of self.old) < MAX_PACKETS }
+        requires body { (1 ≤ length packet.now.body.now) × (length packet.now.body.now ≤ MAX_BODY) }
         requires tag { packet.now.head.tag ≤ 7 }
         ensures whole { result ≡ message_of packet.now.head (packets_of self.old ++ packet_of packet.now.head packet.now.body.now ∷ []) }
         ensures empty { self.new ≡ None }
@@ -197,7 +196,7 @@ impl Assembly {
     #[tactic(auto, using(crate::proofs::Opened::held))]
     fn append(&mut self, packet: &Packet<'_>)
         requires joins { Joins (packets_of self.old) packet.now.head }
-        requires full { length packet.now.body.now ≡ 64 }
+        requires full { length packet.now.body.now ≡ MAX_BODY }
         requires tag { packet.now.head.tag ≤ 7 }
         requires eom { packet.now.head.eom ≡ false }
         requires same { IsOfSame (packets_of self.old) packet.now.head }
@@ -221,7 +220,7 @@ fn start_cause(packet: &Packet<'_>) -> Option<DropCause>
     if packet.head.seq != 0 {
         return Some(DropCause::StartNumber);
     }
-    if !packet.head.eom && packet.body.len() != BASELINE_UNIT {
+    if !packet.head.eom && packet.body.len() != MAX_BODY {
         return Some(DropCause::Unit);
     }
     None
@@ -230,15 +229,15 @@ fn start_cause(packet: &Packet<'_>) -> Option<DropCause>
 /// The first cause to drop a packet that comes after so many.
 fn next_cause(count: u8, packet: &Packet<'_>) -> Option<DropCause>
     ensures cause { result ≡ next_cause count (packet_of packet.now.head packet.now.body.now) }
-    ensures number { IfNone result ((packet.now.head.seq ≡ count % 4) × (count ≢ 4)) }
+    ensures number { IfNone result ((packet.now.head.seq ≡ count % 4) × (count ≢ MAX_PACKETS)) }
 {
     if packet.head.seq != count % SEQUENCE_NUMBERS {
         return Some(DropCause::Sequence);
     }
-    if count == MAX_PACKETS {
+    if usize::from(count) == MAX_PACKETS {
         return Some(DropCause::FifthPacket);
     }
-    if !packet.head.eom && packet.body.len() != BASELINE_UNIT {
+    if !packet.head.eom && packet.body.len() != MAX_BODY {
         return Some(DropCause::Unit);
     }
     None

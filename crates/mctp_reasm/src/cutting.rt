@@ -1,16 +1,16 @@
 //! Messages into packets.
 
-ghost use Rattle.std.specs.Prelude.{◌≡◌, ◌≤◌, length, map};
+ghost use Rattle.std.specs.Prelude.{◌≡◌, ◌<◌, ◌≤◌, length, map};
 ghost use Rattle.mctp_reasm.specs.Pieces.{message_route, pieces, piece, spelled};
 
-use crate::messages::Message;
+use crate::messages::{MAX_PACKETS, Message};
 use arrayvec::ArrayVec;
-use mctp_wire::{BASELINE_UNIT, Head, RawPacket};
+use mctp_wire::{Head, MAX_BODY, RawPacket};
 
 /// The packet of one piece of a message.
 fn piece_of(message: &Message, number: u8, last: bool, body: &[u8]) -> RawPacket
-    requires number { number ≤ 3 }
-    requires body { (1 ≤ length body.now) × (length body.now ≤ 64) }
+    requires number { number < MAX_PACKETS }
+    requires body { (1 ≤ length body.now) × (length body.now ≤ MAX_BODY) }
     ensures { result.items ≡ spelled (piece (message_route message.now) number last body.now) }
 {
     let head = Head {
@@ -27,19 +27,19 @@ fn piece_of(message: &Message, number: u8, last: bool, body: &[u8]) -> RawPacket
     packet
 }
 
-/// Cuts a message into its packets, one to four (DSP0236, section 8): its bytes cut every 64, the last piece of 1 to
-/// 64, SOM on the first and EOM on the last, numbered from 0.
-pub fn split(message: &Message) -> ArrayVec<RawPacket, 4>
+/// Cuts a message into its packets, one to four (DSP0236, section 8): its bytes cut at each transmission unit,
+/// the last piece of 1 byte to the unit, SOM on the first and EOM on the last, numbered from 0.
+pub fn split(message: &Message) -> ArrayVec<RawPacket, MAX_PACKETS>
     ensures { map (λ p. p.items) result.items ≡ map spelled (pieces message.now) }
 {
     let mut out = ArrayVec::new();
     let mut rest = message.bytes.as_slice();
-    for number in 0..4u8 {
-        if rest.len() <= BASELINE_UNIT {
+    for number in 0..MAX_PACKETS as u8 {
+        if rest.len() <= MAX_BODY {
             out.push(piece_of(message, number, true, rest));
             return out;
         }
-        let (body, more) = rest.split_at(BASELINE_UNIT);
+        let (body, more) = rest.split_at(MAX_BODY);
         out.push(piece_of(message, number, false, body));
         rest = more;
     }

@@ -6,7 +6,7 @@ ghost use Rattle.mctp_reasm.specs.Pieces.{packet_of};
 ghost use Rattle.mctp_reasm.specs.Inboxes.{AreOnRoutes, IsInbox, fed_at, held_at, held_with, is_for, none_held, packet_for};
 
 use crate::{Assembly, Fed};
-use mctp_wire::{Head, Packet};
+use mctp_wire::{Head, MAX_BODY, Packet};
 use std::marker::Model;
 
 /// Tags of a direction: the tag of a message has three bits (DSP0236).
@@ -79,7 +79,7 @@ impl Inbox {
     pub fn packet_in<'b>(&self, bytes: &'b [u8]) -> Option<Packet<'b>>
         ensures value { option_map (λ p. packet_of p.head p.body.now) result ≡ packet_for self.now.own self.now.peer self.now.to bytes.now }
         ensures mine { IfSome result (λ p. is_for self.now.own self.now.peer self.now.to p.head ≡ true) }
-        ensures body { IfSome result (λ p. (1 ≤ length p.body.now) × (length p.body.now ≤ 64)) }
+        ensures body { IfSome result (λ p. (1 ≤ length p.body.now) × (length p.body.now ≤ MAX_BODY)) }
         ensures tag { IfSome result (λ p. p.head.tag ≤ 7) }
     {
         let Ok(packet) = mctp_wire::decode(bytes) else {
@@ -95,7 +95,7 @@ impl Inbox {
     #[tactic(auto, using(crate::proofs::Routes::routes))]
     pub fn feed(&mut self, packet: &Packet<'_>) -> Fed
         requires mine { is_for self.old.own self.old.peer self.old.to packet.now.head ≡ true }
-        requires body { (1 ≤ length packet.now.body.now) × (length packet.now.body.now ≤ 64) }
+        requires body { (1 ≤ length packet.now.body.now) × (length packet.now.body.now ≤ MAX_BODY) }
         requires tag { packet.now.head.tag ≤ 7 }
         ensures answer { result ≡ fed_at self.old.held (packet_of packet.now.head packet.now.body.now) }
         ensures after { self.new ≡ record self.old { held = held_with self.old.held (packet_of packet.now.head packet.now.body.now) } }
@@ -124,7 +124,7 @@ fn tick_all(places: &mut [Assembly])
 /// Feeds a packet to the assembly of its tag.
 fn feed_to(places: &mut [Assembly], packet: &Packet<'_>) -> Fed
     requires places { length places.old ≡ 8 }
-    requires body { (1 ≤ length packet.now.body.now) × (length packet.now.body.now ≤ 64) }
+    requires body { (1 ≤ length packet.now.body.now) × (length packet.now.body.now ≤ MAX_BODY) }
     requires tag { packet.now.head.tag ≤ 7 }
     requires same { IsOfSame (packets_of (held_at places.old packet.now.head.tag)) packet.now.head }
     ensures answer { result ≡ fed_at places.old (packet_of packet.now.head packet.now.body.now) }

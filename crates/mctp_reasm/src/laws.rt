@@ -3,7 +3,7 @@
 ghost use Rattle.mctp_reasm.specs.Laws.{FeedsNext, FeedsOther, PiecesOfAMessage};
 
 /// A message has one to four pieces; piece i carries number i, SOM where it is the first and EOM where it is the
-/// last, and 64 bytes unless it is the last; and together they are the message's bytes.
+/// last, and a whole transmission unit unless it is the last; and together they are the message's bytes.
 pub fn pieces_of_a_message()
     ensures { PiecesOfAMessage }
 {}

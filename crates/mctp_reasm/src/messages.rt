@@ -1,11 +1,16 @@
-//! Messages of 1 to 256 bytes.
+//! Messages of 1 byte to four packets' bodies.
 
 use arrayvec::ArrayVec;
+use mctp_wire::MAX_BODY;
 use std::marker::Model;
 use thiserror::Error;
 
-/// The most bytes of a message, its type byte included: four packets of 64 bytes.
-pub const MAX_MESSAGE: usize = 256;
+/// The most packets of a message: their sequence numbers, which are counted modulo 4 (DSP0236, section 8.1), are then
+/// all different.
+pub const MAX_PACKETS: usize = 4;
+
+/// The most bytes of a message, its type byte included: what its packets carry.
+pub const MAX_MESSAGE: usize = MAX_PACKETS * MAX_BODY;
 
 /// A message between two endpoints.
 #[derive(Drop)]
@@ -20,12 +25,13 @@ pub struct Message {
 impl Model for Message {
     ghost use Rattle.std.specs.Prelude.{◌≤◌, length};
     ghost use Rattle.mctp_reasm.specs.Pieces.{MessageOf};
+    ghost use Rattle.mctp_reasm.specs.declared.messages.TheConstants.{MAX_MESSAGE};
 
     ghost Value = { MessageOf };
 
     ghost view = { λ m. record { dest = m.dest; source = m.source; to = m.to; tag = m.tag; bytes = m.bytes.items } };
 
-    ghost invariant = { λ m. (m.tag ≤ 7) × (1 ≤ length m.bytes.items) × (length m.bytes.items ≤ 256) };
+    ghost invariant = { λ m. (m.tag ≤ 7) × (1 ≤ length m.bytes.items) × (length m.bytes.items ≤ MAX_MESSAGE) };
 }
 
 /// Why bytes are no message.
@@ -34,7 +40,7 @@ pub enum MessageFault {
     /// There is no byte.
     #[error("Empty")]
     Empty,
-    /// There are more than 256 bytes.
+    /// There are more than `MAX_MESSAGE` bytes.
     #[error("TooLong")]
     TooLong,
 }
@@ -42,12 +48,13 @@ pub enum MessageFault {
 impl Message {
     ghost use Rattle.std.specs.Prelude.{◌≡◌, ◌<◌, ◌≤◌, ◌↔◌, length, IfOk, IsErrOf};
     ghost use Rattle.mctp_reasm.specs.Pieces.{IsMessage};
+    ghost use Rattle.mctp_reasm.specs.declared.messages.TheConstants.{MAX_MESSAGE};
 
     /// A message of these bytes, its type byte first, under a tag of 0 to 7. `to` is set where its sender owns the
     /// tag, as that of a request does.
     ///
     /// # Errors
-    /// `Empty` for no byte and `TooLong` for more than 256.
+    /// `Empty` for no byte and `TooLong` for more than `MAX_MESSAGE`.
     pub fn new(
         dest: u8,
         source: u8,
@@ -58,7 +65,7 @@ impl Message {
         requires { tag ≤ 7 }
         ensures ok { IfOk result (λ m. m ≡ record { dest = dest; source = source; to = to; tag = tag; bytes = bytes.now }) }
         ensures empty { IsErrOf result MessageFault.Empty ↔ (length bytes.now ≡ 0) }
-        ensures too_long { IsErrOf result MessageFault.TooLong ↔ (256 < length bytes.now) }
+        ensures too_long { IsErrOf result MessageFault.TooLong ↔ (MAX_MESSAGE < length bytes.now) }
     {
         if bytes.is_empty() {
             return Err(MessageFault::Empty);
@@ -105,7 +112,7 @@ impl Message {
         self.tag
     }
 
-    /// The bytes, 1 to 256, the type byte first.
+    /// The bytes, 1 to `MAX_MESSAGE`, the type byte first.
     pub fn bytes(&self) -> &[u8]
         ensures value { result.now ≡ self.now.bytes }
         ensures lawful { IsMessage self.now }

@@ -12,7 +12,7 @@ pub enum DropCause {
     /// Its sequence number isn't the one that follows.
     #[error("Sequence")]
     Sequence,
-    /// Its message goes on after it, and its body isn't a whole transmission unit of 64 bytes.
+    /// Its message goes on after it, and its body isn't a whole transmission unit.
     #[error("Unit")]
     Unit,
     /// It starts a message, and its sequence number isn't 0.

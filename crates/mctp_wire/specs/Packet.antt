@@ -1,6 +1,7 @@
 -- MCTP's packet (DSP0236, section 8.1): four bytes of head, and a body of 1 to 64 bytes.
 use Rattle.std.specs.Prelude.{◌≡◌, ◌≢◌, ℕ, ◌+◌, ◌*◌, ◌/◌, ◌%◌, ◌<◌, ◌≤◌, ◌==◌, Bool, true, false, not, nat_lt, if◌then◌else◌, List, ◌∷◌, length, slice_index, Result, Ok, Err}
 use Rattle.mctp_wire.specs.declared.layout.Head.{Head}
+use Rattle.mctp_wire.specs.declared.layout.TheConstants.{HEAD_SIZE, MAX_BODY, MAX_PACKET}
 use Rattle.mctp_wire.specs.declared.fault.WireFault.{WireFault}
 use Rattle.mctp_wire.specs.declared.fault.WireFault.TheVariants.{Short, Version, Empty, TooLong}
 
@@ -22,7 +23,7 @@ IsHead h = (h.seq < 4) × (h.tag < 8)
 abbrev pub IsPacket : List ℕ → Head → List ℕ → Type 0
 IsPacket (version ∷ dest ∷ source ∷ flags ∷ rest) h body =
     (version % 16 ≡ 1) × (dest ≡ h.dest) × (source ≡ h.source) × (flags ≡ flags_of h) × IsHead h
-    × (rest ≡ body) × (1 ≤ length body) × (length body ≤ 64)
+    × (rest ≡ body) × (1 ≤ length body) × (length body ≤ MAX_BODY)
 IsPacket _ h body = ⊥
 
 -- the head that the second to fourth byte spell
@@ -43,16 +44,16 @@ abbrev pub packet_of : List ℕ → Result (Head × List ℕ) WireFault
 packet_of (version ∷ dest ∷ source ∷ flags ∷ body) =
     if not (version % 16 == 1) then Err Version
     else if length body == 0 then Err Empty
-    else if nat_lt 64 (length body) then Err TooLong
+    else if nat_lt MAX_BODY (length body) then Err TooLong
     else Ok (head_of dest source flags, body)
 packet_of _ = Err Short
 
 -- the first fault of bytes that are no packet: none before it holds, and it does
 abbrev pub IsFirstFault : List ℕ → WireFault → Type 0
-IsFirstFault bytes Short = length bytes < 4
-IsFirstFault bytes Version = (4 ≤ length bytes) × (slice_index bytes 0 % 16 ≢ 1)
-IsFirstFault bytes Empty = (length bytes ≡ 4) × (slice_index bytes 0 % 16 ≡ 1)
-IsFirstFault bytes TooLong = (68 < length bytes) × (slice_index bytes 0 % 16 ≡ 1)
+IsFirstFault bytes Short = length bytes < HEAD_SIZE
+IsFirstFault bytes Version = (HEAD_SIZE ≤ length bytes) × (slice_index bytes 0 % 16 ≢ 1)
+IsFirstFault bytes Empty = (length bytes ≡ HEAD_SIZE) × (slice_index bytes 0 % 16 ≡ 1)
+IsFirstFault bytes TooLong = (MAX_PACKET < length bytes) × (slice_index bytes 0 % 16 ≡ 1)
 
 -- the written spelling of a packet: reserved bits are 0
 abbrev pub packet_bytes : Head → List ℕ → List ℕ
@@ -60,7 +61,7 @@ packet_bytes h body = 1 ∷ h.dest ∷ h.source ∷ flags_of h ∷ body
 
 -- what is written is a packet with that head and that body
 abbrev pub WritesPackets : Type 0
-WritesPackets = (h : Head) (body : List ℕ) → IsHead h → 1 ≤ length body → length body ≤ 64
+WritesPackets = (h : Head) (body : List ℕ) → IsHead h → 1 ≤ length body → length body ≤ MAX_BODY
     → IsPacket (packet_bytes h body) h body
 
 -- bytes are a packet with one head and one body at most, and those are what is read

@@ -6,7 +6,7 @@ ghost use Rattle.mctp_wire.specs.declared.layout.Head.{Head};
 ghost use Rattle.mctp_wire.specs.Packet.{IsPacket, IsHead, IsFirstFault, flags_of, packet_of, packet_bytes};
 
 use crate::fault::WireFault;
-use crate::layout::{BASELINE_UNIT, Head, Packet, RawPacket};
+use crate::layout::{Head, MAX_BODY, Packet, RawPacket};
 
 /// The version of MCTP's header that this is.
 const HEADER_VERSION: u8 = 1;
@@ -51,7 +51,7 @@ pub fn decode(bytes: &[u8]) -> Result<Packet<'_>, WireFault>
     if body.is_empty() {
         return Err(WireFault::Empty);
     }
-    if body.len() > BASELINE_UNIT {
+    if body.len() > MAX_BODY {
         return Err(WireFault::TooLong);
     }
     let head = Head {
@@ -80,7 +80,7 @@ fn flags_byte(head: &Head) -> u8
 
 /// Writes a packet in place of what `out` holds, with its reserved bits 0 (DSP0236, section 8.1).
 pub fn encode(head: &Head, body: &[u8], out: &mut RawPacket)
-    requires body { (1 ≤ length body.now) × (length body.now ≤ 64) }
+    requires body { (1 ≤ length body.now) × (length body.now ≤ MAX_BODY) }
     requires head { IsHead head.now }
     ensures { out.new.items ≡ packet_bytes head.now body.now }
 {

@@ -9,4 +9,4 @@ mod layout;
 pub use codec::{decode, encode};
 pub use fault::WireFault;
 pub use laws::reads_back;
-pub use layout::{BASELINE_UNIT, Head, Packet, RawPacket};
+pub use layout::{HEAD_SIZE, Head, MAX_BODY, MAX_PACKET, Packet, RawPacket};

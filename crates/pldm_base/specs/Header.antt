@@ -4,6 +4,7 @@ use Rattle.std.specs.Prelude.{◌%◌, ◌*◌, ◌+◌, ◌/◌, ◌<◌, ◌==
 use Rattle.pldm_base.specs.declared.header.PldmFault.{PldmFault}
 use Rattle.pldm_base.specs.declared.header.PldmFault.TheVariants.{Datagram, HeaderVersion, NotPldm, Short}
 use Rattle.pldm_base.specs.declared.header.PldmHead.{PldmHead}
+use Rattle.pldm_base.specs.declared.header.TheConstants.{HEADER_SIZE}
 
 -- a truth value as a bit
 abbrev pub bit : Bool → ℕ
@@ -44,12 +45,12 @@ pldm_of _ = Err Short
 
 -- the first fault of bytes that are no PLDM message: none before it holds, and it does
 abbrev pub IsFirstFault : List ℕ → PldmFault → Type 0
-IsFirstFault bytes Short = length bytes < 4
-IsFirstFault bytes NotPldm = (4 ≤ length bytes) × (slice_index bytes 0 ≢ 1)
+IsFirstFault bytes Short = length bytes < HEADER_SIZE
+IsFirstFault bytes NotPldm = (HEADER_SIZE ≤ length bytes) × (slice_index bytes 0 ≢ 1)
 IsFirstFault bytes Datagram =
-    (4 ≤ length bytes) × (slice_index bytes 0 ≡ 1) × (slice_index bytes 1 / 64 % 2 ≡ 1)
+    (HEADER_SIZE ≤ length bytes) × (slice_index bytes 0 ≡ 1) × (slice_index bytes 1 / 64 % 2 ≡ 1)
 IsFirstFault bytes HeaderVersion =
-    (4 ≤ length bytes) × (slice_index bytes 0 ≡ 1) × (slice_index bytes 1 / 64 % 2 ≡ 0)
+    (HEADER_SIZE ≤ length bytes) × (slice_index bytes 0 ≡ 1) × (slice_index bytes 1 / 64 % 2 ≡ 0)
     × (slice_index bytes 2 / 64 ≢ 0)
 
 -- the written spelling, whose reserved bit is 0

@@ -1,3 +1,4 @@
 pub mod Base
 pub mod Codes
 pub mod Header
+pub mod Limits

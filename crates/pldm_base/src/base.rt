@@ -4,12 +4,13 @@ ghost use Rattle.std.specs.Prelude.{[], ◌++◌, ◌≡◌, ◌∷◌, ◌≤�
 ghost use Rattle.pldm_base.specs.Base.{base_reply, tid_after};
 
 use crate::completion;
-use crate::header::{TYPE_BASE, TYPE_FIRMWARE_UPDATE};
+use crate::header::{HEADER_SIZE, TYPE_BASE, TYPE_FIRMWARE_UPDATE};
 use crate::terminus::{Role, Tid};
 use arrayvec::ArrayVec;
+use mctp_reasm::MAX_MESSAGE;
 
-/// The bytes of the longest answer, code included: what the longest message holds after its header of four bytes.
-pub const MAX_REPLY: usize = 252;
+/// The most bytes of an answer, code included, and of request data: what the longest message holds after its header.
+pub const MAX_REPLY: usize = MAX_MESSAGE - HEADER_SIZE;
 
 /// SetTID: gives the terminus its identifier.
 pub const SET_TID: u8 = 0x01;

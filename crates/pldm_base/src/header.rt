@@ -5,11 +5,13 @@ ghost use Rattle.std.specs.Result.{result_map_both};
 ghost use Rattle.pldm_base.specs.Header.{IsFirstFault, IsHead, IsPldm, pldm_bytes, pldm_of};
 ghost use Rattle.pldm_base.specs.declared.header.PldmHead.{PldmHead};
 
+use crate::base::MAX_REPLY;
 use arrayvec::ArrayVec;
+use mctp_reasm::MAX_MESSAGE;
 use thiserror::Error;
 
-/// The bytes of the longest PLDM message with its type byte: four packets of 64 bytes.
-pub const MAX_MESSAGE: usize = 256;
+/// The bytes of a PLDM header with its type byte (DSP0240, "PLDM message fields").
+pub const HEADER_SIZE: usize = 4;
 
 /// PLDM type 0, messaging control and discovery: the base commands.
 pub const TYPE_BASE: u8 = 0;
@@ -102,7 +104,7 @@ pub fn decode(bytes: &[u8]) -> Result<(PldmHead, &[u8]), PldmFault>
 
 /// Writes a PLDM message, its reserved bit 0.
 pub fn encode(head: &PldmHead, body: &[u8]) -> RawMessage
-    requires body { length body.now ≤ 252 }
+    requires body { length body.now ≤ MAX_REPLY }
     requires head { IsHead head.now }
     ensures { result.items ≡ pldm_bytes head.now body.now }
 {

@@ -11,7 +11,7 @@ pub use base::{
     GET_PLDM_COMMANDS, GET_PLDM_TYPES, GET_TID, MAX_REPLY, Reply, SET_TID, answer_base,
 };
 pub use header::{
-    MAX_MESSAGE, MESSAGE_TYPE, PldmFault, PldmHead, RawMessage, TYPE_BASE, TYPE_FIRMWARE_UPDATE,
+    HEADER_SIZE, MESSAGE_TYPE, PldmFault, PldmHead, RawMessage, TYPE_BASE, TYPE_FIRMWARE_UPDATE,
     decode, encode,
 };
 pub use laws::{numbers, reads_back};

@@ -7,7 +7,7 @@ ghost use Rattle.pldm_exch.specs.Sides.{asking_after, asking_row, learnt_in};
 
 use crate::caller::{CallTick, Caller, ReplyIn};
 use mctp_reasm::{Fed, Inbox, Message};
-use pldm_base::TYPE_FIRMWARE_UPDATE;
+use pldm_base::{MAX_REPLY, TYPE_FIRMWARE_UPDATE};
 use std::marker::Model;
 
 /// What a node has to ask one peer: its requests, and the assemblies of that peer's replies. A node that is deaf gives it
@@ -83,10 +83,11 @@ impl Asker {
         self.caller.can_begin()
     }
 
-    /// Begins a request of PLDM type 5 with request data of at most 252 bytes, and gives out the message to send.
+    /// Begins a request of PLDM type 5 with request data of at most `MAX_REPLY` bytes, and gives out the message to
+    /// send.
     pub fn begin(&mut self, command: u8, body: &[u8]) -> Message
         requires may { may_begin self.old.caller ≡ true }
-        requires body { length body.now ≤ 252 }
+        requires body { length body.now ≤ MAX_REPLY }
         ensures request { result ≡ (begun self.old.caller 5 command body.now).1 }
         ensures after { self.new ≡ record self.old { caller = (begun self.old.caller 5 command body.now).0 } }
     {

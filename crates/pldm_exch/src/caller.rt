@@ -7,7 +7,7 @@ ghost use Rattle.pldm_exch.specs.Fields.{open_of};
 use crate::rests::Rests;
 use crate::times::{GIVEN_UP, RETRY};
 use mctp_reasm::{Message, TAGS};
-use pldm_base::{PldmHead, Reply};
+use pldm_base::{MAX_REPLY, PldmHead, Reply};
 use std::marker::Model;
 
 /// Requests of a direction are numbered modulo this: an instance identifier has five bits (DSP0240).
@@ -34,7 +34,7 @@ impl OpenRequest {
         ensures value { option_map (λ b. b.now) result ≡ answer_body (open_of self.now) message.now }
         ensures found { IfSome result (λ b. IsAnswerTo (open_of self.now) message.now b.now) }
         ensures only { (body : List ℕ) → IsAnswerTo (open_of self.now) message.now body → IsSome result }
-        ensures short { IfSome result (λ b. length b.now ≤ 252) }
+        ensures short { IfSome result (λ b. length b.now ≤ MAX_REPLY) }
     {
         if message.to() || message.tag() != self.message.tag() {
             return None;
@@ -176,12 +176,12 @@ impl Caller {
 
     /// Begins a request of a PLDM type and a command, and gives out the message to send: request n (from 0) carries tag
     /// n modulo 8 and identifier n modulo 32. It asks that a request may begin (`can_begin`), a type of at most 63 and a
-    /// body of at most 252 bytes.
+    /// body of at most `MAX_REPLY` bytes.
     #[tactic(auto, using(crate::proofs::Callers::callers))]
     pub fn begin(&mut self, pldm_type: u8, command: u8, body: &[u8]) -> Message
         requires may { may_begin self.old ≡ true }
         requires pldm_type { pldm_type ≤ 63 }
-        requires body { length body.now ≤ 252 }
+        requires body { length body.now ≤ MAX_REPLY }
         ensures request { result ≡ (begun self.old pldm_type command body.now).1 }
         ensures after { self.new ≡ (begun self.old pldm_type command body.now).0 }
     {

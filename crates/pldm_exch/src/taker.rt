@@ -9,7 +9,7 @@ ghost use Rattle.pldm_exch.specs.Requests.{reply_message};
 use crate::answerer::{Answerer, Asked};
 use crate::request::{Brought, Request};
 use mctp_reasm::{Fed, Inbox, Message};
-use pldm_base::PldmHead;
+use pldm_base::{MAX_REPLY, PldmHead};
 use std::marker::Model;
 
 /// What a node has to answer one peer: the answers that it keeps, and the assemblies of that peer's requests. A node that
@@ -89,9 +89,10 @@ impl Taker {
         Brought::New(Request { message, head })
     }
 
-    /// Answers a new request with a completion code and fields of at most 252 bytes: the message to send, which is kept.
+    /// Answers a new request with a completion code and fields of at most `MAX_REPLY` bytes: the
+    /// message to send, which is kept.
     pub fn answer(&mut self, request: &Request, reply: &[u8]) -> Message
-        requires { length reply.now ≤ 252 }
+        requires { length reply.now ≤ MAX_REPLY }
         ensures answer { result ≡ reply_message request.now.message request.now.head reply.now }
         ensures after { self.new ≡ answered_with self.old request.now reply.now }
     {
@@ -111,7 +112,7 @@ impl Taker {
 
 /// The reply to a request, as a message.
 fn reply_to(request: &Message, head: &PldmHead, reply: &[u8]) -> Message
-    requires reply { length reply.now ≤ 252 }
+    requires reply { length reply.now ≤ MAX_REPLY }
     requires head { IsHead head.now }
     ensures { result ≡ reply_message request.now head.now reply.now }
 {

@@ -1,5 +1,5 @@
 -- Where a session gets into AllApplied from, row by row.
-use Rattle.std.specs.Prelude.{Bool, Err, List, Ok, Result, [], false, if◌then◌else◌, nat_lt, true, ◌&&◌, ◌||◌, ◌+◌, ◌==◌, ◌∷◌, ◌≡◌, ℕ, length, map}
+use Rattle.std.specs.Prelude.{Bool, Err, List, Ok, Result, [], false, if◌then◌else◌, nat_lt, true, ◌&&◌, ◌||◌, ◌==◌, ◌∷◌, ◌≡◌, ℕ, map}
 use Rattle.std.proofs.Common.{refl}
 use Rattle.fw_package.specs.Choice.{component_at, record_number}
 use Rattle.fw_package.specs.Package.{PackageText}
@@ -8,7 +8,7 @@ use Rattle.fwup_wire.specs.declared.answer.Malformed.{Malformed}
 use Rattle.ua_core.specs.Laws.{AppliesAll, IsAllApplied, IsApplyingLast, LearnsAllAppliedNowhere}
 use Rattle.ua_core.specs.Learn.{LearnRow, begun, fails, first_pass, first_task, job_of, learn_by, learn_row, next_pass, with_passed}
 use Rattle.ua_core.specs.Lent.{told_descriptor}
-use Rattle.ua_core.specs.Serve.{ServeRow, after_by, data_of, refuses, serve_row, task_after, unexpected, window}
+use Rattle.ua_core.specs.Serve.{ServeRow, after_by, data_of, is_bad_length, is_past_end, refuses, serve_row, task_after, unexpected, window}
 use Rattle.ua_core.specs.Session.{JobOf, SessionOf, Stage, TaskOf}
 use Rattle.ua_core.specs.declared.planned.Planned.{Planned}
 use Rattle.ua_core.specs.declared.state.Cause.{Cause}
@@ -49,9 +49,9 @@ applied_leads t false h = absurd h
 
 data_leads : (image : List ℕ) (offset size : ℕ) → LeadsToAll (data_of image offset size) → ⊥
 data_leads image offset size =
-    leads_both (nat_lt size 32 || nat_lt 240 size) (refuses 0x83)
-    (if nat_lt (length image + 32) (offset + size) then refuses 0x82 else ServeRow.Give (window image offset size)) (λ h. h)
-    (leads_both (nat_lt (length image + 32) (offset + size)) (refuses 0x82) (ServeRow.Give (window image offset size)) (λ h. h) (λ h. h))
+    leads_both (is_bad_length size) (refuses 0x83)
+    (if is_past_end image offset size then refuses 0x82 else ServeRow.Give (window image offset size)) (λ h. h)
+    (leads_both (is_past_end image offset size) (refuses 0x82) (ServeRow.Give (window image offset size)) (λ h. h) (λ h. h))
 
 leads_in : (p : PackageText) (g : Stage) (c : CommandOf) → LeadsToAll (serve_row p g c) → IsApplyingLast g
 leads_in p (Stage.Apply t) (CommandOf.ApplyComplete result methods) h = applied_leads t (result == 0) h

@@ -1,11 +1,11 @@
 -- Each command of a device is answered by what reads as an answer to it.
-use Rattle.std.proofs.Common.{◌≡◌, ◌==◌, ◌&&◌, ◌||◌, ◌+◌, ℕ, Bool, true, false, if◌then◌else◌, nat_lt, length, List, Some, refl}
+use Rattle.std.proofs.Common.{◌≡◌, ◌==◌, ◌&&◌, ℕ, Bool, true, false, if◌then◌else◌, nat_lt, List, Some, refl}
 use Rattle.fw_package.specs.Choice.{component_at}
 use Rattle.fw_package.specs.Package.{PackageText}
 use Rattle.fwup_wire.specs.Answers.{answer_bytes, answer_in}
 use Rattle.fwup_wire.specs.Commands.{command_code}
 use Rattle.fwup_wire.specs.Values.{CommandOf}
-use Rattle.ua_core.specs.Serve.{ServeRow, agent_answer, answer_by, apply_row, data_of, data_row, refuses, transfer_row, verify_row, window}
+use Rattle.ua_core.specs.Serve.{ServeRow, agent_answer, answer_by, apply_row, data_of, data_row, is_bad_length, is_past_end, refuses, transfer_row, verify_row, window}
 use Rattle.ua_core.specs.Session.{SessionOf, Stage}
 
 -- what a row answers reads as an answer to this command
@@ -24,7 +24,7 @@ served image offset size false false = refl
 
 data_reads : (image : List ℕ) (offset size : ℕ) → Reads 0x15 (data_of image offset size)
 data_reads image offset size =
-    served image offset size (nat_lt size 32 || nat_lt 240 size) (nat_lt (length image + 32) (offset + size))
+    served image offset size (is_bad_length size) (is_past_end image offset size)
 
 pieces : (p : PackageText) (g : Stage) (offset size : ℕ) → Reads 0x15 (data_row p g offset size)
 pieces p (Stage.Update t) offset size = refl

@@ -1,5 +1,5 @@
 -- A session stays in the plan of its package.
-use Rattle.std.specs.Prelude.{All, Bool, Err, List, None, Ok, Option, Result, Some, [], false, if◌then◌else◌, length, map, nat_lt, true, ◌&&◌, ◌||◌, ◌+◌, ◌++◌, ◌==◌, ◌∷◌, ◌≡◌, ℕ}
+use Rattle.std.specs.Prelude.{All, Bool, Err, List, None, Ok, Option, Result, Some, [], false, if◌then◌else◌, map, nat_lt, true, ◌&&◌, ◌||◌, ◌++◌, ◌==◌, ◌∷◌, ◌≡◌, ℕ}
 use Rattle.std.proofs.Common.{ap, refl, sym, ◌∙◌}
 use Rattle.std.proofs.lemmas.List.Elements.{All-contains_itself, All-head, All-nil, All-push, All-tail}
 use Rattle.fw_package.specs.Choice.{component_at, plan_of, record_number}
@@ -10,7 +10,7 @@ use Rattle.fwup_wire.specs.declared.answer.Malformed.{Malformed}
 use Rattle.ua_core.specs.Laws.{ChoosesRecord, HasChosen, IsOfPlan, IsPlanned, IsTask, LearnsInPlan, ServesInPlan, StandsInPlan, number_of}
 use Rattle.ua_core.specs.Learn.{LearnRow, begun, first_pass, first_task, is_to_do, job_of, learn_by, learn_row, next_pass, planned, unlearnt, with_index, with_passed, fails}
 use Rattle.ua_core.specs.Lent.{told_descriptor}
-use Rattle.ua_core.specs.Serve.{ServeRow, after_by, data_of, refuses, serve_row, task_after, unexpected, window}
+use Rattle.ua_core.specs.Serve.{ServeRow, after_by, data_of, is_bad_length, is_past_end, refuses, serve_row, task_after, unexpected, window}
 use Rattle.ua_core.specs.Session.{JobOf, SessionOf, Stage, TaskOf}
 use Rattle.ua_core.specs.declared.planned.Planned.{Planned}
 use Rattle.ua_core.specs.declared.state.Cause.TheVariants as causes
@@ -31,9 +31,9 @@ stage_both p false g k x y = y
 
 data_in : (p : PackageText) (image : List ℕ) (offset size : ℕ) → RowInPlan p (data_of image offset size)
 data_in p image offset size =
-    row_both p (nat_lt size 32 || nat_lt 240 size) (refuses 0x83)
-    (if nat_lt (length image + 32) (offset + size) then refuses 0x82 else ServeRow.Give (window image offset size)) tt
-    (row_both p (nat_lt (length image + 32) (offset + size)) (refuses 0x82) (ServeRow.Give (window image offset size)) tt tt)
+    row_both p (is_bad_length size) (refuses 0x83)
+    (if is_past_end image offset size then refuses 0x82 else ServeRow.Give (window image offset size)) tt
+    (row_both p (is_past_end image offset size) (refuses 0x82) (ServeRow.Give (window image offset size)) tt tt)
 
 serves_in : (p : PackageText) (g : Stage) (c : CommandOf) → StandsInPlan p g → RowInPlan p (serve_row p g c)
 serves_in p (Stage.Download t) (CommandOf.RequestFirmwareData offset size) h =

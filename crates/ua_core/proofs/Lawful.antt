@@ -1,12 +1,12 @@
 -- The laws, row by row.
-use Rattle.std.specs.Prelude.{Bool, IsSome, List, [], false, if◌then◌else◌, length, nat_lt, true, ◌&&◌, ◌||◌, ◌+◌, ◌++◌, ◌==◌, ◌∷◌, ◌≡◌, ℕ}
+use Rattle.std.specs.Prelude.{Bool, IsSome, List, [], false, if◌then◌else◌, nat_lt, true, ◌&&◌, ◌++◌, ◌==◌, ◌∷◌, ◌≡◌, ℕ}
 use Rattle.std.proofs.Common.{refl, subst, sym, append-nil}
 use Rattle.fw_package.specs.Choice.{component_at}
 use Rattle.fw_package.specs.Package.{PackageText}
 use Rattle.fwup_wire.specs.Values.{AnswerOf, CommandOf}
 use Rattle.ua_core.specs.Laws.{IsApplying, IsLoose, LearnsNoRecord, LooseRecordsNothing, RecordsGoodApply, RecordsGrow, RecordsInApply, WishStands}
 use Rattle.ua_core.specs.Learn.{LearnRow, learn_by, learn_row}
-use Rattle.ua_core.specs.Serve.{ServeRow, after_by, data_of, record_of, recorded_with, refuses, serve_row, task_after, unexpected, window}
+use Rattle.ua_core.specs.Serve.{ServeRow, after_by, data_of, is_bad_length, is_past_end, record_of, recorded_with, refuses, serve_row, task_after, unexpected, window}
 use Rattle.ua_core.specs.Session.{SessionOf, Stage, TaskOf}
 use Rattle.ua_core.specs.Wish.{stage_wish}
 use Rattle.ua_core.specs.declared.planned.Planned.{Planned}
@@ -72,9 +72,9 @@ nothing_both s false r q x y = y
 
 data_nothing : (s : SessionOf) (image : List ℕ) (offset size : ℕ) → recorded_with s (data_of image offset size) ≡ []
 data_nothing s image offset size =
-    nothing_both s (nat_lt size 32 || nat_lt 240 size) (refuses 0x83)
-    (if nat_lt (length image + 32) (offset + size) then refuses 0x82 else ServeRow.Give (window image offset size)) refl
-    (nothing_both s (nat_lt (length image + 32) (offset + size)) (refuses 0x82) (ServeRow.Give (window image offset size)) refl refl)
+    nothing_both s (is_bad_length size) (refuses 0x83)
+    (if is_past_end image offset size then refuses 0x82 else ServeRow.Give (window image offset size)) refl
+    (nothing_both s (is_past_end image offset size) (refuses 0x82) (ServeRow.Give (window image offset size)) refl refl)
 
 -- only in Apply a record is made
 nothing_in : (p : PackageText) (s : SessionOf) (g : Stage) (c : CommandOf) → (IsApplying g → ⊥) → recorded_with s (serve_row p g c) ≡ []

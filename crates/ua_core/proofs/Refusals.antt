@@ -1,10 +1,10 @@
 -- A command that is answered by a refusal takes the row of one.
-use Rattle.std.proofs.Common.{◌≡◌, ◌==◌, ◌&&◌, ◌||◌, ◌+◌, ℕ, Bool, true, false, if◌then◌else◌, nat_lt, length, List, ap}
+use Rattle.std.proofs.Common.{◌≡◌, ◌==◌, ◌&&◌, ℕ, Bool, true, false, if◌then◌else◌, nat_lt, List, ap}
 use Rattle.fw_package.specs.Choice.{component_at}
 use Rattle.fw_package.specs.Package.{PackageText}
 use Rattle.fwup_wire.specs.Values.{AnswerOf, CommandOf}
 use Rattle.ua_core.specs.Laws.{RefusalsKeepTheSession, RefusalsRecordNothing, RefusalsStirNothing}
-use Rattle.ua_core.specs.Serve.{ServeRow, after_by, answer_by, apply_row, data_of, data_row, idle_after, recorded_with, refuses, serve_row, transfer_row, verify_row, window}
+use Rattle.ua_core.specs.Serve.{ServeRow, after_by, answer_by, apply_row, data_of, data_row, idle_after, is_bad_length, is_past_end, recorded_with, refuses, serve_row, transfer_row, verify_row, window}
 use Rattle.ua_core.specs.Session.{Stage, TaskOf}
 use Rattle.ua_core.specs.declared.state.Cause.TheVariants as causes
 
@@ -24,10 +24,10 @@ gives bytes code e = absurd (cc)
 
 data_refused : (image : List ℕ) (offset size : ℕ) → IsRefusal (data_of image offset size)
 data_refused image offset size =
-    either (nat_lt size 32 || nat_lt 240 size) (refuses 0x83)
-    (if nat_lt (length image + 32) (offset + size) then refuses 0x82 else ServeRow.Give (window image offset size))
+    either (is_bad_length size) (refuses 0x83)
+    (if is_past_end image offset size then refuses 0x82 else ServeRow.Give (window image offset size))
     (says (AnswerOf.Refused 0x83))
-    (either (nat_lt (length image + 32) (offset + size)) (refuses 0x82) (ServeRow.Give (window image offset size))
+    (either (is_past_end image offset size) (refuses 0x82) (ServeRow.Give (window image offset size))
     (says (AnswerOf.Refused 0x82)) (gives (window image offset size)))
 
 pieces : (p : PackageText) (g : Stage) (offset size : ℕ) → IsRefusal (data_row p g offset size)

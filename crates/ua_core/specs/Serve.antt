@@ -1,8 +1,9 @@
 -- The device's commands to the agent (DSP0267 1.0): which row of the table one takes, and what it does.
-use Rattle.std.specs.Prelude.{List, [], if◌then◌else◌, nat_lt, ◌&&◌, ◌||◌, ◌+◌, ◌++◌, ◌==◌, ◌∷◌, ◌-◌, drop, length, replicate, take, ℕ}
+use Rattle.std.specs.Prelude.{Bool, List, [], if◌then◌else◌, nat_lt, ◌&&◌, ◌||◌, ◌+◌, ◌++◌, ◌==◌, ◌∷◌, ◌-◌, drop, length, replicate, take, ℕ}
 use Rattle.fw_package.specs.Choice.{component_at}
 use Rattle.fw_package.specs.Package.{PackageText}
 use Rattle.fwup_wire.specs.Values.{AnswerOf, CommandOf}
+use Rattle.fwup_wire.specs.declared.transfers.TheConstants.{MAX_TRANSFER, MIN_TRANSFER}
 use Rattle.ua_core.specs.Session.{SessionOf, Stage, TaskOf, at_stage}
 use Rattle.ua_core.specs.declared.planned.Planned.{Planned}
 use Rattle.ua_core.specs.declared.planned.Recorded.{Recorded}
@@ -32,12 +33,20 @@ unexpected = refuses 0x88
 abbrev pub told_again : ℕ → AnswerOf → ServeRow
 told_again result a = if result == 0 then ServeRow.Say a else unexpected
 
--- RequestFirmwareData: 32 to 240 bytes at a time (else INVALID_TRANSFER_LENGTH), which end at most 32 bytes past the image
--- (else DATA_OUT_OF_RANGE)
+-- a piece of so many bytes is too short or too long to be served
+abbrev pub is_bad_length : ℕ → Bool
+is_bad_length size = nat_lt size MIN_TRANSFER || nat_lt MAX_TRANSFER size
+
+-- a piece of so many bytes from an offset on ends more than the smallest piece past the image's end
+abbrev pub is_past_end : List ℕ → ℕ → ℕ → Bool
+is_past_end image offset size = nat_lt (length image + MIN_TRANSFER) (offset + size)
+
+-- RequestFirmwareData: a length that can be served (else INVALID_TRANSFER_LENGTH), not past the image's end (else
+-- DATA_OUT_OF_RANGE)
 abbrev pub data_of : List ℕ → ℕ → ℕ → ServeRow
 data_of image offset size =
-    if nat_lt size 32 || nat_lt 240 size then refuses 0x83
-    else if nat_lt (length image + 32) (offset + size) then refuses 0x82
+    if is_bad_length size then refuses 0x83
+    else if is_past_end image offset size then refuses 0x82
     else ServeRow.Give (window image offset size)
 
 -- while the device's answer to UpdateComponent is awaited, data are to be asked for again: RETRY_REQUEST_FW_DATA

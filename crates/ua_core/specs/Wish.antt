@@ -3,6 +3,7 @@ use Rattle.std.specs.Prelude.{None, Option, Some, true, if◌then◌else◌, len
 use Rattle.fw_package.specs.Choice.{component_at, record_at}
 use Rattle.fw_package.specs.Package.{PackageText}
 use Rattle.fwup_wire.specs.Values.{CommandOf}
+use Rattle.fwup_wire.specs.declared.transfers.TheConstants.{MAX_TRANSFER}
 use Rattle.fwup_wire.specs.declared.values.TransferFlag.{TransferFlag}
 use Rattle.fwup_wire.specs.declared.values.TransferFlag.TheVariants as flags
 use Rattle.ua_core.specs.Lent.{is_forced, key_of, sent_size, sent_text, sent_version}
@@ -17,11 +18,11 @@ flag_at left count =
     else if left == 0 then flags.End
     else flags.Middle
 
--- RequestUpdate: pieces of 240 bytes, one request outstanding, no package data
+-- RequestUpdate: pieces of the greatest transfer size, one request outstanding, no package data
 abbrev pub request_wish : PackageText → JobOf → CommandOf
 request_wish p j =
     CommandOf.RequestUpdate (record {
-      transfer_size = 240;
+      transfer_size = MAX_TRANSFER;
       components = length j.plan;
       outstanding = 1;
       package_data_length = 0;

@@ -4,16 +4,11 @@ ghost use Rattle.std.specs.Prelude.{◌≡◌, ◌≤◌, ◌-◌, ◌++◌, dro
 ghost use Rattle.ua_core.specs.Serve.{window};
 
 use arrayvec::ArrayVec;
-
-/// The fewest bytes that a device asks for at once (DSP0267 1.0, the baseline transfer size).
-pub const MIN_PIECE: usize = 32;
-
-/// The most bytes that a device asks for at once: an answer that carries them fits a message.
-pub const MAX_PIECE: usize = 240;
+use fwup_wire::MAX_TRANSFER;
 
 /// So many bytes of an image from an offset on, and zeros past its end.
-pub fn piece(image: &[u8], offset: usize, length: usize) -> ArrayVec<u8, MAX_PIECE>
-    requires { length ≤ 240 }
+pub fn piece(image: &[u8], offset: usize, length: usize) -> ArrayVec<u8, MAX_TRANSFER>
+    requires { length ≤ MAX_TRANSFER }
     ensures { result.items ≡ window image.now offset length }
 {
     let rest = from(image, offset);
@@ -35,8 +30,8 @@ fn from(bytes: &[u8], offset: usize) -> &[u8]
 
 /// Appends zeros until there are so many bytes.
 #[tactic(auto, using(crate::proofs::Padding::one_more_zero))]
-fn pad(piece: &mut ArrayVec<u8, MAX_PIECE>, length: usize)
-    requires most { length ≤ 240 }
+fn pad(piece: &mut ArrayVec<u8, MAX_TRANSFER>, length: usize)
+    requires most { length ≤ MAX_TRANSFER }
     requires more { length_of piece.old.items ≤ length }
     ensures { piece.new.items ≡ piece.old.items ++ replicate (length - length_of piece.old.items) 0 }
 {

@@ -18,11 +18,10 @@ use crate::states::{Progress, Reason, State};
 use arrayvec::ArrayVec;
 use fwup_wire::code::completion;
 use fwup_wire::code::response::{CAN_BE_UPDATED, CANNOT_BE_UPDATED, NO_RESTRICTION};
-use fwup_wire::{Answer, ComponentOffer, OfferResponse, TableEntry, TableResponse, UpdateRequest};
+use fwup_wire::{
+    Answer, ComponentOffer, MIN_TRANSFER, OfferResponse, TableEntry, TableResponse, UpdateRequest,
+};
 use pldm_base::completion::{ERROR, ERROR_INVALID_DATA, ERROR_NOT_READY};
-
-/// The fewest bytes that an agent may give at once.
-const MIN_TRANSFER: u32 = 32;
 
 /// The seconds until the device asks for data, and that an activation takes: none to speak of.
 const NO_TIME: u16 = 0;
@@ -44,7 +43,7 @@ impl<B: Bank> Device<B> {
         if !quiet {
             return refused(ERROR_NOT_READY);
         }
-        if request.transfer_size < MIN_TRANSFER
+        if request.transfer_size < MIN_TRANSFER as u32
             || request.components == 0
             || request.components > MAX_TABLE as u16
         {

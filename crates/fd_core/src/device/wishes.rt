@@ -9,13 +9,7 @@ use crate::bank::Bank;
 use crate::device::Device;
 use crate::device::reports::{APPLICATION_FAILED, TRANSFER_FAILED, VERIFICATION_FAILED};
 use crate::states::{Progress, State};
-use fwup_wire::Command;
-
-/// The fewest bytes that a device asks for at once.
-const MIN_LENGTH: u32 = 32;
-
-/// The most bytes that a device asks for at once, so that they fit a message.
-const MAX_LENGTH: u32 = 240;
+use fwup_wire::{Command, MAX_TRANSFER, MIN_TRANSFER};
 
 /// The result of work that succeeded.
 const SUCCEEDED: u8 = 0;
@@ -74,8 +68,9 @@ fn report(progress: Progress, failure: u8) -> Option<u8>
 /// How many bytes are asked for at once: what is missing, at most as many as the agent gives and as fit a message, and
 /// never fewer than the least length.
 pub(super) fn length_to_ask(transfer_size: u32, missing: u32) -> u32
-    ensures length { result ≡ max 32 (min 240 (min transfer_size missing)) }
-    ensures most { result ≤ 240 }
+    ensures length { result ≡ max MIN_TRANSFER (min MAX_TRANSFER (min transfer_size missing)) }
+    ensures most { result ≤ MAX_TRANSFER }
 {
-    MIN_LENGTH.max(MAX_LENGTH.min(transfer_size.min(missing)))
+    let fitting = (MAX_TRANSFER as u32).min(transfer_size.min(missing));
+    fitting.max(MIN_TRANSFER as u32)
 }

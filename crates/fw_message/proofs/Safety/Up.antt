@@ -1,5 +1,5 @@
 -- What the device asks, and what the session answers, keeps what stands.
-use Rattle.std.specs.Prelude.{◌≡◌, ℕ, ◌==◌, ◌||◌, ◌&&◌, ◌+◌, ◌++◌, nat_lt, Bool, true, if◌then◌else◌, List, [], ◌∷◌, length, map, Option, Some, None}
+use Rattle.std.specs.Prelude.{◌≡◌, ℕ, ◌==◌, ◌&&◌, ◌++◌, nat_lt, Bool, true, if◌then◌else◌, List, [], ◌∷◌, length, map, Option, Some, None}
 use Rattle.std.proofs.Common.{refl, inl, inr}
 use Rattle.std.proofs.lemmas.Bool.{cond_both}
 use Rattle.fw_package.specs.Laws.{PlansNamedImages}
@@ -10,7 +10,7 @@ use Rattle.fd_core.specs.States.{Phase}
 use Rattle.fd_core.specs.Wishes.{device_wish}
 use Rattle.ua_core.specs.Laws.{ServesInPlan, StandsInPlan}
 use Rattle.ua_core.specs.Lent.{key_of, package_at}
-use Rattle.ua_core.specs.Serve.{ServeRow, after_by, answer_by, recorded_with, refuses, serve_row, task_after, unexpected, window}
+use Rattle.ua_core.specs.Serve.{ServeRow, after_by, answer_by, is_bad_length, is_past_end, recorded_with, refuses, serve_row, task_after, unexpected, window}
 use Rattle.ua_core.specs.Session.{SessionOf, Stage, TaskOf}
 use Rattle.ua_core.specs.Wish.{stage_wish}
 use Rattle.ua_core.specs.declared.planned.Planned.{Planned}
@@ -87,9 +87,9 @@ module _ (ps : List PackageText) (ds : List DescriptorOf) (es : List EntryOf) wh
   data_serves m s l n offset size (Stage.Download t) k =
       let c = CommandOf.RequestFirmwareData offset size in
       let image = (at_hand (package_at ps n) t).image in
-      cond_both (nat_lt size 32 || nat_lt 240 size) (refuses 0x83) (if nat_lt (length image + 32) (offset + size) then refuses 0x82 else ServeRow.Give (window image offset size))
+      cond_both (is_bad_length size) (refuses 0x83) (if is_past_end image offset size then refuses 0x82 else ServeRow.Give (window image offset size))
       (Serves m s c l n (Stage.Download t)) (λ e. refused_up m s c l n 0x83 (Stage.Download t) k.together)
-      (λ e. cond_both (nat_lt (length image + 32) (offset + size)) (refuses 0x82) (ServeRow.Give (window image offset size)) (Serves m s c l n (Stage.Download t))
+      (λ e. cond_both (is_past_end image offset size) (refuses 0x82) (ServeRow.Give (window image offset size)) (Serves m s c l n (Stage.Download t))
       (λ f. refused_up m s c l n 0x82 (Stage.Download t) k.together)
       (λ f. transfer_told ps ds n (since es) (at_hand (package_at ps n) t) m.device.rows m.device.stage m.device.phase (Some c) (Some (AnswerOf.RequestFirmwareData (window image offset size))) refl k.together))
   data_serves m s l n offset size g k = refused_up m s (CommandOf.RequestFirmwareData offset size) l n 0x88 g k.together

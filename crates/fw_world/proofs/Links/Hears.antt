@@ -3,6 +3,7 @@ use Rattle.std.proofs.Common.{◌≡◌, ℕ, ◌==◌, ◌≤◌, Bool, true, f
 use Rattle.std.proofs.lemmas.List.{append-nil}
 use Rattle.mctp_reasm.specs.Held.{Held}
 use Rattle.mctp_reasm.specs.Pieces.{MessageOf}
+use Rattle.pldm_base.specs.Limits.{reply_limit}
 use Rattle.pldm_base.specs.declared.header.PldmHead.{PldmHead}
 use Rattle.pldm_exch.specs.Caller.{Open, is_quiet}
 use Rattle.pldm_exch.specs.Sides.{AskerRow, TakerRow}
@@ -67,7 +68,7 @@ pub record TakesIn {A B : Type 0} (now : Times) (a : HalfOf A) (b : HalfOf B) (r
   pub passed : IsPassed heard
   pub own : (half_in heard).own ≡ a.own
   pub peer : (half_in heard).peer ≡ a.peer
-  pub few : length reply ≤ 252
+  pub few : length reply ≤ reply_limit
   pub more : List EntryOf
   pub answers : (ps : List Sent) (es : List EntryOf) → taker_does (lane_of (turned_times now) b a ps es) reply row ≡ lane_of (turned_times now) b (half_in heard) (posted now.now ps (sent_in heard)) (es ++ more)
   pub asks : (ps : List Sent) (es : List EntryOf) → lane_run (lane_of now a b ps es) settles ≡ lane_of now (half_in heard) b ps es

@@ -1,6 +1,8 @@
 -- What a half sends goes to its peer.
 use Rattle.std.proofs.Common.{◌≡◌, ◌∙◌, ◌+◌, ◌==◌, ℕ, zero, suc, Bool, true, false, List, [], ◌∷◌, drop, length, map, nat_le, take, Option, Some, None, Ok, Err, Result, refl, sym, subst}
 use Rattle.std.specs.List.{AllByRecursion}
+use Rattle.mctp_wire.specs.declared.layout.TheConstants.{MAX_BODY}
+use Rattle.mctp_reasm.specs.declared.messages.TheConstants.{MAX_PACKETS}
 use Rattle.mctp_reasm.specs.Held.{Held}
 use Rattle.mctp_reasm.specs.Pieces.{MessageOf, Route, message_route, piece, pieces_from, spelled}
 use Rattle.pldm_base.specs.declared.header.PldmHead.{PldmHead}
@@ -105,15 +107,15 @@ pieces_to : (most : ℕ) (r : Route) (n : ℕ) (bytes : List ℕ) → AllByRecur
 unfolding pieces_from
 pieces_to zero r n bytes = tt
 pieces_to (suc most) r n bytes =
-    if_either (λ ps. AllByRecursion (GoesTo r.dest) (map spelled ps)) (nat_le (length bytes) 64) (piece r n true bytes ∷ [])
-    (piece r n false (take 64 bytes) ∷ pieces_from most r (n + 1) (drop 64 bytes))
-    (refl, tt) (refl, pieces_to most r (n + 1) (drop 64 bytes))
+    if_either (λ ps. AllByRecursion (GoesTo r.dest) (map spelled ps)) (nat_le (length bytes) MAX_BODY) (piece r n true bytes ∷ [])
+    (piece r n false (take MAX_BODY bytes) ∷ pieces_from most r (n + 1) (drop MAX_BODY bytes))
+    (refl, tt) (refl, pieces_to most r (n + 1) (drop MAX_BODY bytes))
 
 pub packets_to : (peer : ℕ) (ms : List MessageOf) → AreTo peer ms → AllByRecursion (GoesTo peer) (all_packets ms)
 packets_to peer [] k = tt
 packets_to peer (m ∷ ms) k =
     both_all (GoesTo peer) (packets_of m) (all_packets ms)
-    (subst (λ d. AllByRecursion (GoesTo d) (packets_of m)) k.0 (pieces_to 4 (message_route m) 0 m.bytes))
+    (subst (λ d. AllByRecursion (GoesTo d) (packets_of m)) k.0 (pieces_to MAX_PACKETS (message_route m) 0 m.bytes))
     (packets_to peer ms k.1)
 
 -- Whatever is heard, and in every tick, an explained link's agent sends packets to its device, and the device to its agent.

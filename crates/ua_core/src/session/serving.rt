@@ -10,14 +10,14 @@ ghost use Rattle.ua_core.specs.Session.{state_of};
 ghost use Rattle.ua_core.specs.Serve.{agent_after, agent_answer, agent_idle};
 
 use crate::lent::Lent;
-use crate::piece::{MAX_PIECE, MIN_PIECE, piece};
+use crate::piece::piece;
 use crate::planned::{Recorded, take_first};
 use crate::session::Session;
 use crate::state::{Cause, SessionState};
 use fwup_wire::code::completion::{
     COMMAND_NOT_EXPECTED, DATA_OUT_OF_RANGE, INVALID_TRANSFER_LENGTH, RETRY_REQUEST_FW_DATA,
 };
-use fwup_wire::{Answer, Command, write_answer};
+use fwup_wire::{Answer, Command, MAX_TRANSFER, MIN_TRANSFER, write_answer};
 use pldm_base::Reply;
 use pldm_base::completion::{ERROR_UNSUPPORTED_PLDM_CMD, SUCCESS};
 
@@ -25,7 +25,7 @@ use pldm_base::completion::{ERROR_UNSUPPORTED_PLDM_CMD, SUCCESS};
 const GOOD: u8 = 0;
 
 /// How many bytes past the image's end a piece may reach: those of the smallest piece.
-const PAST_END: usize = MIN_PIECE;
+const PAST_END: usize = MIN_TRANSFER;
 
 impl Session {
     /// Takes a command of the device and answers it: with a code alone, save where data are served. What the session doesn't
@@ -58,7 +58,7 @@ impl Session {
             _ => return code_alone(COMMAND_NOT_EXPECTED),
         }
         let (offset, length) = (offset as usize, length as usize);
-        if length < MIN_PIECE || length > MAX_PIECE {
+        if length < MIN_TRANSFER || length > MAX_TRANSFER {
             return code_alone(INVALID_TRANSFER_LENGTH);
         }
         let image = lent.image(self.at_hand.component);
