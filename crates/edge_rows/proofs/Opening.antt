@@ -8,7 +8,7 @@ use Rattle.fd_core.specs.Components.{HasComponents}
 use Rattle.fd_core.specs.States.{DeviceOf, Phase}
 use Rattle.fw_message.specs.Laws.{IsUnapplied}
 use Rattle.fw_node.specs.Nodes.{new_device_node}
-use Rattle.fw_world.specs.Replays.{IsNewNode}
+use Rattle.fw_world.specs.Headline.{IsNewNode}
 
 pub new_node : (endpoint : Endpoint) (agent : ℕ) (d : DeviceOf) → HasComponents d.device → d.device.phase ≡ Phase.Idle → AllByRecursion IsUnapplied d.device.rows → IsEid endpoint.eid
     → IsNewNode agent (new_device_node endpoint agent d)

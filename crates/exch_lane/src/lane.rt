@@ -21,12 +21,19 @@ use std::marker::Model;
 /// One direction of requests between two nodes: both ends, and every packet that was ever sent between them.
 #[derive(Drop)]
 pub struct Lane {
+    /// How many ticks the end that asks counted since it last missed one, at most 8.
     asker_since_miss: u8,
+    /// The same of the end that answers.
     taker_since_miss: u8,
+    /// For how many ticks the end that asks is still deaf after a restart; 0 where it hears.
     asker_deaf: u8,
+    /// The same of the end that answers.
     taker_deaf: u8,
+    /// The end that asks.
     asker: Asker,
+    /// The end that answers.
     taker: Taker,
+    /// The time, every packet with its date, and what happened.
     journal: Journal,
 }
 

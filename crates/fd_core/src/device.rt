@@ -37,11 +37,17 @@ const PATIENCE: u8 = 240;
 /// A device under update over its bank.
 #[derive(Drop)]
 pub struct Device<B: Bank> {
+    /// What identifies the device; it never changes.
     descriptors: DescriptorList,
+    /// The components that it has; they never change.
     components: ArrayVec<Component, MAX_COMPONENTS>,
+    /// Where their images are kept. Its stage counts in DOWNLOAD, VERIFY and APPLY.
     bank: B,
+    /// The state, how the device came there, and the ticks without a change.
     course: Course,
+    /// What RequestUpdate and PassComponentTable said. It counts from LEARN COMPONENTS to APPLY.
     update: Update,
+    /// What UpdateComponent said. It counts in DOWNLOAD, VERIFY and APPLY.
     work: Work,
 }
 

@@ -66,17 +66,22 @@ pub struct Update {
     pub transfer_size: u32,
     /// How many components the update has.
     pub components: u16,
+    /// Those that were passed so far.
     pub table: ArrayVec<Listed, MAX_TABLE>,
 }
 
 /// What UpdateComponent said, and how many bytes of the image are stored.
 #[derive(Drop)]
 pub struct Work {
+    /// The component.
     pub key: Key,
     /// The image's bytes.
     pub size: u32,
+    /// The version that the image will have.
     pub label: Label,
+    /// Whether the update is forced.
     pub force: bool,
+    /// How many of the image's bytes are stored.
     pub received: u32,
 }
 
@@ -98,6 +103,7 @@ impl Work {
 /// Where a device is, how it came there, and the ticks without a change.
 #[derive(Clone, Copy)]
 pub struct Course {
+    /// Where it is.
     pub state: State,
     /// Of DOWNLOAD, VERIFY and APPLY; elsewhere it says nothing.
     pub progress: Progress,

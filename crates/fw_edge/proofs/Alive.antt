@@ -3,7 +3,7 @@ use Rattle.std.proofs.Common.{◌≡◌, ◌≤◌, ◌+◌, ◌&&◌, ℕ, List
 use Rattle.std.specs.Prelude.{IsSomeAnd}
 use Rattle.std.proofs.lemmas.Bool.{ltb-false}
 use Rattle.exch_lane.specs.Lanes.{Sent, numbered}
-use Rattle.fw_world.specs.Replays.{Run, is_device, is_node, may_step, packet_fault, where_known}
+use Rattle.fw_world.specs.Headline.{Run, is_device, is_node, may_step, packet_fault, where_known}
 use Rattle.fw_world.specs.Worlds.{WorldOf, packets_of}
 use Rattle.fw_world.specs.declared.step.Step.{Step}
 use Rattle.fw_world.specs.declared.step.Step.TheVariants as steps

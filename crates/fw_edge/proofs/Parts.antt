@@ -2,7 +2,7 @@
 use Rattle.std.proofs.Common.{◌≡◌, ◌≢◌, ◌≤◌, ◌+◌, ◌-◌, ◌*◌, ◌∙◌, ◌^◌, ℕ, List, length, map, refl, sym, subst, arith}
 use Rattle.fw_world.specs.Worlds.{WorldOf}
 use Rattle.fw_world.specs.declared.step.Step.{Step}
-use Rattle.fw_edge.specs.Drives.{Goes, delivers_in}
+use Rattle.fw_edge.specs.Drives.{DrivesCounted, delivers_in}
 use Rattle.fw_edge.specs.Ledgers.{AreToldOf, OneFailed, packet_counts}
 use Rattle.fw_edge.specs.Outcomes.{LinksDriven, LinksExchanged, LinksRead, LinksRefused, LinksWrote, PartStopped}
 use Rattle.fw_edge.specs.Turns.{StopsTurn}
@@ -29,7 +29,7 @@ stopped_refused t e w ss olds news h = record {
 }
 
 -- a part stops behind another
-pub stopped_later : {A : Type 0} (t : A → Tally) (e : EdgeFault) (w u v : WorldOf) (before mid after : List Step) (olds mids news : List A) (ticks delivers : ℕ) → Goes w before u mid ticks delivers
+pub stopped_later : {A : Type 0} (t : A → Tally) (e : EdgeFault) (w u v : WorldOf) (before mid after : List Step) (olds mids news : List A) (ticks delivers : ℕ) → DrivesCounted w before u mid ticks delivers
     → map (λ l. (t l).failures) mids ≡ map (λ l. (t l).failures) olds → PartStopped t e u mid mids v after news → PartStopped t e w before olds v after news
 stopped_later t e w u v before mid after olds mids news ticks delivers g kept h = record {
   drives = goes_off w u v before mid after ticks delivers g h.drives;

@@ -9,7 +9,7 @@ use Rattle.fw_node.specs.Halves.{HalfOf}
 use Rattle.ua_core.specs.Session.{TimedOf, state_of}
 use Rattle.ua_core.specs.declared.state.SessionState.{SessionState}
 use Rattle.ua_core.specs.declared.state.SessionState.TheVariants as states
-use Rattle.fw_world.specs.Replays.{Run}
+use Rattle.fw_world.specs.Headline.{Run}
 use Rattle.fw_world.specs.Worlds.{SiteOf, WorldOf, packets_of}
 use Rattle.fw_world.specs.declared.step.Step.{Step}
 use Rattle.fw_world.specs.declared.step.Step.TheVariants as steps
@@ -64,7 +64,7 @@ pub record Drives (w : WorldOf) (before : List Step) (v : WorldOf) (after : List
   pub driven : AreDriven steps
 
 -- so many ticks and deliveries among them
-pub record Goes (w : WorldOf) (before : List Step) (v : WorldOf) (after : List Step) (ticks delivers : ℕ) : Type 0 where
+pub record DrivesCounted (w : WorldOf) (before : List Step) (v : WorldOf) (after : List Step) (ticks delivers : ℕ) : Type 0 where
   pub drives : Drives w before v after
   pub ticks_rise : ticks_in after ≡ ticks_in before + ticks
   pub delivers_rise : delivers_in after ≡ delivers_in before + delivers

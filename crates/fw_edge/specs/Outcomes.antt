@@ -2,11 +2,10 @@
 -- they count, took and gave.
 use Rattle.std.specs.Prelude.{ℕ, ◌≡◌, ◌≢◌, ◌≤◌, ◌<◌, ◌+◌, ◌-◌, ◌*◌, ◌^◌, ◌⊎◌, true, List, [], length, map}
 use Rattle.fw_message.specs.declared.side.Side.{Side}
-use Rattle.fw_world.specs.Promises.{eids_of}
 use Rattle.fw_world.specs.Replays.{needs_memory}
-use Rattle.fw_world.specs.Worlds.{WorldOf}
+use Rattle.fw_world.specs.Worlds.{WorldOf, eids_of}
 use Rattle.fw_world.specs.declared.step.Step.{Step}
-use Rattle.fw_edge.specs.Drives.{Drives, Goes, all_over, delivers_in, ticks_in}
+use Rattle.fw_edge.specs.Drives.{Drives, DrivesCounted, all_over, delivers_in, ticks_in}
 use Rattle.fw_edge.specs.Ledgers.{AllRose, AllSent, AreGiven, AreToldOf, HasFailed, IsToldOf, OneFailed, Reads, RoseTogether, Writes, packet_counts}
 use Rattle.fw_edge.specs.Links.{EndsOf, LinksOf, links_at}
 use Rattle.fw_edge.specs.Turns.{Came, CameAt, Drove, Stopped, StopsTurn}
@@ -27,7 +26,7 @@ pub record LinkRefused {A : Type 0} (tally : A → Tally) (told : EdgeFault) (ol
 -- Ends of a link were asked for a frame each, in this order. Of the frames that came so many are living packets of its pair, each of which
 -- was delivered, and so many are foreign; the link took nothing.
 pub record EndsRead {A : Type 0} (tally : A → Tally) (taken gave : A → EndsOf) (ends : List (ℕ × Side)) (most : ℕ) (w : WorldOf) (before : List Step) (old : A) (v : WorldOf) (after : List Step) (new : A) (known foreign : ℕ) : Type 0 where
-  pub goes : Goes w before v after 0 known
+  pub goes : DrivesCounted w before v after 0 known
   pub few : known + foreign ≤ most
   pub came : CameAt w before (gave old) ends v after (gave new) (known + foreign)
   pub took_none : taken new ≡ taken old
@@ -70,7 +69,7 @@ pub record LinksExchanged {A : Type 0} (tally : A → Tally) (most frames : ℕ)
 -- foreign.
 pub record RoundRead {A : Type 0} (tally : A → Tally) (taken gave : A → EndsOf) (w : WorldOf) (before : List Step) (olds : List A) (v : WorldOf) (after : List Step) (news : List A) (known foreign : ℕ) : Type 0 where
   pub came : Came (length (eids_of w.sites)) (eids_of w.sites) w before (links_at [] (map taken olds) (map gave olds)) v after (links_at [] (map taken news) (map gave news)) (known + foreign)
-  pub goes : Goes w before v after 0 known
+  pub goes : DrivesCounted w before v after 0 known
   pub few : known + foreign ≤ 32
   pub counts : LinksRead tally 2 (known + foreign) olds news
 
@@ -78,7 +77,7 @@ pub record RoundRead {A : Type 0} (tally : A → Tally) (taken gave : A → Ends
 -- frames that came so many are living packets, each of which was delivered, and so many are foreign.
 pub record PartDone {A : Type 0} (tally : A → Tally) (taken gave : A → EndsOf) (does : WorldOf → List Step → LinksOf → WorldOf → List Step → LinksOf → (count : ℕ) → Type 0) (ticks most : ℕ) (w : WorldOf) (before : List Step) (written_before : List ℕ) (olds : List A) (v : WorldOf) (after : List Step) (written : List ℕ) (news : List A) (known foreign : ℕ) : Type 0 where
   pub does_so : does w before (links_at written_before (map taken olds) (map gave olds)) v after (links_at written (map taken news) (map gave news)) (known + foreign)
-  pub goes : Goes w before v after ticks known
+  pub goes : DrivesCounted w before v after ticks known
   pub few : known + foreign ≤ most
   pub counts : LinksExchanged tally 2 (known + foreign) written_before written olds news
 
@@ -119,7 +118,7 @@ pub record RunStopped {A : Type 0} (tally : A → Tally) (taken gave : A → End
 
 -- Steps were taken that are no ticks and no deliveries, and nothing was sent.
 pub record SentNone (w : WorldOf) (before : List Step) (v : WorldOf) (after : List Step) : Type 0 where
-  pub goes : Goes w before v after 0 0
+  pub goes : DrivesCounted w before v after 0 0
   pub sent : packet_counts v.sites ≡ packet_counts w.sites
 
 -- Memory was refused. The steps that were taken are listed.

@@ -1,7 +1,7 @@
 //! The run of a world over links.
 
 ghost use Rattle.std.specs.Prelude.{◌≡◌, ◌≤◌, ◌<◌, ◌+◌, ◌-◌, IfErr, IfOk, OnOk, length, true};
-ghost use Rattle.fw_edge.specs.Drives.{Drives, DrivesLiving, Goes, all_over, delivers_in, ticks_in};
+ghost use Rattle.fw_edge.specs.Drives.{Drives, DrivesCounted, DrivesLiving, all_over, delivers_in, ticks_in};
 ghost use Rattle.fw_edge.specs.Links.{links_at};
 ghost use Rattle.fw_edge.specs.Turns.{Drove, Stopped, StopsTurn, Turned};
 ghost use Rattle.fw_edge.specs.Ledgers.{packet_counts};

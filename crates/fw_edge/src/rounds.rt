@@ -3,12 +3,12 @@
 ghost use Rattle.std.specs.Prelude.{[], ◌∷◌, ◌≡◌, ◌≤◌, ◌<◌, ◌+◌, ◌⊎◌, IfErr, IfOk, None, OnOk, length, slice_get};
 ghost use Rattle.fw_edge.specs.Links.{links_at};
 ghost use Rattle.fw_edge.specs.Turns.{Came, CameAt, Exchanged, HandsOver, RoundOf, Rounds, both_ends, eid_in, node_at};
-ghost use Rattle.fw_edge.specs.Drives.{Drives, Goes};
+ghost use Rattle.fw_edge.specs.Drives.{Drives, DrivesCounted};
 ghost use Rattle.fw_edge.specs.Hearing.{IsHeard};
 ghost use Rattle.fw_edge.specs.Ledgers.{NoneFell, packet_counts};
 ghost use Rattle.fw_edge.specs.Outcomes.{EndsRead, LinkStopped, PartDone, PartStopped, RoundRead, StepsStopped};
-ghost use Rattle.fw_world.specs.Promises.{eids_of};
-ghost use Rattle.fw_world.specs.Replays.{may_step};
+ghost use Rattle.fw_world.specs.Headline.{may_step};
+ghost use Rattle.fw_world.specs.Worlds.{eids_of};
 ghost use Rattle.fw_world.specs.declared.step.Step.{Step};
 
 use crate::driving::EdgeFault;
@@ -88,7 +88,7 @@ fn hand_over<B: Bank + Drop>(
     packet: &RawPacket,
     steps: &mut Vec<Step>,
 ) -> Result<Frames, EdgeFault>
-    ensures goes { IfOk result (λ f. Goes world.old steps.old.items world.new steps.new.items 0 f.known) }
+    ensures goes { IfOk result (λ f. DrivesCounted world.old steps.old.items world.new steps.new.items 0 f.known) }
     ensures one { IfOk result (λ f. f.known + f.foreign ≡ 1) }
     ensures over { OnOk result (HandsOver world.old steps.old.items device end packet.now.items world.new steps.new.items) }
     ensures stopped { IfErr result (λ e. StepsStopped e world.old steps.old.items world.new steps.new.items) }

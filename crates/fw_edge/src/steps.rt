@@ -1,14 +1,13 @@
 //! Steps of a run, each taken and listed.
 
 ghost use Rattle.std.specs.Prelude.{[], ◌≡◌, ◌≢◌, ◌-◌, ◌^◌, ◌++◌, ◌∷◌, IfErr, IfSome, None, OnErr, OnOk, Some, is_some, slice_get, true, vec_capacity, vec_len};
-ghost use Rattle.fw_edge.specs.Drives.{Drives, Goes, all_over, deliver_in, is_driven, is_good, is_over, tick_in};
+ghost use Rattle.fw_edge.specs.Drives.{Drives, DrivesCounted, all_over, deliver_in, is_driven, is_good, is_over, tick_in};
 ghost use Rattle.fw_edge.specs.Ledgers.{packet_counts};
 ghost use Rattle.fw_edge.specs.Outcomes.{LacksMemory, SentNone, StepsStopped};
 ghost use Rattle.fw_edge.specs.Turns.{TakesAll, TakesIf, activation_for, all_due, awaited_in, due_at, verdict_for};
 ghost use Rattle.fw_node.specs.Agents.{half_for, ready_for};
-ghost use Rattle.fw_world.specs.Promises.{eids_of};
-ghost use Rattle.fw_world.specs.Replays.{Leads, may_step};
-ghost use Rattle.fw_world.specs.Worlds.{full_tick, site_for};
+ghost use Rattle.fw_world.specs.Headline.{Leads, may_step};
+ghost use Rattle.fw_world.specs.Worlds.{eids_of, full_tick, site_for};
 ghost use Rattle.fw_world.specs.declared.step.Step.{Step};
 
 use crate::driving::EdgeFault;
@@ -30,7 +29,7 @@ pub(crate) fn take<B: Bank + Drop>(
     requires driven { is_driven step ≡ true }
     ensures leads { OnOk result (Leads world.old step world.new) }
     ensures listed { OnOk result (steps.new.items ≡ steps.old.items ++ step ∷ []) }
-    ensures goes { OnOk result (Goes world.old steps.old.items world.new steps.new.items (tick_in step) (deliver_in step)) }
+    ensures goes { OnOk result (DrivesCounted world.old steps.old.items world.new steps.new.items (tick_in step) (deliver_in step)) }
     ensures same { OnErr result (world.new ≡ world.old) }
     ensures unlisted { OnErr result (steps.new.items ≡ steps.old.items) }
     ensures fault { IfErr result (λ e. e ≡ EdgeFault.Memory) }
@@ -57,7 +56,7 @@ pub(crate) fn tick<B: Bank + Drop>(
     steps: &mut Vec<Step>,
 ) -> Result<(), EdgeFault>
     ensures tick { OnOk result (TakesIf world.old steps.old.items (Some full_tick) world.new steps.new.items) }
-    ensures goes { OnOk result (Goes world.old steps.old.items world.new steps.new.items 1 0) }
+    ensures goes { OnOk result (DrivesCounted world.old steps.old.items world.new steps.new.items 1 0) }
     ensures same { OnErr result (world.new ≡ world.old) }
     ensures unlisted { OnErr result (steps.new.items ≡ steps.old.items) }
     ensures fault { IfErr result (λ e. e ≢ EdgeFault.Frame) }

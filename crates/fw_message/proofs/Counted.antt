@@ -9,7 +9,7 @@ use Rattle.std.proofs.lemmas.List.{get_or-set_same, length-map, length-set}
 use Rattle.fd_core.specs.Banks.{Rose}
 use Rattle.fw_message.specs.Names.{HasName, IsNamed}
 use Rattle.fw_message.specs.Pairs.{PairOf, StepOf, Stepped, pair_after}
-use Rattle.fw_message.specs.Replays.{CountedWorldOf, Leads, Run, place_at}
+use Rattle.fw_message.specs.Replays.{CountedWorldOf, LeadsCounted, Run, place_at}
 use Rattle.fw_message.specs.Worlds.{NodeOf, WorldOf, WorldStepOf, agent_restarted, device_of, named_step, node_at, step_at, went_on, with_pair, world_after, world_along}
 use Rattle.fw_message.specs.declared.side.Side.TheVariants as sides
 use Rattle.fw_message.specs.declared.side.Way.TheVariants as ways
@@ -156,7 +156,7 @@ may_on w v fs gs k kept later same = record {
 }
 
 leads_so : (w v : WorldOf) (fs : List ℕ) (s : WorldStepOf) → MayCount w fs → IsNamed s → world_after w s ≡ Some v
-    → Leads (record { world = w; faults = fs }) (name_of w.agent s) (record { world = v; faults = counts_after (works_of s) fs (place_at w.nodes (device_of (name_of w.agent s))) })
+    → LeadsCounted (record { world = w; faults = fs }) (name_of w.agent s) (record { world = v; faults = counts_after (works_of s) fs (place_at w.nodes (device_of (name_of w.agent s))) })
 leads_so w v fs s k named e =
     let place = place_at w.nodes (device_of (name_of w.agent s)) in
     record {

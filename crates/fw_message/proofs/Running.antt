@@ -2,17 +2,17 @@
 use Rattle.std.proofs.Common.{◌≡◌, ◌∷◌, ◌++◌, ◌+◌, ◌<◌, ℕ, List, [], length, take, Option, Some, refl, subst, sym}
 use Rattle.std.specs.Prelude.{IfSome, get_or}
 use Rattle.std.proofs.lemmas.List.{take_more}
-use Rattle.fw_message.specs.Replays.{CountedWorldOf, Leads, Run}
+use Rattle.fw_message.specs.Replays.{CountedWorldOf, LeadsCounted, Run}
 use Rattle.fw_message.specs.WorldLaws.{IsOpeningWorld, IsSafeWorld, WorldsAreSafe}
 use Rattle.fw_message.specs.Worlds.{WorldOf, WorldStepOf, named_step, world_along}
 use Rattle.fw_message.specs.declared.step.MessageStep.{MessageStep}
 
 -- a run goes on by one step
-run_more : (w v u : CountedWorldOf) (ss : List MessageStep) (s : MessageStep) → Run w ss v → Leads v s u → Run w (ss ++ s ∷ []) u
-run_more w v u [] s h l = let P : CountedWorldOf → Type 0 = λ x. Leads x s u in (u, subst P h l, refl)
+run_more : (w v u : CountedWorldOf) (ss : List MessageStep) (s : MessageStep) → Run w ss v → LeadsCounted v s u → Run w (ss ++ s ∷ []) u
+run_more w v u [] s h l = let P : CountedWorldOf → Type 0 = λ x. LeadsCounted x s u in (u, subst P h l, refl)
 run_more w v u (t ∷ ss) s h l = (h.0, h.1, run_more h.0 v u ss s h.2 l)
 
-pub run_next : (w v u : CountedWorldOf) (ss : List MessageStep) (i : ℕ) (d : MessageStep) → i < length ss → Run w (take i ss) v → Leads v (get_or ss i d) u → Run w (take (i + 1) ss) u
+pub run_next : (w v u : CountedWorldOf) (ss : List MessageStep) (i : ℕ) (d : MessageStep) → i < length ss → Run w (take i ss) v → LeadsCounted v (get_or ss i d) u → Run w (take (i + 1) ss) u
 run_next w v u ss i d lt h l = rw (take_more ss i d lt) (run_more w v u (take i ss) (get_or ss i d) h l)
 
 -- one run after another

@@ -32,7 +32,7 @@ BankFailed w v eid = IfSome (place_at w.world.nodes eid)
 
 -- A step leads from one world to another. Its call of a bank fails only where the bank's count of failures tells so; all other
 -- counts stay, and where it works all do.
-pub record Leads (w : CountedWorldOf) (s : MessageStep) (v : CountedWorldOf) : Type 0 where
+pub record LeadsCounted (w : CountedWorldOf) (s : MessageStep) (v : CountedWorldOf) : Type 0 where
   pub works : Bool
   pub after : world_after w.world (named_step w.world.agent works s) ≡ Some v.world
   pub worked : works ≡ true → v.faults ≡ w.faults
@@ -41,7 +41,7 @@ pub record Leads (w : CountedWorldOf) (s : MessageStep) (v : CountedWorldOf) : T
 -- each step leads on from where the one before it led
 abbrev pub Run : CountedWorldOf → List MessageStep → CountedWorldOf → Type 0
 Run w [] v = v ≡ w
-Run w (s ∷ ss) v = (mid : CountedWorldOf) × Leads w s mid × Run mid ss v
+Run w (s ∷ ss) v = (mid : CountedWorldOf) × LeadsCounted w s mid × Run mid ss v
 
 -- whether the world has the node of a step
 abbrev pub HasNode : WorldOf → MessageStep → Type 0

@@ -22,10 +22,15 @@ use ua_core::Session;
 /// An agent, its packages, its devices with the agent's session for each, and what happened.
 #[derive(Drop)]
 pub struct MessageWorld<'a, B: Bank + Drop> {
+    /// Where steps take their memory from.
     alloc: Global,
+    /// The agent's endpoint identifier, which no device has.
     agent: u8,
+    /// What the operator may start updates with.
     packages: &'a [Package<'a>],
+    /// The devices, each with its session and both cells.
     pairs: Vec<Pair<'a, B>>,
+    /// What happened, in order.
     history: Vec<Entry>,
 }
 

@@ -25,10 +25,15 @@ mod waiting;
 /// asks the agent.
 #[derive(Drop)]
 pub struct Pair<'a, B: Bank> {
+    /// The device's endpoint identifier.
     eid: u8,
+    /// The device.
     device: Device<B>,
+    /// The agent's session for it.
     session: Session,
+    /// What the agent asked the device, with its answer where it was taken; none between exchanges.
     down: Option<Held<'a>>,
+    /// What the device asked the agent, likewise.
     up: Option<Held<'a>>,
 }
 

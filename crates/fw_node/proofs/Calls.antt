@@ -1,4 +1,4 @@
--- The operator's calls of the agent, by what they make of one of its parts.
+-- The operator's calls of the agent, by what they make of one of its halves.
 use Rattle.std.proofs.Common.{◌≡◌, ◌∙◌, ℕ, List, map, slice_get, slice_set, Option, Some, None, is_some, true, refl, sym, ap}
 use Rattle.std.specs.Option.{option_map}
 use Rattle.std.proofs.lemmas.List.{map-set}

@@ -1,4 +1,4 @@
--- What the agent's sessions wish can be said, by what its parts' sessions wish.
+-- What the agent's sessions wish can be said, by what its halves' sessions wish.
 use Rattle.std.proofs.Common.{◌≡◌, ◌∙◌, ◌+◌, ◌++◌, ◌<◌, ◌≤◌, ℕ, true, zero, suc, inl, List, [], ◌∷◌, drop, get_or, length, map, slice_get, take, Option, Some, None, IfSome, refl, sym, ap, subst, arith}
 use Rattle.std.specs.List.{AllByRecursion}
 use Rattle.std.specs.Option.{option_map}

@@ -31,9 +31,13 @@ use ua_core::{NotReady, Session, StartFault};
 /// operator may start updates with.
 #[derive(Drop)]
 pub struct AgentNode {
+    /// Its endpoint and its terminus identifier.
     identity: Identity,
+    /// For how many ticks it is still deaf after a restart; 0 where it hears.
     deaf: u8,
+    /// For each device, in configured order, its session and both ends. Their number never changes.
     halves: Vec<Half<Session>>,
+    /// The event log.
     log: Sel,
 }
 

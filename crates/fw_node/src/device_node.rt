@@ -21,8 +21,11 @@ use std::marker::Model;
 /// A firmware device on a network of MCTP packets: its half for its agent. It answers control and base requests too.
 #[derive(Drop)]
 pub struct DeviceNode<B: Bank> {
+    /// Its endpoint and its terminus identifier.
     identity: Identity,
+    /// For how many ticks it is still deaf after a restart; 0 where it hears.
     deaf: u8,
+    /// The device, and both ends for its agent.
     half: Half<Device<B>>,
 }
 

@@ -14,7 +14,7 @@ use Rattle.fw_script.specs.Configs.{ComponentConfigOf, DeviceConfigOf}
 use Rattle.fw_script.specs.Whole.{AreNew, AreWhole, IsDevice, eids_of, keys_of}
 use Rattle.fw_script.specs.Seen.{component_of}
 use Rattle.fw_script.specs.declared.config.ComponentConfig.{ComponentConfig}
-use Rattle.fw_world.specs.Replays.{AreDifferent, AreNewNodes, IsNewNode}
+use Rattle.fw_world.specs.Headline.{AreDifferent, AreNewNodes, IsNewNode}
 use Rattle.fw_setup.specs.Nodes.{device_made, node_made, nodes_made, row_made}
 
 pub keys_made : (cs : List ComponentConfigOf) → map key_of (map row_made cs) ≡ map (λ c. c.key) (map (λ c. c.component) cs)

@@ -7,7 +7,7 @@ ghost use Rattle.fd_core.specs.Components.{HasComponents};
 ghost use Rattle.fd_core.specs.Images.{key_of};
 ghost use Rattle.fw_script.specs.Seen.{component_of, device_of};
 ghost use Rattle.fw_script.specs.Whole.{AreNew, AreWhole, IsDevice, keys_of};
-ghost use Rattle.fw_world.specs.Replays.{AreNewNodes, IsNewNode, IsOpeningWorld, new_world};
+ghost use Rattle.fw_world.specs.Headline.{AreNewNodes, IsNewNode, IsOpeningWorld, new_world};
 ghost use Rattle.fw_setup.specs.Nodes.{device_made, node_made, nodes_made, row_made};
 
 use arrayvec::ArrayVec;

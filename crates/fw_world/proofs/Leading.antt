@@ -19,8 +19,9 @@ use Rattle.fw_node.specs.Halves.{half_hears}
 use Rattle.fw_node.specs.Nodes.{IsTold, device_hears, device_judges}
 use Rattle.fw_node.specs.Packets.{all_packets}
 use Rattle.fw_world.specs.Deliveries.{ComesTo, IsJudged}
-use Rattle.fw_world.specs.Replays.{AgentSpeaksIn, CanBeSaidBy, IsToldBy, IsToldTo, Leads, SiteSpeaksIn, faults_before, faults_of, has_session, is_package, may_step, ready_fault, start_fault, tick_fault}
-use Rattle.fw_world.specs.Worlds.{SiteOf, WorldOf, activated_at, activates_on, asks_log, at_agent, at_device, calls, comes, delivers, judges, node_becomes, packets_of, place_of, sent_now, site_at, site_for, site_restarts, ticks, world_after}
+use Rattle.fw_world.specs.Headline.{Leads, faults_before, faults_of, has_session, is_package, may_step, ready_fault, start_fault, tick_fault, world_after}
+use Rattle.fw_world.specs.Sayable.{AgentSpeaksIn, CanBeSaidBy, IsToldBy, IsToldTo, SiteSpeaksIn}
+use Rattle.fw_world.specs.Worlds.{SiteOf, WorldOf, activated_at, activates_on, asks_log, at_agent, at_device, calls, comes, delivers, judges, node_becomes, packets_of, place_of, sent_now, site_at, site_for, site_restarts, ticks}
 use Rattle.fw_world.specs.declared.step.Step.{Step}
 use Rattle.fw_world.specs.declared.step.Step.TheVariants as steps
 

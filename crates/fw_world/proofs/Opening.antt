@@ -10,7 +10,7 @@ use Rattle.fw_message.specs.Laws.{IsUnapplied}
 use Rattle.fd_core.specs.Components.{HasComponents}
 use Rattle.fw_node.specs.Nodes.{DeviceNodeOf, new_device_node}
 use Rattle.fw_package.specs.Package.{PackageText}
-use Rattle.fw_world.specs.Replays.{AreNewNodes, IsNewNode, IsOpeningWorld, new_site, new_world}
+use Rattle.fw_world.specs.Headline.{AreNewNodes, IsNewNode, IsOpeningWorld, new_site, new_world}
 use Rattle.fw_world.specs.Sites.{RoomyOf, sites_of}
 use Rattle.fw_world.specs.Worlds.{WorldOf}
 

@@ -2,10 +2,10 @@
 use Rattle.std.proofs.Common.{◌≡◌, ◌≤◌, ◌<◌, ◌+◌, ◌∙◌, ℕ, zero, suc, List, [], ◌∷◌, ◌++◌, drop, get_or, length, map, slice_get, slice_set, take, true, Option, Some, None, inl, inr, refl, sym, ap, subst, arith}
 use Rattle.std.proofs.lemmas.List.{drop-set-lt, map-set, take_more}
 use Rattle.std.specs.List.{AllByRecursion}
-use Rattle.fw_world.specs.Replays.{SiteSpeaksIn}
-use Rattle.exch_lane.specs.Steps.{sent_at}
+use Rattle.fw_world.specs.Sayable.{SiteSpeaksIn}
 use Rattle.fw_world.specs.Sites.{HaveRoom, LacksRoom, RoomyOf, sites_of}
 use Rattle.fw_world.specs.Worlds.{SiteOf, counts, place_for, place_of, post, post_at, posts, site_at, site_for, site_restarts}
+use Rattle.exch_lane.specs.Steps.{sent_at}
 use Rattle.fw_node.specs.Cores.{device_core}
 use Rattle.fw_node.specs.Halves.{half_ticks}
 use Rattle.fw_node.specs.Nodes.{MaySpeak, device_restarts}

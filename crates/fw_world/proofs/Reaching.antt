@@ -2,16 +2,11 @@
 use Rattle.std.proofs.Common.{◌≡◌, ◌++◌, ◌∙◌, List, [], ◌∷◌, map, refl, sym, ap, subst}
 use Rattle.std.specs.Prelude.{Result, Ok, Err, OnOk, OnErr}
 use Rattle.fw_node.specs.Nodes.{DeviceNodeOf}
-use Rattle.fw_world.specs.Isolation.{IsReached}
-use Rattle.fw_world.specs.Messages.{RunsAreMessages}
-use Rattle.fw_world.specs.Moments.{RunsStayTied}
-use Rattle.fw_world.specs.Promises.{IsPromised, eids_of}
-use Rattle.fw_world.specs.Replays.{AreDifferent, IsOpeningWorld, Leads, Run, new_site}
-use Rattle.fw_world.specs.Safety.{WorldsAreSafe}
-use Rattle.fw_world.specs.Worlds.{WorldOf}
+use Rattle.fw_world.specs.Headline.{AreDifferent, IsOpeningWorld, IsPromised, IsReached, Leads, PacketsAreMessages, PacketsAreSafe, Run, RunsStayTied, new_site}
+use Rattle.fw_world.specs.Worlds.{WorldOf, eids_of}
 use Rattle.fw_world.specs.declared.step.Step.{Step}
 use Rattle.fw_world.specs.declared.step.StepFault.{StepFault}
-use Rattle.fw_world.proofs.Links.Keys.{eids_stay}
+use Rattle.fw_world.proofs.LinksAreLanes.Keys.{eids_stay}
 use Rattle.fw_world.proofs.Running.{run_append}
 
 pub reached_more : (w v : WorldOf) (s : Step) → IsReached w → Leads w s v → IsReached v
@@ -36,7 +31,7 @@ new_eids (n ∷ nodes) = ap (λ es. n.endpoint.eid ∷ es) (new_eids nodes)
 opening_apart : (w : WorldOf) → IsOpeningWorld w → AreDifferent (eids_of w.sites)
 opening_apart w o = subst AreDifferent (sym (ap (λ x. eids_of x.sites) o.is ∙ new_eids o.nodes)) o.are.apart.1
 
-pub promised : (w : WorldOf) → WorldsAreSafe → RunsStayTied → RunsAreMessages → IsReached w → IsPromised w
+pub promised : (w : WorldOf) → PacketsAreSafe → RunsStayTied → PacketsAreMessages → IsReached w → IsPromised w
 promised w safe tied messages r = record {
   reached = r;
   devices = run_eids r.opening w r.before r.run;

@@ -2,7 +2,7 @@
 use Rattle.std.proofs.Common.{◌<◌, ◌+◌, ◌++◌, ℕ, List, [], ◌∷◌, length, take, get_or, refl, subst, sym}
 use Rattle.std.specs.Prelude.{IsOk, OnOk, Result, Ok, Err}
 use Rattle.std.proofs.lemmas.List.{take_more}
-use Rattle.fw_world.specs.Replays.{Leads, Run}
+use Rattle.fw_world.specs.Headline.{Leads, Run}
 use Rattle.fw_world.specs.Worlds.{WorldOf}
 use Rattle.fw_world.specs.declared.step.Step.{Step}
 

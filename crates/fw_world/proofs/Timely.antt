@@ -1,8 +1,8 @@
 -- A replay keeps time over the steps that it took.
 use Rattle.std.proofs.Common.{◌≡◌, ◌<◌, ℕ, true, length, List, slice_get, take, IfErr, IfSome, OnOk, Result, Ok, Err}
 use Rattle.fw_world.specs.Clocks.{KeepsTime, RunsKeepTime}
-use Rattle.fw_world.specs.Isolation.{IsReached}
-use Rattle.fw_world.specs.Replays.{Refuses, Run, is_node}
+use Rattle.fw_world.specs.Headline.{IsReached, Run, is_node}
+use Rattle.fw_world.specs.Replays.{Refuses}
 use Rattle.fw_world.specs.Worlds.{WorldOf}
 use Rattle.fw_world.specs.declared.step.Step.{Step}
 use Rattle.fw_world.specs.declared.step.StepFault.{StepFault}

@@ -1,7 +1,7 @@
 -- The law of clocks: how many ticks a node counts while units of time pass, by the steps alone.
 use Rattle.std.specs.Prelude.{ℕ, ◌≡◌, ◌≤◌, ◌+◌, true, if◌then◌else◌, List, [], ◌∷◌}
 use Rattle.exch_lane.specs.Clocks.{late}
-use Rattle.fw_world.specs.Replays.{IsOpeningWorld, Run, is_node}
+use Rattle.fw_world.specs.Headline.{IsOpeningWorld, Run, is_node}
 use Rattle.fw_world.specs.Worlds.{WorldOf, counts}
 use Rattle.fw_world.specs.declared.step.Step.{Step}
 use Rattle.fw_world.specs.declared.step.Step.TheVariants as steps

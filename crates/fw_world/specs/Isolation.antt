@@ -8,7 +8,7 @@ use Rattle.fw_message.specs.WorldLaws.{history_of}
 use Rattle.fw_node.specs.Agents.{half_for}
 use Rattle.fw_node.specs.Halves.{HalfOf}
 use Rattle.fw_node.specs.Nodes.{DeviceNodeOf}
-use Rattle.fw_world.specs.Replays.{IsOpeningWorld, Run, faults_of}
+use Rattle.fw_world.specs.Headline.{IsReached, Run, faults_of}
 use Rattle.fw_world.specs.Worlds.{SiteOf, WorldOf, counts, site_for}
 use Rattle.fw_world.specs.declared.step.Step.{Step}
 use Rattle.fw_world.specs.declared.step.Step.TheVariants as steps
@@ -89,13 +89,6 @@ faults_at w device = faults_of (site_for w.sites device)
 pub record IsUnfailed (device : ℕ) (old new : WorldOf) : Type 0 where
   pub unrisen : faults_at new device ≤ faults_at old device
   pub counted : faults_at new device ≢ 2 ^ 64 - 1
-
--- steps led here from a world as it is made
-pub record IsReached (w : WorldOf) : Type 0 where
-  pub opening : WorldOf
-  pub before : List Step
-  pub opens : IsOpeningWorld opening
-  pub run : Run opening before w
 
 -- Two runs, each from wherever steps led: from worlds that agree in a device, where the same of their steps matters to it, and where
 -- no call of its bank failed, they lead to worlds that agree in it.

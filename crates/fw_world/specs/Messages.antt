@@ -5,9 +5,7 @@ use Rattle.fw_message.specs.Replays.{CountedWorldOf, Run as MessageRun}
 use Rattle.fw_message.specs.WorldLaws.{IsOpeningWorld as IsOpeningMessages}
 use Rattle.fw_message.specs.Worlds.{WorldOf as MessageWorldOf}
 use Rattle.fw_message.specs.declared.step.MessageStep.{MessageStep}
-use Rattle.fw_world.specs.Replays.{IsOpeningWorld, Run}
 use Rattle.fw_world.specs.Worlds.{WorldOf}
-use Rattle.fw_world.specs.declared.step.Step.{Step}
 
 -- the same packages and agent, the same devices and sessions in the same order, their idle counts aside, and the same history
 pub record IsSameWorld (w : WorldOf) (m : MessageWorldOf) : Type 0 where
@@ -29,7 +27,3 @@ pub record IsRunOfMessages (opening w : WorldOf) : Type 0 where
   pub last : CountedWorldOf
   pub run : MessageRun first steps last
   pub to : IsSameWorld w last.world
-
--- Every run of packets is one of messages.
-abbrev pub RunsAreMessages : Type 0
-RunsAreMessages = (opening w : WorldOf) (steps : List Step) → IsOpeningWorld opening → Run opening steps w → IsRunOfMessages opening w

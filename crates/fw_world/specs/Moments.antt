@@ -5,10 +5,7 @@ use Rattle.fw_message.specs.History.{EntryOf, WasApplied, recorded_in, running, 
 use Rattle.fw_message.specs.Pairs.{PairOf}
 use Rattle.fw_message.specs.WorldLaws.{history_of}
 use Rattle.fw_message.specs.Worlds.{NotedOf}
-use Rattle.fw_world.specs.Replays.{IsOpeningWorld, Run}
-use Rattle.fw_world.specs.Safety.{pair_for}
-use Rattle.fw_world.specs.Worlds.{WorldOf}
-use Rattle.fw_world.specs.declared.step.Step.{Step}
+use Rattle.fw_world.specs.Worlds.{WorldOf, pair_for}
 
 -- what was added to the history between two moments
 abbrev pub added : WorldOf → WorldOf → List NotedOf
@@ -32,16 +29,3 @@ pub record IsTiedFrom (old new : PairOf) (all since : List EntryOf) : Type 0 whe
 abbrev pub IsTiedBetween : WorldOf → WorldOf → Type 0
 IsTiedBetween old new = (eid : ℕ) → IfSome (pair_for old eid)
     (λ m. IsSomeAnd (pair_for new eid) (λ n. IsTiedFrom m n (history_of eid new.history) (history_of eid (added old new))))
-
--- A run followed by a run is a run.
-abbrev pub RunsJoin : Type 0
-RunsJoin = (w v u : WorldOf) (ss ts : List Step) → Run w ss v → Run v ts u → Run w (ss ++ ts) u
-
--- The history only grows.
-abbrev pub RunsGrow : Type 0
-RunsGrow = (old new : WorldOf) (steps : List Step) → Run old steps new → IsGrown old new
-
--- Any two moments of a run are tied.
-abbrev pub RunsStayTied : Type 0
-RunsStayTied = (opening old new : WorldOf) (before steps : List Step) → IsOpeningWorld opening
-    → Run opening before old → Run old steps new → IsTiedBetween old new

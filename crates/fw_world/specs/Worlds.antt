@@ -6,7 +6,7 @@ use Rattle.mctp_wire.specs.Packet as wire
 use Rattle.mctp_wire.specs.declared.fault.WireFault.{WireFault}
 use Rattle.mctp_wire.specs.declared.layout.Head.{Head}
 use Rattle.exch_lane.specs.Clocks.{since_after}
-use Rattle.exch_lane.specs.Lanes.{Sent, numbered}
+use Rattle.exch_lane.specs.Lanes.{Sent}
 use Rattle.exch_lane.specs.Steps.{sent_at}
 use Rattle.fw_package.specs.Package.{PackageText}
 use Rattle.fd_core.specs.Commands.{device_take}
@@ -19,8 +19,9 @@ use Rattle.sel_core.specs.Log.{sel_after, sel_reply}
 use Rattle.ua_core.specs.Session.{SessionOf, TimedOf}
 use Rattle.ua_core.specs.declared.planned.Recorded.{Recorded}
 use Rattle.fw_message.specs.History.{EntryOf}
+use Rattle.fw_message.specs.Pairs.{PairOf}
 use Rattle.fw_message.specs.Worlds.{NotedOf, noted_of}
-use Rattle.fw_node.specs.Agents.{AgentOf, activates, agent_becomes, agent_hears, agent_restarts, agent_tick_sends, agent_ticks, cancels, half_for, ready_for, starts}
+use Rattle.fw_node.specs.Agents.{AgentOf, activates, agent_becomes, agent_hears, agent_restarts, agent_tick_sends, agent_ticks, half_for}
 use Rattle.fw_node.specs.Cores.{TimedDevice, device_core}
 use Rattle.fw_node.specs.Halves.{HalfHeard, HalfOf, half_hears, half_ticks}
 use Rattle.fw_node.specs.Nodes.{DeviceNodeOf, device_hears, device_judges, device_restarts}
@@ -240,17 +241,15 @@ asks_log w (command ∷ bytes) =
       answer = Some (sel_reply w.agent.log command bytes w.now);
     }
 
--- The world after a step. `works` says whether the one call of a bank that the step makes succeeds, and `faults` is that
--- bank's count of failures then.
-abbrev pub world_after : (works : Bool) → (faults : ℕ) → WorldOf → Step → WorldOf
-world_after works faults w (steps.Deliver device number node) =
-    delivers works faults w node (numbered (packets_of w device) number)
-world_after works faults w (steps.Tick missed) = ticks missed.items w
-world_after works faults w (steps.Start device number) = calls w device (λ h. starts w.packages h number)
-world_after works faults w (steps.Cancel device) = calls w device (cancels w.packages)
-world_after works faults w (steps.Activate device) =
-    activates_on w device (ready_for w.agent device)
-world_after works faults w (steps.Verdict device verdict) =
-    judges works faults w verdict (place_of w.sites device) (site_for w.sites device)
-world_after works faults w (steps.Restart node) = restarts w node
-world_after works faults w (steps.Sel bytes) = asks_log w bytes.items
+-- the endpoint identifiers of the devices, in configured order
+abbrev pub eids_of : List SiteOf → List ℕ
+eids_of xs = map (λ x. x.node.endpoint.eid) xs
+
+-- a device and the agent's session for it
+abbrev pub pair_with : Option (HalfOf TimedOf) → Option SiteOf → Option PairOf
+pair_with None x = None
+pair_with (Some h) None = None
+pair_with (Some h) (Some x) = Some (record { device = x.node.half.core.device; session = h.core.session; down = None; up = None })
+
+abbrev pub pair_for : WorldOf → ℕ → Option PairOf
+pair_for w eid = pair_with (half_for w.agent eid) (site_for w.sites eid)

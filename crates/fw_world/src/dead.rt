@@ -10,6 +10,7 @@ use exch_lane::SentPacket;
 /// How many of the first packets are known to be dead.
 #[derive(Drop)]
 pub(crate) struct FirstDead {
+    /// So many.
     count: usize,
     /// The units that had passed when that was found.
     since: u32,

@@ -1,19 +1,16 @@
 //! What is promised of the packet world.
 
 ghost use Rattle.fw_world.specs.Clocks.{RunsKeepTime};
-ghost use Rattle.fw_world.specs.Messages.{RunsAreMessages};
-ghost use Rattle.fw_world.specs.Moments.{RunsGrow, RunsJoin, RunsStayTied};
-ghost use Rattle.fw_world.specs.Safety.{WorldsAreSafe};
+ghost use Rattle.fw_world.specs.Headline.{PacketsAreMessages, PacketsAreSafe, RunsGrow, RunsJoin, RunsStayTied};
 
-use crate::joined::links_are_messages;
-use crate::laws::links_are_lanes;
+use crate::links::{links_are_lanes, links_are_messages};
 
 /// Wherever steps lead a world of packets that began as it is made, whatever is lost, repeated, reordered or late and whoever
 /// restarts, each device that was there is there, and its history is safe: the images that a device activates in one go are
 /// those that one package names for it, each recorded since its activation before, and each record has an application of its
 /// own before it; and tied: what runs on a device and what the agent has recorded are what the history says.
 pub fn packets_are_safe()
-    ensures law { WorldsAreSafe }
+    ensures law { PacketsAreSafe }
 {
     exch_lane::lane_is_a_cell();
     links_are_lanes();
@@ -39,7 +36,7 @@ pub fn moments_are_tied()
 /// up, without packets, tags and time, that lead to the same devices and sessions, their idle counts aside, with the same
 /// history.
 pub fn packets_are_messages()
-    ensures law { RunsAreMessages }
+    ensures law { PacketsAreMessages }
 {
     exch_lane::lane_is_a_cell();
     links_are_lanes();

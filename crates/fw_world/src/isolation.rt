@@ -2,11 +2,11 @@
 
 ghost use Rattle.std.specs.Prelude.{◌≡◌, ◌<◌, IfErr, IfSome, IsOk, OnOk, length, slice_get, take};
 ghost use Rattle.fw_world.specs.Cases.{AgreementSeesThePair};
+ghost use Rattle.fw_world.specs.Headline.{Run};
 ghost use Rattle.fw_world.specs.Isolation.{AgreeIn, DevicesAreIsolated, IsUnfailed, steps_of};
-ghost use Rattle.fw_world.specs.Replays.{Refuses, Run};
+ghost use Rattle.fw_world.specs.Replays.{Refuses};
 
-use crate::joined::links_are_messages;
-use crate::laws::links_are_lanes;
+use crate::links::{links_are_lanes, links_are_messages};
 use crate::replays::replay;
 use crate::step::{Step, StepFault};
 use crate::world::World;

@@ -2,10 +2,9 @@
 
 ghost use Rattle.std.specs.Prelude.{◌≡◌, ◌<◌, IfErr, IfSome, List, OnOk, length, slice_get, take, true, ℕ};
 ghost use Rattle.fw_world.specs.Clocks.{KeepsTime};
+ghost use Rattle.fw_world.specs.Headline.{IsLed, IsOpeningWorld, IsPromised, IsSafeWorld, Run, is_node};
 ghost use Rattle.fw_world.specs.Moments.{IsGrown, IsTiedBetween};
-ghost use Rattle.fw_world.specs.Promises.{IsPromised};
-ghost use Rattle.fw_world.specs.Replays.{IsLed, IsOpeningWorld, Refuses, Run, is_node};
-ghost use Rattle.fw_world.specs.Safety.{IsSafeWorld};
+ghost use Rattle.fw_world.specs.Replays.{Refuses};
 ghost use Rattle.fw_world.specs.Worlds.{WorldOf};
 ghost use Rattle.fw_world.specs.declared.step.Step.{Step};
 

@@ -4,7 +4,9 @@ ghost use Rattle.std.specs.Prelude.{[], ◌≡◌, ◌≤◌, ◌<◌, ◌+◌, 
 ghost use Rattle.std.specs.List.{AllByRecursion, list_all};
 ghost use Rattle.fd_core.specs.Components.{HasComponents};
 ghost use Rattle.fw_message.specs.Entries.{entry_of};
-ghost use Rattle.fw_world.specs.Replays.{SiteSpeaksIn, adds_entry, may_site_beat, new_site, verdict_fault};
+ghost use Rattle.fw_world.specs.Headline.{may_site_beat, new_site, verdict_fault};
+ghost use Rattle.fw_world.specs.Replays.{adds_entry};
+ghost use Rattle.fw_world.specs.Sayable.{SiteSpeaksIn};
 ghost use Rattle.fw_world.specs.Sites.{HaveRoom, HeardAt, JudgedAt, LacksRoom, sites_of};
 ghost use Rattle.fw_world.specs.Worlds.{place_for, place_of, post, posts, site_at, site_for, site_goes_on, site_restarts};
 

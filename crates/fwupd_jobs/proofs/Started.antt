@@ -12,7 +12,7 @@ use Rattle.fw_edge.proofs.Rising.{map_length}
 use Rattle.fw_edge.specs.Ledgers.{OneFailed, packet_counts}
 use Rattle.fw_edge.specs.Links.{Rises}
 use Rattle.fw_node.specs.Nodes.{DeviceNodeOf}
-use Rattle.fw_world.specs.Replays.{Leads, Run, may_step}
+use Rattle.fw_world.specs.Headline.{Leads, Run, may_step}
 use Rattle.fw_world.specs.Worlds.{SiteOf, WorldOf}
 use Rattle.fw_world.specs.declared.step.StepFault.{StepFault}
 use Rattle.fw_world.specs.declared.step.Step.{Step}

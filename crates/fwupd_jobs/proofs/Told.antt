@@ -2,8 +2,7 @@
 use Rattle.std.proofs.Common.{◌++◌, take, ◌≡◌, ◌⊎◌, ◌<◌, ◌+◌, ℕ, Bool, List, Option, None, Some, inl, inr, length, refl, ap, subst}
 use Rattle.fw_script.specs.Reports.{report_of}
 use Rattle.fw_script.specs.Schedules.{script_of}
-use Rattle.fw_world.specs.Replays.{IsOpeningWorld}
-use Rattle.fw_world.specs.Safety.{IsSafeWorld, WorldsAreSafe}
+use Rattle.fw_world.specs.Headline.{IsOpeningWorld, IsSafeWorld, PacketsAreSafe}
 use Rattle.fw_world.specs.Worlds.{WorldOf}
 use Rattle.fw_world.specs.declared.step.Step.{Step}
 use Rattle.fw_world.specs.declared.step.StepFault.{StepFault}
@@ -17,16 +16,16 @@ use Rattle.fwupd_jobs.specs.declared.faults.RunFault.{RunFault}
 use Rattle.fwupd_jobs.specs.declared.faults.RunFault.TheVariants as faults
 
 -- the world that steps lead to is safe
-pub safe_reached : (number : ℕ) (w v : WorldOf) → WorldsAreSafe → IsOpeningWorld w → StepsLead number w v → IsSafeSince w v
+pub safe_reached : (number : ℕ) (w v : WorldOf) → PacketsAreSafe → IsOpeningWorld w → StepsLead number w v → IsSafeSince w v
 safe_reached number w v law opens h = record { begins = opens; safe = law w v (starts_of number (take h.started w.sites) ++ h.steps) opens h.run }
 
 -- and so is the one that a replay leaves
-safe_left : (w v : WorldOf) (steps : List Step) (fault : Option (ℕ × StepFault)) → WorldsAreSafe → IsOpeningWorld w → Leaves w steps fault v → IsSafeWorld w v
+safe_left : (w v : WorldOf) (steps : List Step) (fault : Option (ℕ × StepFault)) → PacketsAreSafe → IsOpeningWorld w → Leaves w steps fault v → IsSafeWorld w v
 safe_left w v steps None law opens h = law w v steps opens h
 safe_left w v steps (Some f) law opens h = law w v (take f.0 steps) opens h.1
 
 -- what a replay leaves, and what is promised of it
-pub replayed_by : (w x v : WorldOf) (steps : List Step) (fault : Option (ℕ × StepFault)) (text : List ℕ) → x ≡ w → IsOpeningWorld x → WorldsAreSafe
+pub replayed_by : (w x v : WorldOf) (steps : List Step) (fault : Option (ℕ × StepFault)) (text : List ℕ) → x ≡ w → IsOpeningWorld x → PacketsAreSafe
     → Leaves x steps fault v → text ≡ report_of v → IsReplayed w steps fault text
 replayed_by w x v steps fault text is opens law left report =
     subst (λ z. IsReplayed z steps fault text) is (record {

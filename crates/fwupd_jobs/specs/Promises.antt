@@ -1,6 +1,5 @@
 -- What is promised of the world that a program leaves.
-use Rattle.fw_world.specs.Replays.{IsOpeningWorld}
-use Rattle.fw_world.specs.Safety.{IsSafeWorld}
+use Rattle.fw_world.specs.Headline.{IsOpeningWorld, IsSafeWorld}
 use Rattle.fw_world.specs.Worlds.{WorldOf}
 
 -- The first world is one as it is made, and the second is safe since then.

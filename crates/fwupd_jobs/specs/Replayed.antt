@@ -2,7 +2,8 @@
 use Rattle.std.specs.Prelude.{ℕ, ◌≡◌, ◌<◌, ◌+◌, ◌⊎◌, IfSome, List, Option, Some, None, length, slice_get, take}
 use Rattle.fw_script.specs.Reports.{report_of}
 use Rattle.fw_script.specs.Schedules.{script_of}
-use Rattle.fw_world.specs.Replays.{Refuses, Run}
+use Rattle.fw_world.specs.Headline.{Run}
+use Rattle.fw_world.specs.Replays.{Refuses}
 use Rattle.fw_world.specs.Worlds.{WorldOf}
 use Rattle.fw_world.specs.declared.step.Step.{Step}
 use Rattle.fw_world.specs.declared.step.StepFault.{StepFault}

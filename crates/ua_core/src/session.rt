@@ -21,13 +21,22 @@ mod wishing;
 /// need its package are lent it. Only `start` takes memory.
 #[derive(Drop)]
 pub struct Session {
+    /// The state, and for how many ticks nothing moved in it.
     position: Position,
+    /// The number of the package that the update was started with, from 1 on; 0 before the first start. It counts in each state.
     package: usize,
+    /// The package's record for the device, and the components to be sent. It counts from PARAMS to ACTIVATE.
     job: Job,
+    /// The component that is being passed, or updated. It counts from PASS to APPLY.
     at_hand: Planned,
+    /// Those that are still to be passed, behind the one at hand. They count in PASS.
     left: PlannedList,
+    /// In PASS those that were passed and are to be updated; then those that are still to be updated, behind the one at hand. They
+    /// count from PASS to APPLY.
     todo: PlannedList,
+    /// How many components of this update were recorded. It counts from UPDATE to APPLY.
     made: u8,
+    /// What the device applied in all updates, in order. It counts in each state, and a restart keeps it.
     records: Vec<Recorded>,
 }
 

@@ -1,5 +1,5 @@
 use Rattle.std.proofs.Common.{arith, map, refl}
-use Rattle.fw_edge.specs.Drives.{Goes}
+use Rattle.fw_edge.specs.Drives.{DrivesCounted}
 use Rattle.fw_edge.proofs.Gaining.{drives_gain}
 use Rattle.fw_edge.proofs.Going.{goes_off, goes_sum}
 use Rattle.fw_edge.proofs.Parts.{stops_on, told_kept}
@@ -16,7 +16,7 @@ returns-in-Err-exchange-clause-stopped g c = record {
 
 pub returns-in-Err-judge_all-clause-stopped : goal.returns-in-Err-judge_all-clause-stopped
 returns-in-Err-judge_all-clause-stopped g c =
-    let first : Goes c.args.world.now c.args.steps.now.items c.exchange.new.world c.exchange.new.steps.items 1 c.in-Ok-exchange.frames.known =
+    let first : DrivesCounted c.args.world.now c.args.steps.now.items c.exchange.new.world c.exchange.new.steps.items 1 c.in-Ok-exchange.frames.known =
     goes_sum c.args.world.now c.tick.new.world c.exchange.new.world c.args.steps.now.items c.tick.new.steps.items c.exchange.new.steps.items
     1 0 0 c.in-Ok-exchange.frames.known 1 c.in-Ok-exchange.frames.known c.in-Ok.ensures.goes c.in-Ok-exchange.ensures.done.goes refl (omega arith) in
     record {
@@ -31,10 +31,10 @@ returns-in-Err-judge_all-clause-stopped g c =
 
 pub returns-in-Err-activate_all-clause-stopped : goal.returns-in-Err-activate_all-clause-stopped
 returns-in-Err-activate_all-clause-stopped g c =
-    let first : Goes c.args.world.now c.args.steps.now.items c.exchange.new.world c.exchange.new.steps.items 1 c.in-Ok-exchange.frames.known =
+    let first : DrivesCounted c.args.world.now c.args.steps.now.items c.exchange.new.world c.exchange.new.steps.items 1 c.in-Ok-exchange.frames.known =
     goes_sum c.args.world.now c.tick.new.world c.exchange.new.world c.args.steps.now.items c.tick.new.steps.items c.exchange.new.steps.items
     1 0 0 c.in-Ok-exchange.frames.known 1 c.in-Ok-exchange.frames.known c.in-Ok.ensures.goes c.in-Ok-exchange.ensures.done.goes refl (omega arith) in
-    let second : Goes c.args.world.now c.args.steps.now.items c.judge_all.new.world c.judge_all.new.steps.items 1 c.in-Ok-exchange.frames.known =
+    let second : DrivesCounted c.args.world.now c.args.steps.now.items c.judge_all.new.world c.judge_all.new.steps.items 1 c.in-Ok-exchange.frames.known =
     goes_sum c.args.world.now c.exchange.new.world c.judge_all.new.world c.args.steps.now.items c.exchange.new.steps.items c.judge_all.new.steps.items
     1 c.in-Ok-exchange.frames.known 0 0 1 c.in-Ok-exchange.frames.known first c.in-Ok-judge_all.ensures.quiet.goes refl (omega arith) in
     record {
@@ -49,10 +49,10 @@ returns-in-Err-activate_all-clause-stopped g c =
 
 pub returns-clause-done : goal.returns-clause-done
 returns-clause-done g c =
-    let first : Goes c.args.world.now c.args.steps.now.items c.exchange.new.world c.exchange.new.steps.items 1 c.in-Ok-exchange.frames.known =
+    let first : DrivesCounted c.args.world.now c.args.steps.now.items c.exchange.new.world c.exchange.new.steps.items 1 c.in-Ok-exchange.frames.known =
     goes_sum c.args.world.now c.tick.new.world c.exchange.new.world c.args.steps.now.items c.tick.new.steps.items c.exchange.new.steps.items
     1 0 0 c.in-Ok-exchange.frames.known 1 c.in-Ok-exchange.frames.known c.in-Ok.ensures.goes c.in-Ok-exchange.ensures.done.goes refl (omega arith) in
-    let second : Goes c.args.world.now c.args.steps.now.items c.judge_all.new.world c.judge_all.new.steps.items 1 c.in-Ok-exchange.frames.known =
+    let second : DrivesCounted c.args.world.now c.args.steps.now.items c.judge_all.new.world c.judge_all.new.steps.items 1 c.in-Ok-exchange.frames.known =
     goes_sum c.args.world.now c.exchange.new.world c.judge_all.new.world c.args.steps.now.items c.exchange.new.steps.items c.judge_all.new.steps.items
     1 c.in-Ok-exchange.frames.known 0 0 1 c.in-Ok-exchange.frames.known first c.in-Ok-judge_all.ensures.quiet.goes refl (omega arith) in
     record {

@@ -1,5 +1,5 @@
 use Rattle.std.proofs.Common.{◌+◌, [], arith, map, refl}
-use Rattle.fw_world.specs.Promises.{eids_of}
+use Rattle.fw_world.specs.Worlds.{eids_of}
 use Rattle.fw_edge.specs.Links.{links_at}
 use Rattle.fw_edge.proofs.Failing.{same_from, told_from}
 use Rattle.fw_edge.proofs.Going.{goes_none, goes_off, goes_sum}

@@ -1,7 +1,7 @@
 use Rattle.std.proofs.Common.{◌+◌, ◌*◌, arith, inl, inr, map, refl}
 use Rattle.fw_edge.proofs.Going.{goes_none, goes_sum}
 use Rattle.fw_edge.proofs.Parts.{exchanged_less, exchanged_none, exchanged_on, stopped_later}
-use Rattle.fw_world.specs.Promises.{eids_of}
+use Rattle.fw_world.specs.Worlds.{eids_of}
 use Rattle.fw_edge.specs.Links.{links_at}
 use Rattle.fw_edge.proofs.Turning.{rounds_next, rounds_read, same_round}
 use Rattle.fw_edge.proofs.rounds.rounds.Goals.{then-count-eq0-via-then-count-eq0, then-count-eq0-via-else-count-eq0+then-count-ge-MAX_FRAMES}

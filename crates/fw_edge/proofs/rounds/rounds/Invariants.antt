@@ -1,7 +1,7 @@
 use Rattle.std.proofs.Common.{◌<◌, ◌+◌, ◌*◌, map}
-use Rattle.fw_edge.specs.Drives.{Goes}
+use Rattle.fw_edge.specs.Drives.{DrivesCounted}
 use Rattle.fw_edge.specs.Ledgers.{NoneFell, packet_counts}
-use Rattle.fw_world.specs.Promises.{eids_of}
+use Rattle.fw_world.specs.Worlds.{eids_of}
 use Rattle.fw_edge.specs.Links.{links_at}
 use Rattle.fw_edge.specs.Outcomes.{LinksExchanged}
 use Rattle.fw_edge.specs.Turns.{RoundsOn}
@@ -10,7 +10,7 @@ use Rattle.fw_edge.proofs.rounds.rounds.Given as goal
 -- none failed, and few frames came
 abbrev pub invariant-loop : goal.invariant-loop
 invariant-loop g l = record {
-  goes : Goes l.fn.world l.fn.steps.items l.world l.steps.items 0 l.frames.known;
+  goes : DrivesCounted l.fn.world l.fn.steps.items l.world l.steps.items 0 l.frames.known;
   on : RoundsOn (eids_of l.fn.world.sites) l.counter l.fn.world l.fn.steps.items (links_at l.fn.written (map g.L.Link.taken l.fn.links) (map g.L.Link.gave l.fn.links)) l.world l.steps.items (links_at l.written (map g.L.Link.taken l.links) (map g.L.Link.gave l.links)) (l.frames.known + l.frames.foreign);
   few : l.frames.known + l.frames.foreign < 1024;
   counts : LinksExchanged g.L.Link.tally (2 * l.counter) (l.frames.known + l.frames.foreign) l.fn.written l.written l.fn.links l.links;

@@ -2,7 +2,7 @@ use Rattle.std.proofs.Common.{◌≡◌, ◌++◌, length, map}
 use Rattle.std.specs.List.{AllByRecursion}
 use Rattle.fw_script.specs.Seen.{device_of}
 use Rattle.fw_script.specs.Whole.{IsDevice}
-use Rattle.fw_world.specs.Replays.{IsNewNode}
+use Rattle.fw_world.specs.Headline.{IsNewNode}
 use Rattle.fw_setup.specs.Nodes.{nodes_made}
 use Rattle.fw_setup.proofs.nodes.node_all.Given as goal
 

@@ -1,4 +1,4 @@
-use Rattle.fw_world.proofs.Worlds.Clocks.{runs_keep_time}
+use Rattle.fw_world.proofs.PacketsAreSafe.Clocks.{runs_keep_time}
 use Rattle.fw_world.proofs.headline.clocks_keep_time.Goals as goal
 
 pub returns : goal.returns

@@ -1,5 +1,5 @@
-use Rattle.fw_world.proofs.Worlds.Grown.{runs_grow}
-use Rattle.fw_world.proofs.Worlds.Tied.{runs_join, runs_stay_tied}
+use Rattle.fw_world.proofs.PacketsAreSafe.Grown.{runs_grow}
+use Rattle.fw_world.proofs.PacketsAreSafe.Tied.{runs_join, runs_stay_tied}
 use Rattle.fw_world.proofs.headline.moments_are_tied.Goals as goal
 
 pub returns : goal.returns

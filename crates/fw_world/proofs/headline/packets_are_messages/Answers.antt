@@ -1,4 +1,4 @@
-use Rattle.fw_world.proofs.Worlds.AsMessages.{runs_are_messages}
+use Rattle.fw_world.proofs.PacketsAreSafe.AsMessages.{runs_are_messages}
 use Rattle.fw_world.proofs.headline.packets_are_messages.Goals as goal
 
 pub returns : goal.returns

@@ -1,4 +1,4 @@
-use Rattle.fw_world.proofs.Worlds.Safe.{worlds_safe}
+use Rattle.fw_world.proofs.PacketsAreSafe.Safe.{worlds_safe}
 use Rattle.fw_world.proofs.headline.packets_are_safe.Goals as goal
 
 pub returns : goal.returns

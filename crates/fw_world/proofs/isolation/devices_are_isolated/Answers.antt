@@ -1,4 +1,4 @@
-use Rattle.fw_world.proofs.Isolated.Runs.{devices_isolated}
+use Rattle.fw_world.proofs.DevicesAreIsolated.Runs.{devices_isolated}
 use Rattle.fw_world.proofs.isolation.devices_are_isolated.Goals as goal
 
 pub returns : goal.returns

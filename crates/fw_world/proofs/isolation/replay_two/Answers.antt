@@ -1,4 +1,4 @@
-use Rattle.fw_world.specs.Replays.{Run}
+use Rattle.fw_world.specs.Headline.{Run}
 use Rattle.fw_world.proofs.Running.{all_taken}
 use Rattle.fw_world.proofs.isolation.replay_two.Goals as goal
 

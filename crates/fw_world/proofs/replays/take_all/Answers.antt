@@ -1,5 +1,5 @@
 use Rattle.std.proofs.Common.{subst, take}
-use Rattle.fw_world.specs.Replays.{Leads}
+use Rattle.fw_world.specs.Headline.{Leads}
 use Rattle.fw_world.proofs.Running.{run_next}
 use Rattle.fw_world.proofs.replays.take_all.Goals as goal
 

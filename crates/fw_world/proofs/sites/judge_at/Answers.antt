@@ -1,6 +1,6 @@
 use Rattle.std.proofs.Common.{◌∙◌, ap, get_or}
 use Rattle.std.proofs.lemmas.List.{map-set}
-use Rattle.fw_world.specs.Replays.{verdict_fault}
+use Rattle.fw_world.specs.Headline.{verdict_fault}
 use Rattle.fw_world.proofs.Places.{found_at, same_put}
 use Rattle.fw_world.proofs.sites.judge_at.Goals as goal
 

@@ -1,7 +1,7 @@
 use Rattle.std.proofs.Common.{◌≡◌, ◌++◌, length, map}
 use Rattle.std.specs.List.{AllByRecursion}
 use Rattle.fd_core.specs.Components.{HasComponents}
-use Rattle.fw_world.specs.Replays.{new_site}
+use Rattle.fw_world.specs.Headline.{new_site}
 use Rattle.fw_world.specs.Sites.{sites_of}
 use Rattle.fw_world.proofs.sites.new_sites.Given as goal
 

@@ -1,6 +1,6 @@
 use Rattle.std.proofs.Common.{◌≡◌, ◌++◌, [], drop, length, map, take}
 use Rattle.std.specs.List.{AllByRecursion}
-use Rattle.fw_world.specs.Replays.{SiteSpeaksIn}
+use Rattle.fw_world.specs.Sayable.{SiteSpeaksIn}
 use Rattle.fw_world.specs.Sites.{HaveRoom, sites_of}
 use Rattle.fw_world.specs.Worlds.{site_goes_on}
 use Rattle.fw_world.proofs.sites.pass_all.Given as goal

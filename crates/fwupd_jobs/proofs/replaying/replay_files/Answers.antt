@@ -1,7 +1,7 @@
 use Rattle.std.proofs.Common.{arith, map, refl}
 use Rattle.std.specs.Prelude.{string_bytes}
 use Rattle.fw_script.specs.Seen.{device_of}
-use Rattle.fw_world.specs.Replays.{new_world}
+use Rattle.fw_world.specs.Headline.{new_world}
 use Rattle.fw_setup.specs.Nodes.{nodes_made}
 use Rattle.fwupd_jobs.proofs.Packed.{packed_slice, set_up}
 use Rattle.fwupd_jobs.proofs.Told.{breaks_off, place_within, replay_reports, report_there, schedule_ends, step_ends}

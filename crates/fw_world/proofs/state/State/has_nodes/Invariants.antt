@@ -1,6 +1,6 @@
 use Rattle.std.proofs.Common.{◌≡◌, drop}
 use Rattle.std.specs.List.{list_all}
-use Rattle.fw_world.specs.Replays.{is_node}
+use Rattle.fw_world.specs.Headline.{is_node}
 use Rattle.fw_world.proofs.state.State.has_nodes.Given as goal
 
 -- those that are left decide

@@ -3,9 +3,9 @@ use Rattle.std.proofs.lemmas.List.{with_items_is}
 use Rattle.std.specs.Vec.{with_items}
 use Rattle.std.specs.List.{AllByRecursion}
 use Rattle.fw_node.specs.Agents.{HalfMaySpeak, agent_ticks}
-use Rattle.fw_world.specs.Replays.{SiteSpeaksIn}
-use Rattle.fw_world.specs.Worlds.{agent_pass_sends}
+use Rattle.fw_world.specs.Sayable.{SiteSpeaksIn}
 use Rattle.fw_world.specs.Sites.{sites_of}
+use Rattle.fw_world.specs.Worlds.{agent_pass_sends}
 use Rattle.fw_world.proofs.Places.{speak_before}
 use Rattle.fw_world.proofs.state.State.pass.Goals as goal
 

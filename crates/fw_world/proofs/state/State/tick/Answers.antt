@@ -1,7 +1,8 @@
 use Rattle.std.proofs.Common.{◌<◌, ◌≡◌, ◌∙◌, ap, arith, subst, sym, true}
 use Rattle.std.proofs.lemmas.Bool.{lt-ltb}
 use Rattle.std.specs.List.{AllByRecursion, list_all}
-use Rattle.fw_world.specs.Replays.{AgentSpeaksIn, SiteSpeaksIn, is_node, may_all_beat}
+use Rattle.fw_world.specs.Headline.{is_node, may_all_beat}
+use Rattle.fw_world.specs.Sayable.{AgentSpeaksIn, SiteSpeaksIn}
 use Rattle.fw_world.specs.Worlds.{ticks}
 use Rattle.fw_world.proofs.Leading.{tick_goes, tick_leads}
 use Rattle.fw_world.proofs.state.State.tick.Goals as goal

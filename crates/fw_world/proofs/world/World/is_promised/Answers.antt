@@ -1,5 +1,5 @@
 use Rattle.std.proofs.Common.{subst}
-use Rattle.fw_world.specs.Promises.{IsPromised}
+use Rattle.fw_world.specs.Headline.{IsPromised}
 use Rattle.fw_world.proofs.Reaching.{promised}
 use Rattle.fw_world.proofs.world.World.is_promised.Goals as goal
 
