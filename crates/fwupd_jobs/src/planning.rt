@@ -5,11 +5,11 @@ ghost use Rattle.fwupd_jobs.specs.Planned.{PlanEnds, Plans};
 
 use crate::faults::RunFault;
 use crate::files::Files;
-use fw_setup::forecast;
 use crate::numbering::{is_numbered, numbered};
 use crate::output::Output;
 use crate::setups::{configuration, package_files, packages_in};
 use fw_script::Config;
+use fw_setup::forecast;
 use std::alloc::Global;
 use std::io::Write;
 

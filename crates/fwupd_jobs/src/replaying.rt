@@ -9,11 +9,11 @@ ghost use Rattle.fwupd_jobs.specs.Replayed.{IsReplayed, ReplayEnds, Reports};
 
 use crate::faults::RunFault;
 use crate::files::Files;
-use fw_setup::opening_world;
 use crate::output::Output;
 use crate::setups::{configuration, package_files, packages_in, schedule};
 use fw_package::Package;
 use fw_script::{Config, DeviceConfig, report};
+use fw_setup::opening_world;
 use fw_world::{Step, StepFault, packets_are_safe, replay};
 use mctp_ctl::Endpoint;
 use std::alloc::{AllocError, Global};

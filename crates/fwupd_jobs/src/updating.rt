@@ -10,7 +10,6 @@ ghost use Rattle.fwupd_jobs.specs.Running.{DrivingEnds, IsApart, IsBarred, IsCau
 use crate::command_line::Show;
 use crate::faults::RunFault;
 use crate::files::{Files, is_read};
-use fw_setup::opening_world;
 use crate::numbering::is_numbered;
 use crate::output::Output;
 use crate::running::{Watch, WatchFault, update_watched, watch_fault};
@@ -19,6 +18,7 @@ use crate::setups::{configuration, package_files, packages_in};
 use fd_core::MemBank;
 use fw_edge::{EdgeFault, Link};
 use fw_script::{Config, report};
+use fw_setup::opening_world;
 use fw_world::{World, packets_are_safe};
 use std::alloc::Global;
 use std::io::Write;
