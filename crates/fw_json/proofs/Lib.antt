@@ -1,0 +1,4 @@
+mod Chains
+mod Numbers
+mod Reading
+mod Inspected

@@ -1,0 +1,8 @@
+//! What `--json` writes: the inspection of a package, the report of a world, and what an update would come to, each as one value
+//! of JSON on a line of its own.
+#![tactic(auto)]
+
+mod fields;
+mod inspection;
+
+pub use inspection::inspect_json;
