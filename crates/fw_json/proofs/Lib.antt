@@ -2,3 +2,4 @@ mod Chains
 mod Numbers
 mod Reading
 mod Inspected
+mod Reported

@@ -12,6 +12,6 @@ last_number = refl
 
 pub next_number : (n : ℕ) → n < 2 ^ 64 → IsNumber (decimal (n + 1))
 next_number n small = elim (cases_lt (n + 1) (2 ^ 64)) [
-    inl less ↦ IsNumber-decimal (n + 1) less
+  | inl less ↦ IsNumber-decimal (n + 1) less
   | inr more ↦ subst (λ k. IsNumber (decimal k)) (omega arith) last_number
-  ]
+]

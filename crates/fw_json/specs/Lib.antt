@@ -1,3 +1,5 @@
 pub mod Values
 pub mod Writing
 pub mod Inspections
+pub mod Reports
+pub mod Forms

@@ -1,8 +1,8 @@
 -- Values of JSON, and the line that a value is written as.
-use Rattle.std.specs.Prelude.{◌≡◌, ℕ, ◌+◌, List, [], ◌∷◌, ◌++◌, decimal, Some}
+use Rattle.std.specs.Prelude.{◌≡◌, ℕ, ◌+◌, List, [], ◌∷◌, ◌++◌, decimal, Option, Some, None}
 use Rattle.std.specs.List.{flat_map}
 use Rattle.hex.specs.Hex.{encode_upper}
-use Rattle.json.specs.Json.{Json, document, number, string, array, object, Items, no_items, item, Members, no_members, member}
+use Rattle.json.specs.Json.{Json, document, null, number, string, array, object, Items, no_items, item, Members, no_members, member}
 use Rattle.json.specs.Print.{print}
 use Rattle.json.specs.Tree.{json_tokens}
 use Rattle.fw_text.specs.Printing.{escaped}
@@ -36,6 +36,11 @@ in_digits bytes = string (encode_upper bytes)
 -- a text as it is printed between quotes
 abbrev pub spelled : List ℕ → Json
 spelled text = string (flat_map escaped text)
+
+-- what is absent is null
+abbrev pub optional : {A : Type 0} → (A → Json) → Option A → Json
+optional f None = null
+optional f (Some x) = f x
 
 -- a value's line: its bytes, and a line feed
 abbrev pub line_of : Json → List ℕ

@@ -2,13 +2,16 @@
 //!
 //! Their only error is want of memory; of the tokens nothing is known then.
 
-ghost use Rattle.std.specs.Prelude.{◌≡◌, ◌+◌, ◌++◌, [], ◌∷◌, IfOk, OnOk, decimal, string_bytes};
+ghost use Rattle.std.specs.Prelude.{◌≡◌, ◌+◌, ◌++◌, [], ◌∷◌, IfOk, OnOk, decimal, option_map, string_bytes};
 ghost use Rattle.std.specs.List.{flat_map};
 ghost use Rattle.hex.specs.Hex.{encode_upper};
+ghost use Rattle.json.specs.Json as Json;
 ghost use Rattle.json.specs.Lex.{tokens};
 ghost use Rattle.json.specs.Print.{print};
 ghost use Rattle.json.specs.Token.{begin_array, begin_object, boolean, end_array, end_object, key, null, number, string};
+ghost use Rattle.json.specs.Tree.{json_tokens};
 ghost use Rattle.fw_text.specs.Printing.{escaped};
+ghost use Rattle.fw_json.specs.Values.{in_digits, optional};
 ghost use Rattle.fw_json.specs.Writing.{Tells};
 
 use json::Writer;
@@ -47,6 +50,14 @@ pub(crate) fn open_array_field(writer: &mut Writer, name: &str) -> Result<(), Al
     Ok(())
 }
 
+/// Writes a key.
+pub(crate) fn push_key(writer: &mut Writer, name: &str) -> Result<(), AllocError>
+    ensures { OnOk result (Tells writer.old writer.new (key name.now ∷ [])) }
+{
+    writer.key(name)?;
+    Ok(())
+}
+
 /// Writes the number after this place.
 pub(crate) fn push_next(alloc: Global, writer: &mut Writer, place: usize) -> Result<(), AllocError>
     ensures { OnOk result (Tells writer.old writer.new (number (decimal (place + 1)) ∷ [])) }
@@ -80,6 +91,63 @@ pub(crate) fn push_word_field(
     writer.key(name)?;
     writer.string(words)?;
     Ok(())
+}
+
+/// Writes a key and whether something holds.
+pub(crate) fn push_flag_field(
+    writer: &mut Writer,
+    name: &str,
+    holds: bool,
+) -> Result<(), AllocError>
+    ensures { OnOk result (Tells writer.old writer.new (key name.now ∷ boolean holds ∷ [])) }
+{
+    writer.key(name)?;
+    writer.boolean(holds)?;
+    Ok(())
+}
+
+/// Writes a key, and words or null.
+pub(crate) fn push_optional_word_field(
+    writer: &mut Writer,
+    name: &str,
+    words: Option<&str>,
+) -> Result<(), AllocError>
+    ensures { OnOk result (Tells writer.old writer.new (key name.now ∷ json_tokens (optional Json.string (option_map (λ w. w.now) words.entry)))) }
+{
+    writer.key(name)?;
+    match words {
+        Some(words) => writer.string(words)?,
+        None => writer.null()?,
+    }
+    Ok(())
+}
+
+/// Writes a key and the number after this place.
+pub(crate) fn push_next_field(
+    alloc: Global,
+    writer: &mut Writer,
+    name: &str,
+    place: usize,
+) -> Result<(), AllocError>
+    ensures { OnOk result (Tells writer.old writer.new (key name.now ∷ number (decimal (place + 1)) ∷ [])) }
+{
+    writer.key(name)?;
+    push_next(alloc, writer, place)
+}
+
+/// Writes a key, and bytes in upper-case digits or null.
+pub(crate) fn push_optional_digits_field(
+    alloc: Global,
+    writer: &mut Writer,
+    name: &str,
+    bytes: Option<&[u8]>,
+) -> Result<(), AllocError>
+    ensures { OnOk result (Tells writer.old writer.new (key name.now ∷ json_tokens (optional in_digits (option_map (λ b. b.now) bytes.entry)))) }
+{
+    match bytes {
+        Some(bytes) => push_digits_field(alloc, writer, name, bytes),
+        None => push_optional_word_field(writer, name, None),
+    }
 }
 
 /// Writes a key, and bytes in upper-case digits, two each.

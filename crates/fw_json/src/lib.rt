@@ -3,6 +3,10 @@
 #![tactic(auto)]
 
 mod fields;
+mod forms;
 mod inspection;
+mod report;
 
+pub use forms::{Form, inspect_in, report_in};
 pub use inspection::inspect_json;
+pub use report::report_json;
