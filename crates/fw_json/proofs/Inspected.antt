@@ -6,7 +6,7 @@ use Rattle.fw_package.specs.Package.{ComponentOf, DescriptorOf, PackageText, Rec
 use Rattle.fw_json.specs.Inspections.{component_value, descriptor_value, inspection_value, record_value, use_value}
 use Rattle.fw_json.proofs.Reading.{counted_shallow, items_shallow}
 
-descriptor_shallow : (d : DescriptorOf) → depth (descriptor_value d) ≤ 1
+pub descriptor_shallow : (d : DescriptorOf) → depth (descriptor_value d) ≤ 1
 unfolding descriptor_value
 descriptor_shallow d = omega arith
 

@@ -3,3 +3,4 @@ mod Numbers
 mod Reading
 mod Inspected
 mod Reported
+mod Planned

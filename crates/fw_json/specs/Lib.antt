@@ -2,4 +2,5 @@ pub mod Values
 pub mod Writing
 pub mod Inspections
 pub mod Reports
+pub mod Plans
 pub mod Forms

@@ -58,6 +58,14 @@ pub(crate) fn push_key(writer: &mut Writer, name: &str) -> Result<(), AllocError
     Ok(())
 }
 
+/// Writes null.
+pub(crate) fn push_null(writer: &mut Writer) -> Result<(), AllocError>
+    ensures { OnOk result (Tells writer.old writer.new (null ∷ [])) }
+{
+    writer.null()?;
+    Ok(())
+}
+
 /// Writes the number after this place.
 pub(crate) fn push_next(alloc: Global, writer: &mut Writer, place: usize) -> Result<(), AllocError>
     ensures { OnOk result (Tells writer.old writer.new (number (decimal (place + 1)) ∷ [])) }

@@ -1,14 +1,18 @@
 //! The form in which something is written.
 
-ghost use Rattle.std.specs.Prelude.{◌≡◌, ◌≢◌, Err, IfErr, IfOk, IsOk, Ok};
+ghost use Rattle.std.specs.Prelude.{◌≡◌, ◌≢◌, Err, IfErr, IfOk, IsOk, Ok, map};
 ghost use Rattle.std.specs.Result.{result_map_both};
 ghost use Rattle.fw_package.specs.Reading.{package_of};
-ghost use Rattle.fw_json.specs.Forms.{inspection_in, report_in};
+ghost use Rattle.fw_script.specs.Seen.{device_of};
+ghost use Rattle.fw_json.specs.Forms.{inspection_in, plan_in, report_in};
 
 use crate::inspection::inspect_json;
+use crate::plan::plan_json;
 use crate::report::report_json;
 use fd_core::Bank;
-use fw_script::report;
+use fw_package::Package;
+use fw_script::{DeviceConfig, report};
+use fw_setup::forecast;
 use fw_world::World;
 use fwupd_base::{InspectFault, inspect};
 use std::alloc::{AllocError, Global};
@@ -51,5 +55,24 @@ pub fn report_in<'a, B: Bank + Drop>(
     match form {
         Form::Text => report(alloc, world),
         Form::Json => report_json(alloc, world),
+    }
+}
+
+/// What an update of each of these devices comes to, with the package of this number, in a form.
+///
+/// # Errors
+/// `AllocError` where memory for it is refused.
+pub fn plan_in(
+    alloc: Global,
+    number: usize,
+    contents: &Package<'_>,
+    devices: &[DeviceConfig],
+    form: Form,
+) -> Result<Vec<u8>, AllocError>
+    ensures { IfOk result (λ text. text.items ≡ plan_in form number contents.now (map device_of devices.now)) }
+{
+    match form {
+        Form::Text => forecast(alloc, number, contents, devices),
+        Form::Json => plan_json(alloc, number, contents, devices),
     }
 }

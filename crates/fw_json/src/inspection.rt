@@ -21,7 +21,7 @@ use std::alloc::{AllocError, Global};
 
 /// Writes a descriptor.
 #[tactic(auto, unfolding(crate::specs::Inspections::descriptor_value))]
-fn push_descriptor(
+pub(crate) fn push_descriptor(
     alloc: Global,
     writer: &mut Writer,
     descriptor: Descriptor<'_>,

@@ -200,7 +200,13 @@ fn push_planned(
 }
 
 /// A device's descriptors, as a package is asked for them.
-fn known<'a>(alloc: Global, descriptors: Descriptors<'a>) -> Result<Vec<Descriptor<'a>>, AllocError>
+///
+/// # Errors
+/// `AllocError` where memory for them is refused.
+pub fn known<'a>(
+    alloc: Global,
+    descriptors: Descriptors<'a>,
+) -> Result<Vec<Descriptor<'a>>, AllocError>
     ensures { IfOk result (λ known. map descriptor_of known.items ≡ map told_descriptor descriptors.entry) }
 {
     let mut known = Vec::new(alloc);

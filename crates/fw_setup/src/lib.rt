@@ -6,6 +6,9 @@ mod forecast_laws;
 mod forecast_text;
 mod nodes;
 
+pub use forecast::{
+    component_word, first_lacked, key, passed, plan_word, running, sent_stamp, update_word,
+};
 pub use forecast_laws::foretells_sessions;
-pub use forecast_text::forecast;
+pub use forecast_text::{forecast, known};
 pub use nodes::opening_world;
