@@ -1,5 +1,5 @@
 -- The value of a package nests five deep.
-use Rattle.std.proofs.Common.{◌≤◌, ℕ, refl, arith}
+use Rattle.std.proofs.Common.{◌≤◌, ℕ, arith}
 use Rattle.json.specs.Json.{max_depth}
 use Rattle.json.specs.Tree.{depth}
 use Rattle.fw_package.specs.Package.{ComponentOf, DescriptorOf, PackageText, RecordOf}

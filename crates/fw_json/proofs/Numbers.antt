@@ -1,5 +1,5 @@
 -- The number after one of 64 bits is written as a number of JSON.
-use Rattle.std.proofs.Common.{◌≡◌, ◌^◌, ◌+◌, ◌<◌, ℕ, Some, [], decimal, refl, arith, subst, inl, inr}
+use Rattle.std.proofs.Common.{◌^◌, ◌+◌, ◌<◌, ℕ, decimal, refl, arith, subst, inl, inr}
 use Rattle.std.proofs.lemmas.Bool.{cases_lt}
 use Rattle.std.specs.Fmt.{digits}
 use Rattle.json.specs.Print.{IsNumber}

@@ -1,5 +1,5 @@
 -- The value of what an update would come to nests seven deep.
-use Rattle.std.proofs.Common.{◌≡◌, ◌≤◌, ◌+◌, ℕ, codes, List, Option, Some, None, Result, Ok, Err, map, refl, arith}
+use Rattle.std.proofs.Common.{◌≤◌, ◌+◌, ℕ, codes, List, Option, Some, None, Result, Ok, Err, map, arith}
 use Rattle.json.specs.Json.{Json, Items, max_depth, no_items, null}
 use Rattle.json.specs.Tree.{depth, items_depth}
 use Rattle.fd_core.specs.Images.{RowOf, row_of}
@@ -8,12 +8,12 @@ use Rattle.fw_package.specs.Choice.{component_at, plan_of, record_at, record_num
 use Rattle.fw_package.specs.Package.{ComponentOf, DescriptorOf, PackageText, RecordOf}
 use Rattle.fw_package.specs.declared.fault.PlanFault.{PlanFault}
 use Rattle.fw_script.specs.Configs.{DeviceConfigOf}
-use Rattle.fw_setup.specs.Forecasts.{component_word, first_lacked, passed, plan_word, update_word}
+use Rattle.fw_setup.specs.Forecasts.{first_lacked, plan_word, update_word}
 use Rattle.fw_setup.specs.Nodes.{device_made}
 use Rattle.ua_core.specs.Lent.{key_of, told_descriptor}
 use Rattle.fw_json.specs.Inspections.{descriptor_value}
 use Rattle.fw_json.specs.Plans.{configured_value, device_forecast, found_value, lack_value, offer_items, offer_value, plan_value, planned_value, running_value}
-use Rattle.fw_json.specs.Values.{counted, counted_items, items, optional, spelled}
+use Rattle.fw_json.specs.Values.{counted, counted_items, optional, spelled}
 use Rattle.fw_json.proofs.Inspected.{descriptor_shallow}
 use Rattle.fw_json.proofs.Reading.{counted_shallow, items_shallow}
 
@@ -40,10 +40,10 @@ offer_shallow rows c =
 offers_shallow : (p : PackageText) (rows : List RowOf) (ns : List ℕ) → items_depth (offer_items p rows ns) ≤ 2
 offers_shallow p rows ns = items_shallow (λ n. offer_value rows (component_at p n)) 2 (λ n. offer_shallow rows (component_at p n)) ns
 
-forecast_shallow : (eid : ℕ) (number set : Json) (word : List ℕ) (lacks components : Items) → depth number ≤ 0 → depth set ≤ 0 → items_depth lacks ≤ 2
-    → items_depth components ≤ 2 → depth (device_forecast eid number set word lacks components) ≤ 4
+forecast_shallow : (eid : ℕ) (chosen set : Json) (word : List ℕ) (lacks components : Items) → depth chosen ≤ 0 → depth set ≤ 0 → items_depth lacks ≤ 2
+    → items_depth components ≤ 2 → depth (device_forecast eid chosen set word lacks components) ≤ 4
 unfolding device_forecast
-forecast_shallow eid number set word lacks components flat_number flat_set few some = omega (arith, flat_number, flat_set, few, some)
+forecast_shallow eid chosen set word lacks components flat_chosen flat_set few some = omega (arith, flat_chosen, flat_set, few, some)
 
 planned_shallow : (eid chosen : ℕ) (p : PackageText) (rows : List RowOf) (r : Result (List ℕ) PlanFault) → depth (planned_value eid chosen p rows r) ≤ 4
 planned_shallow eid chosen p rows (Err fault) =

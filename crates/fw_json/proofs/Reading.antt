@@ -1,11 +1,10 @@
 -- What is written of a value reads back as that value.
-use Rattle.std.proofs.Common.{◌≡◌, ◌≤◌, ◌^◌, ℕ, suc, zero, ◌+◌, List, [], ◌∷◌, ◌++◌, Some, decimal, max, option_and_then, refl, sym, ap, ◌∙◌, arith, append-nil, Result, Ok, Err, OnOk}
-use Rattle.json.specs.Json.{Json, if_last, value, max_depth, document}
+use Rattle.std.proofs.Common.{◌≡◌, ◌≤◌, ℕ, ◌+◌, List, [], ◌∷◌, option_and_then, sym, ap, ◌∙◌, arith, append-nil, Result, Ok, Err, OnOk}
+use Rattle.json.specs.Json.{Json, if_last, value, max_depth}
 use Rattle.json.specs.Lex.{tokens}
-use Rattle.json.specs.Print.{print, IsNumber}
+use Rattle.json.specs.Print.{print}
 use Rattle.json.specs.Token.{Token}
 use Rattle.json.specs.Tree.{json_tokens, depth, items_depth}
-use Rattle.json.proofs.Printed.Decimals.{IsNumber-decimal}
 use Rattle.json.proofs.Printed.Trees.{value-json_tokens}
 use Rattle.fw_json.specs.Values.{ReadsBack, counted_items, items}
 

@@ -1,6 +1,6 @@
 -- The value of a package that `fwupd inspect --json` writes: the package, its records with their descriptors, its components. What
 -- a key names is what the text of `fwupd inspect` has in its place; keys are only ever added.
-use Rattle.std.specs.Prelude.{ℕ, ◌+◌, List, [], ◌∷◌, codes, length}
+use Rattle.std.specs.Prelude.{ℕ, ◌+◌, [], ◌∷◌, codes, length}
 use Rattle.json.specs.Json.{Json, array, string}
 use Rattle.fw_package.specs.Package.{ComponentOf, DescriptorOf, PackageText, RecordOf}
 use Rattle.fw_json.specs.Values.{counted, counted_items, in_digits, items, object_of, spelled}

@@ -37,10 +37,10 @@ abbrev pub offer_items : PackageText → List RowOf → List ℕ → Items
 offer_items p rows ns = items (λ n. offer_value rows (component_at p n)) ns
 
 -- a device: the record that is for it and its set text, what becomes of the update, why no record is for it, and the components
-unfoldable pub device_forecast : (eid : ℕ) (number set : Json) → (word : List ℕ) → (lacks components : Items) → Json
-device_forecast eid number set word lacks components =
+unfoldable pub device_forecast : (eid : ℕ) (chosen set : Json) → (word : List ℕ) → (lacks components : Items) → Json
+device_forecast eid chosen set word lacks components =
     object_of
-    ((codes "eid", counted eid) ∷ (codes "record", number) ∷ (codes "set", set) ∷ (codes "word", string word)
+    ((codes "eid", counted eid) ∷ (codes "record", chosen) ∷ (codes "set", set) ∷ (codes "word", string word)
     ∷ (codes "lacks", array lacks) ∷ (codes "components", array components) ∷ [])
 
 -- one for which no record is

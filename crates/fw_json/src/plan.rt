@@ -78,7 +78,6 @@ fn push_lacks(
 }
 
 /// Writes what runs for a component.
-#[tactic(auto, unfolding(crate::specs::Plans::running_value))]
 fn push_running(
     alloc: Global,
     writer: &mut Writer,

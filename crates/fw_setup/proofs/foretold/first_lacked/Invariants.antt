@@ -1,7 +1,7 @@
 use Rattle.std.proofs.Common.{◌≡◌, map}
 use Rattle.fw_package.specs.Package.{descriptor_of}
 use Rattle.fw_setup.specs.Forecasts.{first_lacked}
-use Rattle.fw_setup.proofs.forecast.first_lacked.Given as goal
+use Rattle.fw_setup.proofs.foretold.first_lacked.Given as goal
 
 -- the answer of those that are left is the answer of all
 abbrev pub invariant-loop-descriptor : goal.invariant-loop-descriptor

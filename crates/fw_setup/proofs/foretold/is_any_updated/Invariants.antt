@@ -2,7 +2,7 @@ use Rattle.std.proofs.Common.{◌≡◌, drop, map}
 use Rattle.fw_script.specs.Seen.{component_of}
 use Rattle.fw_setup.specs.Forecasts.{is_any_updated}
 use Rattle.fw_setup.specs.Nodes.{row_made}
-use Rattle.fw_setup.proofs.forecast.is_any_updated.Given as goal
+use Rattle.fw_setup.proofs.foretold.is_any_updated.Given as goal
 
 -- the answer of those that are left is the answer of all
 abbrev pub invariant-loop-number : goal.invariant-loop-number
