@@ -24,7 +24,7 @@ fn refused_memory_refuses_the_inspection(rt: HostRuntime) {
 
 /// Holds whichever single allocation is refused.
 #[test]
-fn refused_memory_refuses_the_inspection_as_json(rt: HostRuntime) {
+fn refused_memory_refuses_the_line_of_json(rt: HostRuntime) {
     match inspect_json(rt.alloc(), &PACKAGE) {
         Ok(line) => assert!(rt;
             line.starts_with(b"{\"format\":\"fwupd-inspect/1\",")
