@@ -16,6 +16,7 @@ planned() {
     printf "${text//@/$work/one.byte}" > "$work/plan.spec"
     fwupd build "$work/plan.spec" "$work/planned"
     row '' "0|$want|" plan "$work/plan.config"
+    same_in_json plan "$work/plan.config"
 }
 
 # Each word of a component, and each of a device.

@@ -7,7 +7,7 @@ use fd_core::State;
 use ua_core::{Cause, SessionState};
 
 /// The name of a device's state (DSP0267 1.0, "Firmware device state machine").
-pub(crate) fn state_name(state: State) -> &'static str
+pub fn state_name(state: State) -> &'static str
     ensures { result.now ≡ state_name state }
 {
     match state {

@@ -12,7 +12,7 @@ ghost use Rattle.ua_core.specs.Lent.{told_descriptor};
 ghost use Rattle.fw_setup.specs.Forecasts.{active_text, chosen_line, configured_text, device_head, forecast_of, lack_line, lack_lines, no_record_line, offer_line, offer_lines, planned_text};
 ghost use Rattle.fw_setup.specs.Nodes.{row_made};
 
-use crate::forecast::{
+use crate::foretold::{
     component_word, first_lacked, key, passed, plan_word, running, sent_stamp, update_word,
 };
 use fw_package::{Component, Descriptor, Package, Plan, Record, Records};
@@ -200,7 +200,13 @@ fn push_planned(
 }
 
 /// A device's descriptors, as a package is asked for them.
-fn known<'a>(alloc: Global, descriptors: Descriptors<'a>) -> Result<Vec<Descriptor<'a>>, AllocError>
+///
+/// # Errors
+/// `AllocError` where memory for them is refused.
+pub fn known<'a>(
+    alloc: Global,
+    descriptors: Descriptors<'a>,
+) -> Result<Vec<Descriptor<'a>>, AllocError>
     ensures { IfOk result (λ known. map descriptor_of known.items ≡ map told_descriptor descriptors.entry) }
 {
     let mut known = Vec::new(alloc);

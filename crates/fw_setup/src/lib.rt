@@ -1,11 +1,14 @@
 //! What a configuration comes to: the world that it opens, and what an update of its devices would do.
 #![tactic(auto)]
 
-mod forecast;
 mod forecast_laws;
 mod forecast_text;
+mod foretold;
 mod nodes;
 
 pub use forecast_laws::foretells_sessions;
-pub use forecast_text::forecast;
+pub use forecast_text::{forecast, known};
+pub use foretold::{
+    component_word, first_lacked, key, passed, plan_word, running, sent_stamp, update_word,
+};
 pub use nodes::opening_world;

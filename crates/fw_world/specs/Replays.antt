@@ -1,6 +1,5 @@
 -- Why a replay stops: which steps need memory, and when one isn't taken.
 use Rattle.std.specs.Prelude.{◌≡◌, ◌⊎◌, Bool, true, false, Some, None}
-pub use Rattle.fw_world.specs.Headline.{new_world}
 use Rattle.fw_world.specs.Headline.{may_step}
 use Rattle.fd_core.specs.declared.states.Verdict.{Verdict}
 use Rattle.fd_core.specs.declared.states.Verdict.TheVariants as verdicts

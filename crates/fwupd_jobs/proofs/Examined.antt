@@ -5,7 +5,8 @@ use Rattle.fw_package.specs.Package.{PackageText}
 use Rattle.fw_package.specs.Reading.{package_of}
 use Rattle.fw_package.specs.declared.fault.PackageFault.{PackageFault}
 use Rattle.fwupd_jobs.specs.Inspected.{BreaksInspection, Inspects, told_as}
-use Rattle.fwupd_base.specs.Inspection.{inspect_of}
+use Rattle.fw_json.specs.Forms.{inspection_in}
+use Rattle.fw_json.specs.declared.forms.Form.{Form}
 use Rattle.fwupd_jobs.specs.Outputs.{FailsToPrint, OutputOf, Prints}
 use Rattle.fwupd_jobs.specs.Setups.{FileOf, IsNone, MayHold, PackageFails}
 use Rattle.fwupd_jobs.specs.declared.faults.RunFault.{RunFault}
@@ -25,18 +26,18 @@ inspection_fails files path bytes (inspected.Package f) told held e first =
     inr (inr (subst (IsNone (files path)) (sym e) (record { bytes = bytes; held = held; is = refused (package_of bytes) f (first (λ h. cc)) })))
 
 -- it is
-read : (r : Result PackageText PackageFault) (text : List ℕ) → result_map_both inspect_of (λ e. e) r ≡ Ok text → (p : PackageText) × (r ≡ Ok p) × (text ≡ inspect_of p)
-read (Ok p) text e = (p, refl, (let same : Ok (inspect_of p) ≡ Ok text = e in cc))
-read (Err f) text e = absurd cc
+read : (form : Form) (r : Result PackageText PackageFault) (text : List ℕ) → result_map_both (inspection_in form) (λ e. e) r ≡ Ok text → (p : PackageText) × (r ≡ Ok p) × (text ≡ inspection_in form p)
+read form (Ok p) text e = (p, refl, (let same : Ok (inspection_in form p) ≡ Ok text = e in cc))
+read form (Err f) text e = absurd cc
 
-pub inspects : (file : FileOf) (bytes text : List ℕ) (before now : OutputOf) → MayHold file bytes → result_map_both inspect_of (λ e. e) (package_of bytes) ≡ Ok text → Prints before now text
-    → Inspects file before now
-inspects file bytes text before now held is written =
-    let found = read (package_of bytes) text is in
+pub inspects : (file : FileOf) (form : Form) (bytes text : List ℕ) (before now : OutputOf) → MayHold file bytes → result_map_both (inspection_in form) (λ e. e) (package_of bytes) ≡ Ok text → Prints before now text
+    → Inspects file form before now
+inspects file form bytes text before now held is written =
+    let found = read form (package_of bytes) text is in
     record { contents = found.0; is = record { bytes = bytes; held = held; is = found.1 }; written = subst (Prints before now) found.2 written }
 
-pub breaks : (file : FileOf) (bytes text : List ℕ) (told : RunFault) (before now : OutputOf) → told ≡ faults.Output → MayHold file bytes → result_map_both inspect_of (λ e. e) (package_of bytes) ≡ Ok text → FailsToPrint before now text
-    → BreaksInspection file told before now
-breaks file bytes text told before now e held is begun =
-    let found = read (package_of bytes) text is in
+pub breaks : (file : FileOf) (form : Form) (bytes text : List ℕ) (told : RunFault) (before now : OutputOf) → told ≡ faults.Output → MayHold file bytes → result_map_both (inspection_in form) (λ e. e) (package_of bytes) ≡ Ok text → FailsToPrint before now text
+    → BreaksInspection file form told before now
+breaks file form bytes text told before now e held is begun =
+    let found = read form (package_of bytes) text is in
     record { is = e; contents = found.0; read = record { bytes = bytes; held = held; is = found.1 }; begun = subst (FailsToPrint before now) found.2 begun }

@@ -8,7 +8,8 @@ use Rattle.fw_script.specs.Seen.{config_seen, device_of}
 use Rattle.fw_script.specs.declared.config.Config.{Config}
 use Rattle.fw_script.specs.declared.config.DeviceConfig.{DeviceConfig}
 use Rattle.ua_core.specs.Lent.{package_at}
-use Rattle.fw_setup.specs.Forecasts.{forecast_of}
+use Rattle.fw_json.specs.Forms.{plan_in}
+use Rattle.fw_json.specs.declared.forms.Form.{Form}
 use Rattle.fwupd_jobs.specs.Outputs.{FailsToPrint, OutputOf}
 use Rattle.fwupd_jobs.specs.Planned.{Forecasts, PlanEnds}
 use Rattle.fwupd_jobs.specs.Setups.{ArePacked, FileOf, Says}
@@ -17,12 +18,12 @@ use Rattle.fwupd_jobs.specs.declared.faults.RunFault.TheVariants as faults
 use Rattle.fwupd_jobs.proofs.Packed.{packages_so, through}
 
 -- The text of a package among those that a configuration names.
-pub foretold : (files : List ℕ → FileOf) (path : List ℕ) (number : ℕ) (config : Config) (names : List (String Global)) (contents slice : List (Vec ℕ Global)) (ps lent : List PackageText)
+pub foretold : (files : List ℕ → FileOf) (path : List ℕ) (number : ℕ) (form : Form) (config : Config) (names : List (String Global)) (contents slice : List (Vec ℕ Global)) (ps lent : List PackageText)
     (p : PackageText) (devices : List DeviceConfig) (text : List ℕ) → Says config_of (files path) (config_seen config) → names ≡ config.packages.items
     → ArePacked files (map (λ q. string_bytes q) names) (map (λ f. f.items) contents) → slice ≡ contents → map (λ q. Ok q) ps ≡ map (λ f. package_of f.items) slice
-    → lent ≡ ps → p ≡ package_at lent number → 1 ≤ number → number ≤ length lent → devices ≡ config.devices.items → text ≡ forecast_of number p (map device_of devices)
-    → Forecasts files path number text
-foretold files path number config names contents slice ps lent p devices text says named packed same read are numbered counted there all told = record {
+    → lent ≡ ps → p ≡ package_at lent number → 1 ≤ number → number ≤ length lent → devices ≡ config.devices.items → text ≡ plan_in form number p (map device_of devices)
+    → Forecasts files path number form text
+foretold files path number form config names contents slice ps lent p devices text says named packed same read are numbered counted there all told = record {
   config = config_seen config;
   packages = ps;
   says = says;
@@ -33,11 +34,11 @@ foretold files path number config names contents slice ps lent p devices text sa
   counted = counted;
   there = subst (λ qs. number ≤ length qs) are there;
   is =
-      told ∙ ap (λ q. forecast_of number q (map device_of devices)) (numbered ∙ ap (λ qs. package_at qs number) are)
-      ∙ ap (λ xs. forecast_of number (package_at ps number) (map device_of xs)) all;
+      told ∙ ap (λ q. plan_in form number q (map device_of devices)) (numbered ∙ ap (λ qs. package_at qs number) are)
+      ∙ ap (λ xs. plan_in form number (package_at ps number) (map device_of xs)) all;
 }
 
 -- It isn't written whole.
-pub plan_breaks : (files : List ℕ → FileOf) (path : List ℕ) (number : ℕ) (text : List ℕ) (told : RunFault) (before now : OutputOf) → told ≡ faults.Output → Forecasts files path number text
-    → FailsToPrint before now text → PlanEnds files path number told before now
-plan_breaks files path number text told before now is forecasts begun = inl (record { is = is; text = text; forecasts = forecasts; begun = begun })
+pub plan_breaks : (files : List ℕ → FileOf) (path : List ℕ) (number : ℕ) (form : Form) (text : List ℕ) (told : RunFault) (before now : OutputOf) → told ≡ faults.Output → Forecasts files path number form text
+    → FailsToPrint before now text → PlanEnds files path number form told before now
+plan_breaks files path number form text told before now is forecasts begun = inl (record { is = is; text = text; forecasts = forecasts; begun = begun })

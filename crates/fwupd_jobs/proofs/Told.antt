@@ -1,6 +1,7 @@
 -- What is told of a job on a world.
 use Rattle.std.proofs.Common.{◌++◌, take, ◌≡◌, ◌⊎◌, ◌<◌, ◌+◌, ℕ, Bool, List, Option, None, Some, inl, inr, length, refl, ap, subst}
-use Rattle.fw_script.specs.Reports.{report_of}
+use Rattle.fw_json.specs.Forms.{report_in}
+use Rattle.fw_json.specs.declared.forms.Form.{Form}
 use Rattle.fw_script.specs.Schedules.{script_of}
 use Rattle.fw_world.specs.Headline.{IsOpeningWorld, IsSafeWorld, PacketsAreSafe}
 use Rattle.fw_world.specs.Worlds.{WorldOf}
@@ -25,10 +26,10 @@ safe_left w v steps None law opens h = law w v steps opens h
 safe_left w v steps (Some f) law opens h = law w v (take f.0 steps) opens h.1
 
 -- what a replay leaves, and what is promised of it
-pub replayed_by : (w x v : WorldOf) (steps : List Step) (fault : Option (ℕ × StepFault)) (text : List ℕ) → x ≡ w → IsOpeningWorld x → PacketsAreSafe
-    → Leaves x steps fault v → text ≡ report_of v → IsReplayed w steps fault text
-replayed_by w x v steps fault text is opens law left report =
-    subst (λ z. IsReplayed z steps fault text) is (record {
+pub replayed_by : (w x v : WorldOf) (steps : List Step) (fault : Option (ℕ × StepFault)) (form : Form) (text : List ℕ) → x ≡ w → IsOpeningWorld x → PacketsAreSafe
+    → Leaves x steps fault v → text ≡ report_in form v → IsReplayed w steps fault form text
+replayed_by w x v steps fault form text is opens law left report =
+    subst (λ z. IsReplayed z steps fault form text) is (record {
       world = v;
       left = left;
       promised = record { begins = opens; safe = safe_left x v steps fault law opens left };
@@ -52,7 +53,7 @@ unopened files path number show refuses lacks w told watched begins (inr u) = in
 
 -- a run over links that doesn't end well
 pub update_ends : (files : List ℕ → FileOf) (path : List ℕ) (number : ℕ) (show : ShowOf) (refuses : List ℕ → Bool) (lacks : ℕ → Bool) (w v : WorldOf) (told : RunFault) (watched : WatchOf) (before now : OutputOf)
-    → IsWatched files path number show w → watched.shows ≡ shown_of show → StepsLead number w v → IsSafeSince w v → (told ≡ faults.Edge edges.Frame → NamesLost v watched.lost) → DrivingEnds number lacks w v told watched before now
+    → IsWatched files path number show w → watched.shows ≡ shown_of show → StepsLead number w v → IsSafeSince w v → (told ≡ faults.Edge edges.Frame → NamesLost v watched.lost) → DrivingEnds number show.form lacks w v told watched before now
     → UpdateEnds files path number show refuses lacks told watched before now
 update_ends files path number show refuses lacks w v told watched before now begins shown reached promised lost (inl h) =
     inl (record { world = w; begins = begins; shown = shown; left = v; reached = reached; promised = promised; caused = h.0; lost = lost; written = h.1 })
@@ -62,39 +63,39 @@ update_ends files path number show refuses lacks w v told watched before now beg
     inr (inr (record { kept = h.1; cause = unopened files path number show refuses lacks w told watched begins h.0 }))
 
 -- a replay whose schedule isn't read
-pub schedule_ends : (files : List ℕ → FileOf) (config schedule : List ℕ) (w : WorldOf) (told : RunFault) (before : OutputOf) → IsSetup files config w
-    → (told ≡ faults.Memory) ⊎ TextFails script_of files schedule told → ReplayEnds files config schedule told before before
-schedule_ends files config schedule w told before setup (inl e) = inr (inr (record { kept = refl; cause = inl e }))
-schedule_ends files config schedule w told before setup (inr f) = inr (inr (record { kept = refl; cause = inr (inr (record { world = w; setup = setup; fails = f })) }))
+pub schedule_ends : (files : List ℕ → FileOf) (config schedule : List ℕ) (form : Form) (w : WorldOf) (told : RunFault) (before : OutputOf) → IsSetup files config w
+    → (told ≡ faults.Memory) ⊎ TextFails script_of files schedule told → ReplayEnds files config schedule form told before before
+schedule_ends files config schedule form w told before setup (inl e) = inr (inr (record { kept = refl; cause = inl e }))
+schedule_ends files config schedule form w told before setup (inr f) = inr (inr (record { kept = refl; cause = inr (inr (record { world = w; setup = setup; fails = f })) }))
 
 -- the report of what its steps leave
-pub report_there : (files : List ℕ → FileOf) (config schedule : List ℕ) (w : WorldOf) (steps slice : List Step) (fault : Option (ℕ × StepFault)) (text : List ℕ)
-    → IsSetup files config w → Says script_of (files schedule) steps → slice ≡ steps → IsReplayed w slice fault text → IsReport files config schedule fault text
-report_there files config schedule w steps slice fault text setup says same h =
-    record { world = w; setup = setup; steps = steps; says = says; replayed = subst (λ ss. IsReplayed w ss fault text) same h }
+pub report_there : (files : List ℕ → FileOf) (config schedule : List ℕ) (form : Form) (w : WorldOf) (steps slice : List Step) (fault : Option (ℕ × StepFault)) (text : List ℕ)
+    → IsSetup files config w → Says script_of (files schedule) steps → slice ≡ steps → IsReplayed w slice fault form text → IsReport files config schedule form fault text
+report_there files config schedule form w steps slice fault text setup says same h =
+    record { world = w; setup = setup; steps = steps; says = says; replayed = subst (λ ss. IsReplayed w ss fault form text) same h }
 
 -- it isn't written whole
-pub breaks_off : (files : List ℕ → FileOf) (config schedule : List ℕ) (fault : Option (ℕ × StepFault)) (text : List ℕ) (before now : OutputOf)
-    → IsReport files config schedule fault text → FailsToPrint before now text → ReplayEnds files config schedule faults.Output before now
-breaks_off files config schedule fault text before now report begun = inr (inl (record { is = refl; fault = fault; text = text; report = report; begun = begun }))
+pub breaks_off : (files : List ℕ → FileOf) (config schedule : List ℕ) (form : Form) (fault : Option (ℕ × StepFault)) (text : List ℕ) (before now : OutputOf)
+    → IsReport files config schedule form fault text → FailsToPrint before now text → ReplayEnds files config schedule form faults.Output before now
+breaks_off files config schedule form fault text before now report begun = inr (inl (record { is = refl; fault = fault; text = text; report = report; begun = begun }))
 
 -- a step isn't taken
-pub place_within : (w : WorldOf) (steps : List Step) (fault : Option (ℕ × StepFault)) (text : List ℕ) (place : ℕ) (why : StepFault) → IsReplayed w steps fault text → fault ≡ Some (place, why)
+pub place_within : (w : WorldOf) (steps : List Step) (fault : Option (ℕ × StepFault)) (form : Form) (text : List ℕ) (place : ℕ) (why : StepFault) → IsReplayed w steps fault form text → fault ≡ Some (place, why)
     → place < length steps
-place_within w steps fault text place why h e = (subst (λ f. IsReplayed w steps f text) e h).left.0
+place_within w steps fault form text place why h e = (subst (λ f. IsReplayed w steps f form text) e h).left.0
 
-pub step_ends : (files : List ℕ → FileOf) (config schedule : List ℕ) (fault : Option (ℕ × StepFault)) (text : List ℕ) (place number : ℕ) (why : StepFault) (before now : OutputOf)
-    → IsReport files config schedule fault text → fault ≡ Some (place, why) → number ≡ place + 1 → Prints before now text
-    → ReplayEnds files config schedule (faults.Step number why) before now
-step_ends files config schedule fault text place number why before now report e is written = inl (record {
+pub step_ends : (files : List ℕ → FileOf) (config schedule : List ℕ) (form : Form) (fault : Option (ℕ × StepFault)) (text : List ℕ) (place number : ℕ) (why : StepFault) (before now : OutputOf)
+    → IsReport files config schedule form fault text → fault ≡ Some (place, why) → number ≡ place + 1 → Prints before now text
+    → ReplayEnds files config schedule form (faults.Step number why) before now
+step_ends files config schedule form fault text place number why before now report e is written = inl (record {
   place = place;
   fault = why;
   is = ap (λ n. faults.Step n why) is;
-  reports = record { text = text; report = subst (λ f. IsReport files config schedule f text) e report; written = written };
+  reports = record { text = text; report = subst (λ f. IsReport files config schedule form f text) e report; written = written };
 })
 
 -- all are
-pub replay_reports : (files : List ℕ → FileOf) (config schedule : List ℕ) (fault : Option (ℕ × StepFault)) (text : List ℕ) (before now : OutputOf)
-    → IsReport files config schedule fault text → fault ≡ None → Prints before now text → Reports files config schedule None before now
-replay_reports files config schedule fault text before now report e written =
-    record { text = text; report = subst (λ f. IsReport files config schedule f text) e report; written = written }
+pub replay_reports : (files : List ℕ → FileOf) (config schedule : List ℕ) (form : Form) (fault : Option (ℕ × StepFault)) (text : List ℕ) (before now : OutputOf)
+    → IsReport files config schedule form fault text → fault ≡ None → Prints before now text → Reports files config schedule form None before now
+replay_reports files config schedule form fault text before now report e written =
+    record { text = text; report = subst (λ f. IsReport files config schedule form f text) e report; written = written }

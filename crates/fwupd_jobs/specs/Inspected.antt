@@ -1,7 +1,8 @@
 -- What is written of the package in a file.
 use Rattle.std.specs.Prelude.{ℕ, ◌≡◌, ◌⊎◌, List}
 use Rattle.fw_package.specs.Package.{PackageText}
-use Rattle.fwupd_base.specs.Inspection.{inspect_of}
+use Rattle.fw_json.specs.Forms.{inspection_in}
+use Rattle.fw_json.specs.declared.forms.Form.{Form}
 use Rattle.fwupd_jobs.specs.Outputs.{FailsToPrint, OutputOf, Prints}
 use Rattle.fwupd_jobs.specs.Setups.{FileOf, IsPackageFile, PackageFails}
 use Rattle.fwupd_jobs.specs.declared.faults.RunFault.{RunFault}
@@ -15,19 +16,19 @@ told_as (inspected.Package fault) = faults.Package fault
 told_as inspected.Memory = faults.Memory
 
 -- Its text is.
-pub record Inspects (file : FileOf) (before now : OutputOf) : Type 0 where
+pub record Inspects (file : FileOf) (form : Form) (before now : OutputOf) : Type 0 where
   pub contents : PackageText
   pub is : IsPackageFile file contents
-  pub written : Prints before now (inspect_of contents)
+  pub written : Prints before now (inspection_in form contents)
 
 -- A beginning of it is.
-pub record BreaksInspection (file : FileOf) (told : RunFault) (before now : OutputOf) : Type 0 where
+pub record BreaksInspection (file : FileOf) (form : Form) (told : RunFault) (before now : OutputOf) : Type 0 where
   pub is : told ≡ faults.Output
   pub contents : PackageText
   pub read : IsPackageFile file contents
-  pub begun : FailsToPrint before now (inspect_of contents)
+  pub begun : FailsToPrint before now (inspection_in form contents)
 
 -- How an inspection ends that doesn't end well: else nothing is written, and memory was refused, or the file isn't read or holds no package.
-abbrev pub InspectEnds : (files : List ℕ → FileOf) (path : List ℕ) → RunFault → (before now : OutputOf) → Type 0
-InspectEnds files path told before now =
-    BreaksInspection (files path) told before now ⊎ (((told ≡ faults.Memory) ⊎ PackageFails files path told) × (now ≡ before))
+abbrev pub InspectEnds : (files : List ℕ → FileOf) (path : List ℕ) (form : Form) → RunFault → (before now : OutputOf) → Type 0
+InspectEnds files path form told before now =
+    BreaksInspection (files path) form told before now ⊎ (((told ≡ faults.Memory) ⊎ PackageFails files path told) × (now ≡ before))

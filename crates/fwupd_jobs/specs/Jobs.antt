@@ -16,21 +16,21 @@ use Rattle.fwupd_jobs.specs.declared.faults.RunFault.{RunFault}
 -- A job is done: what it was asked for is written.
 abbrev pub IsDone : Job → (files : List ℕ → FileOf) → (read_before read_now : Option (List ℕ)) → WatchOf → (is_known : Bool) → (held : List ℕ → Option (List ℕ)) → (before now : OutputOf) → Type 0
 IsDone (jobs.Answer endpoint) files read_before read_now watched is_known held before now = Answers endpoint read_before read_now before now
-IsDone (jobs.Inspect path) files read_before read_now watched is_known held before now = Inspects (files path.now) before now
-IsDone (jobs.Replay config schedule) files read_before read_now watched is_known held before now = Reports files config.now schedule.now None before now
+IsDone (jobs.Inspect path form) files read_before read_now watched is_known held before now = Inspects (files path.now) form before now
+IsDone (jobs.Replay config schedule form) files read_before read_now watched is_known held before now = Reports files config.now schedule.now form None before now
 IsDone (jobs.Run config folder order show) files read_before read_now watched is_known held before now = ReportsChecked files config.now order (show_of show) watched before now
 IsDone (jobs.Build spec file) files read_before read_now watched is_known held before now = Builds files spec.now is_known (held file.now) × (now ≡ before)
-IsDone (jobs.Plan config number) files read_before read_now watched is_known held before now = Plans files config.now number before now
+IsDone (jobs.Plan config number form) files read_before read_now watched is_known held before now = Plans files config.now number form before now
 
 -- How a job ends that isn't done.
 abbrev pub JobEnds : Job → (files : List ℕ → FileOf) → (refuses : (trace : List ℕ) → Bool) → (lacks : (folder : List ℕ) → (device : ℕ) → Bool) → (read_before read_now : Option (List ℕ)) → RunFault → WatchOf → (before now : OutputOf) → Type 0
 JobEnds (jobs.Answer endpoint) files refuses lacks read_before read_now told watched before now = AnswerEnds endpoint read_before read_now told before now
-JobEnds (jobs.Inspect path) files refuses lacks read_before read_now told watched before now = InspectEnds files path.now told before now
-JobEnds (jobs.Replay config schedule) files refuses lacks read_before read_now told watched before now = ReplayEnds files config.now schedule.now told before now
+JobEnds (jobs.Inspect path form) files refuses lacks read_before read_now told watched before now = InspectEnds files path.now form told before now
+JobEnds (jobs.Replay config schedule form) files refuses lacks read_before read_now told watched before now = ReplayEnds files config.now schedule.now form told before now
 JobEnds (jobs.Run config folder order show) files refuses lacks read_before read_now told watched before now =
     CheckedEnds files config.now order (show_of show) refuses (lacks folder.now) told watched before now
 JobEnds (jobs.Build spec file) files refuses lacks read_before read_now told watched before now = BuildEnds files spec.now told × (now ≡ before)
-JobEnds (jobs.Plan config number) files refuses lacks read_before read_now told watched before now = PlanEnds files config.now number told before now
+JobEnds (jobs.Plan config number form) files refuses lacks read_before read_now told watched before now = PlanEnds files config.now number form told before now
 
 -- It isn't, and this is so of the fault that is told.
 pub record IsUndone (job : Job) (files : List ℕ → FileOf) (refuses : (trace : List ℕ) → Bool) (lacks : (folder : List ℕ) → (device : ℕ) → Bool) (read_before read_now : Option (List ℕ)) (watched : WatchOf) (before now : OutputOf) : Type 0 where

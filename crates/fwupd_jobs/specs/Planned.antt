@@ -3,37 +3,38 @@ use Rattle.std.specs.Prelude.{ℕ, ◌≡◌, ◌≤◌, ◌⊎◌, List, length
 use Rattle.fw_package.specs.Package.{PackageText}
 use Rattle.fw_script.specs.Configs.{ConfigOf, config_of}
 use Rattle.ua_core.specs.Lent.{package_at}
-use Rattle.fw_setup.specs.Forecasts.{forecast_of}
+use Rattle.fw_json.specs.Forms.{plan_in}
+use Rattle.fw_json.specs.declared.forms.Form.{Form}
 use Rattle.fwupd_jobs.specs.Outputs.{FailsToPrint, OutputOf, Prints}
 use Rattle.fwupd_jobs.specs.Setups.{ArePackages, FileOf, LacksPackage, Says, SetupFails}
 use Rattle.fwupd_jobs.specs.declared.faults.RunFault.{RunFault}
 use Rattle.fwupd_jobs.specs.declared.faults.RunFault.TheVariants as faults
 
 -- A text says what comes of an update of the devices of the configuration in a file, with its package of this number, from 1 on.
-pub record Forecasts (files : List ℕ → FileOf) (path : List ℕ) (number : ℕ) (text : List ℕ) : Type 0 where
+pub record Forecasts (files : List ℕ → FileOf) (path : List ℕ) (number : ℕ) (form : Form) (text : List ℕ) : Type 0 where
   pub config : ConfigOf
   pub packages : List PackageText
   pub says : Says config_of (files path) config
   pub are : ArePackages files config.packages packages
   pub counted : 1 ≤ number
   pub there : number ≤ length packages
-  pub is : text ≡ forecast_of number (package_at packages number) config.devices
+  pub is : text ≡ plan_in form number (package_at packages number) config.devices
 
 -- It is written.
-pub record Plans (files : List ℕ → FileOf) (path : List ℕ) (number : ℕ) (before now : OutputOf) : Type 0 where
+pub record Plans (files : List ℕ → FileOf) (path : List ℕ) (number : ℕ) (form : Form) (before now : OutputOf) : Type 0 where
   pub text : List ℕ
-  pub forecasts : Forecasts files path number text
+  pub forecasts : Forecasts files path number form text
   pub written : Prints before now text
 
 -- A beginning of it is.
-pub record BreaksPlan (files : List ℕ → FileOf) (path : List ℕ) (number : ℕ) (told : RunFault) (before now : OutputOf) : Type 0 where
+pub record BreaksPlan (files : List ℕ → FileOf) (path : List ℕ) (number : ℕ) (form : Form) (told : RunFault) (before now : OutputOf) : Type 0 where
   pub is : told ≡ faults.Output
   pub text : List ℕ
-  pub forecasts : Forecasts files path number text
+  pub forecasts : Forecasts files path number form text
   pub begun : FailsToPrint before now text
 
 -- How a forecast ends that doesn't end well: else nothing is written, and memory was refused, or there is no such package.
-abbrev pub PlanEnds : (files : List ℕ → FileOf) (path : List ℕ) (number : ℕ) (told : RunFault) (before now : OutputOf) → Type 0
-PlanEnds files path number told before now =
-    BreaksPlan files path number told before now
+abbrev pub PlanEnds : (files : List ℕ → FileOf) (path : List ℕ) (number : ℕ) (form : Form) (told : RunFault) (before now : OutputOf) → Type 0
+PlanEnds files path number form told before now =
+    BreaksPlan files path number form told before now
     ⊎ (((told ≡ faults.Memory) ⊎ (SetupFails files path told ⊎ ((told ≡ faults.NoPackage) × LacksPackage files path number))) × (now ≡ before))

@@ -5,7 +5,8 @@ use Rattle.fw_edge.specs.Drives.{AreDriven, all_over, ticks_in}
 use Rattle.fw_edge.specs.Ledgers.{OneFailed}
 use Rattle.fw_edge.specs.declared.driving.EdgeFault.{EdgeFault}
 use Rattle.fw_edge.specs.declared.driving.EdgeFault.TheVariants as edges
-use Rattle.fw_script.specs.Reports.{report_of}
+use Rattle.fw_json.specs.Forms.{report_in}
+use Rattle.fw_json.specs.declared.forms.Form.{Form}
 use Rattle.fw_world.specs.Headline.{Run, may_step}
 use Rattle.fw_world.specs.Worlds.{SiteOf, WorldOf}
 use Rattle.fw_world.specs.declared.step.StepFault.{StepFault}
@@ -90,10 +91,11 @@ MayEnd fault = (fault ≡ faults.Memory) ⊎ IsBroken fault
 pub record ShowOf : Type 0 where
   pub is_quiet : Bool
   pub trace : Option (List ℕ)
+  pub form : Form
 
 -- what the words of a command line ask to be shown
 abbrev pub show_of : Show → ShowOf
-show_of s = record { is_quiet = s.is_quiet; trace = option_map (λ path. path.now) s.trace }
+show_of s = record { is_quiet = s.is_quiet; trace = option_map (λ path. path.now) s.trace; form = s.form }
 
 -- What looks on shows so much: no progress where it is to be quiet, and the packets where they are written to a file.
 pub record ShownOf : Type 0 where
@@ -166,10 +168,10 @@ pub record NamesLost (w : WorldOf) (lost : Option ℕ) : Type 0 where
 
 -- Where the links of a world are driven and the run doesn't end well: the report of the world that was reached is written, or a
 -- beginning of it, or nothing.
-abbrev pub DrivingEnds : (number : ℕ) (lacks : ℕ → Bool) (w v : WorldOf) → RunFault → WatchOf → (before now : OutputOf) → Type 0
-DrivingEnds number lacks w v told watched before now =
-    (IsCaused number w v told watched × Prints before now (report_of v))
-    ⊎ (((told ≡ faults.Output) × FailsToPrint before now (report_of v)) ⊎ (((told ≡ faults.Memory) ⊎ IsUnlinked w lacks told) × (now ≡ before)))
+abbrev pub DrivingEnds : (number : ℕ) (form : Form) (lacks : ℕ → Bool) (w v : WorldOf) → RunFault → WatchOf → (before now : OutputOf) → Type 0
+DrivingEnds number form lacks w v told watched before now =
+    (IsCaused number w v told watched × Prints before now (report_in form v))
+    ⊎ (((told ≡ faults.Output) × FailsToPrint before now (report_in form v)) ⊎ (((told ≡ faults.Memory) ⊎ IsUnlinked w lacks told) × (now ≡ before)))
 
 -- The world of a configuration that names a package of this number, from 1 on.
 pub record IsNamed (files : List ℕ → FileOf) (config : List ℕ) (number : ℕ) (w : WorldOf) : Type 0 where
@@ -197,7 +199,7 @@ pub record ReportsUpdate (files : List ℕ → FileOf) (config : List ℕ) (numb
   pub none_lost : watched.lost ≡ None
   pub let_end : watched.has_ended ≡ true
   pub undone_is : undone ≡ undone_in left
-  pub written : Prints before now (report_of left)
+  pub written : Prints before now (report_in show.form left)
 
 -- It is written of what was reached, and where a link failed, what looks on was told whose.
 pub record ReportsReached (files : List ℕ → FileOf) (config : List ℕ) (number : ℕ) (show : ShowOf) (told : RunFault) (watched : WatchOf) (before now : OutputOf) : Type 0 where
@@ -209,7 +211,7 @@ pub record ReportsReached (files : List ℕ → FileOf) (config : List ℕ) (num
   pub promised : IsSafeSince world left
   pub caused : IsCaused number world left told watched
   pub lost : told ≡ faults.Edge edges.Frame → NamesLost left watched.lost
-  pub written : Prints before now (report_of left)
+  pub written : Prints before now (report_in show.form left)
 
 -- A beginning of it is.
 pub record BreaksReport (files : List ℕ → FileOf) (config : List ℕ) (number : ℕ) (show : ShowOf) (told : RunFault) (before now : OutputOf) : Type 0 where
@@ -219,7 +221,7 @@ pub record BreaksReport (files : List ℕ → FileOf) (config : List ℕ) (numbe
   pub left : WorldOf
   pub reached : StepsLead number world left
   pub promised : IsSafeSince world left
-  pub begun : FailsToPrint before now (report_of left)
+  pub begun : FailsToPrint before now (report_in show.form left)
 
 -- Before a link is opened, what looks on doesn't begin.
 pub record LacksTrace (files : List ℕ → FileOf) (config : List ℕ) (number : ℕ) (show : ShowOf) (refuses : List ℕ → Bool) (told : RunFault) (watched : WatchOf) : Type 0 where

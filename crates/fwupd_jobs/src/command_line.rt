@@ -5,6 +5,7 @@ ghost use Rattle.clap.specs.Words.{first_value, found_of, one_text};
 
 use clap::error::ErrorKind;
 use clap::{Arg, ArgAction, ArgMatches, Command, value_parser};
+use fw_json::Form;
 use mctp_ctl::Endpoint;
 use std::alloc::Global;
 use uuid::Uuid;
@@ -14,16 +15,17 @@ use uuid::Uuid;
 pub enum Job<'a> {
     /// Answer packets as this endpoint, whose identifier is one of a node's, 8 to 254.
     Answer(Endpoint),
-    /// Inspect the package in the file of this path.
-    Inspect(&'a str),
-    /// Replay, with the configuration of the first path, the schedule of the second.
-    Replay(&'a str, &'a str),
+    /// Inspect the package in the file of this path, in this form.
+    Inspect(&'a str, Form),
+    /// Replay, with the configuration of the first path, the schedule of the second, and report in this form.
+    Replay(&'a str, &'a str, Form),
     /// Update the devices of the configuration of the first path over sockets in the folder of the second.
     Run(&'a str, &'a str, Order, Show<'a>),
     /// Build the package that the text in the file of the first path asks for, into the file of the second.
     Build(&'a str, &'a str),
-    /// Say what an update of the devices of the configuration of this path comes to, with its package of this number, from 1 on.
-    Plan(&'a str, usize),
+    /// Say what an update of the devices of the configuration of this path comes to, with its package of this number, from 1 on, in
+    /// this form.
+    Plan(&'a str, usize, Form),
 }
 
 /// What is asked of a run.
@@ -35,13 +37,15 @@ pub struct Order {
     pub is_checked: bool,
 }
 
-/// What is shown of a run while it goes on.
+/// What is shown of a run.
 #[derive(Clone, Copy)]
 pub struct Show<'a> {
     /// No progress, also on a terminal.
     pub is_quiet: bool,
     /// The file that each packet is written to as it goes out, if there is one.
     pub trace: Option<&'a str>,
+    /// The form of its report.
+    pub form: Form,
 }
 
 /// What stands below the help of `answer`.
@@ -128,6 +132,7 @@ fn inspect_command<'a>(alloc: Global) -> Result<Command<'a>, clap::Error> {
             that isn't a package is refused with the first fault that holds.",
         )
         .after_long_help(INSPECT_HELP)
+        .arg(json_option(alloc))?
         .arg(file)?;
     Ok(command)
 }
@@ -188,6 +193,7 @@ fn replay_command<'a>(alloc: Global) -> Result<Command<'a>, clap::Error> {
             which packet is delivered when.",
         )
         .after_long_help(REPLAY_HELP)
+        .arg(json_option(alloc))?
         .arg(config)?
         .arg(schedule)?;
     Ok(command)
@@ -247,6 +253,7 @@ fn run_command<'a>(alloc: Global) -> Result<Command<'a>, clap::Error> {
         .arg(check)?
         .arg(quiet)?
         .arg(trace)?
+        .arg(json_option(alloc))?
         .arg(config)?
         .arg(folder)?;
     Ok(command)
@@ -369,6 +376,7 @@ fn plan_command<'a>(alloc: Global) -> Result<Command<'a>, clap::Error> {
         )
         .after_long_help(PLAN_HELP)
         .arg(package_option(alloc))?
+        .arg(json_option(alloc))?
         .arg(config)?;
     Ok(command)
 }
@@ -404,6 +412,26 @@ fn answer_job<'a>(alloc: Global, matches: &ArgMatches<'a>) -> Result<Job<'a>, cl
     }
 }
 
+/// The option that asks for JSON.
+fn json_option<'a>(alloc: Global) -> Arg<'a> {
+    Arg::new(alloc, "json")
+        .long("json")
+        .help("Writes one line of JSON in place of the text")
+        .action(ArgAction::SetTrue)
+}
+
+/// The form that the words ask for.
+fn form_in(matches: &ArgMatches<'_>) -> Form
+    ensures json { one_text (found_of matches.now) (codes "json") ≡ Some (codes "true") → result ≡ Form.Json }
+    ensures text { one_text (found_of matches.now) (codes "json") ≡ Some (codes "false") → result ≡ Form.Text }
+{
+    if matches.get_flag("json") {
+        Form::Json
+    } else {
+        Form::Text
+    }
+}
+
 /// What the words of `run` ask to be shown.
 fn show_in<'a>(matches: &ArgMatches<'a>) -> Show<'a>
     ensures quiet { one_text (found_of matches.now) (codes "quiet") ≡ Some (codes "true") → result.is_quiet ≡ true }
@@ -413,6 +441,7 @@ fn show_in<'a>(matches: &ArgMatches<'a>) -> Show<'a>
     Show {
         is_quiet: matches.get_flag("quiet"),
         trace: matches.get_str("trace"),
+        form: form_in(matches),
     }
 }
 
@@ -424,14 +453,19 @@ pub fn parse<'a>(alloc: Global, words: &'a [String]) -> Result<Job<'a>, clap::Er
     let matches = command(alloc)?.try_get_matches_from(words)?;
     match matches.subcommand() {
         Some(("answer", matches)) => answer_job(alloc, matches),
-        Some(("inspect", matches)) => Ok(Job::Inspect(matches.get_str("FILE").unwrap_or(""))),
+        Some(("inspect", matches)) => Ok(Job::Inspect(
+            matches.get_str("FILE").unwrap_or(""),
+            form_in(matches),
+        )),
         Some(("replay", matches)) => Ok(Job::Replay(
             matches.get_str("CONFIG").unwrap_or(""),
             matches.get_str("SCHEDULE").unwrap_or(""),
+            form_in(matches),
         )),
         Some(("plan", matches)) => Ok(Job::Plan(
             matches.get_str("CONFIG").unwrap_or(""),
             package_number(matches),
+            form_in(matches),
         )),
         Some(("run", matches)) => Ok(Job::Run(
             matches.get_str("CONFIG").unwrap_or(""),

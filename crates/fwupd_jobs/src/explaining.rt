@@ -82,10 +82,10 @@ pub fn explain(rt: &HostRuntime, job: &Job<'_>, fault: &RunFault) {
     }
     match (job, fault) {
         (_, RunFault::Unreadable(path)) => explain_unreadable(rt, path),
-        (Job::Replay(config, _), RunFault::Package(_))
+        (Job::Replay(config, ..), RunFault::Package(_))
         | (Job::Run(config, ..), RunFault::Package(_))
-        | (Job::Plan(config, _), RunFault::Package(_)) => explain_package(rt, config),
-        (Job::Replay(_, schedule), RunFault::Step(number, _)) => {
+        | (Job::Plan(config, ..), RunFault::Package(_)) => explain_package(rt, config),
+        (Job::Replay(_, schedule, _), RunFault::Step(number, _)) => {
             explain_step(rt, schedule, *number);
         }
         _ => {}

@@ -7,11 +7,11 @@ use crate::faults::{RunFault, inspection_fault};
 use crate::files::Files;
 use crate::output::Output;
 use crate::setups::read_fault;
-use fwupd_base::inspect;
+use fw_json::{Form, inspect_in};
 use std::alloc::Global;
 use std::io::Write;
 
-/// Inspects the package in a file, and writes the text.
+/// Inspects the package in a file, and writes what it holds in a form.
 ///
 /// # Errors
 /// `Unreadable` where the file can't be read, `Package` where it holds none, and `Memory` where memory is refused: nothing is written
@@ -20,16 +20,17 @@ pub fn inspect_file<F: Files, W: Write + Drop>(
     alloc: Global,
     files: &F,
     path: &str,
+    form: Form,
     output: &mut Output<W>,
 ) -> Result<(), RunFault>
-    ensures ok { OnOk result (Inspects (F.holds files.now path.now) output.old output.new) }
-    ensures fault { IfErr result (λ e. InspectEnds (F.holds files.now) path.now e output.old output.new) }
+    ensures ok { OnOk result (Inspects (F.holds files.now path.now) form output.old output.new) }
+    ensures fault { IfErr result (λ e. InspectEnds (F.holds files.now) path.now form e output.old output.new) }
 {
     let bytes = match files.contents(alloc, path) {
         Ok(bytes) => bytes,
         Err(fault) => return Err(read_fault(alloc, path, fault)),
     };
-    let text = match inspect(alloc, &bytes) {
+    let text = match inspect_in(alloc, &bytes, form) {
         Ok(text) => text,
         Err(fault) => return Err(inspection_fault(fault)),
     };

@@ -48,12 +48,14 @@ pub fn perform_job<
 {
     match job {
         Job::Answer(endpoint) => output.answer(alloc, reader, endpoint),
-        Job::Inspect(path) => inspect_file(alloc, files, path, output),
-        Job::Replay(config, schedule) => replay_files(alloc, files, config, schedule, output),
+        Job::Inspect(path, form) => inspect_file(alloc, files, path, *form, output),
+        Job::Replay(config, schedule, form) => replay_files(
+            alloc, files, config, schedule, *form, output,
+        ),
         Job::Run(config, folder, order, show) => update_checked(
             alloc, files, config, *order, folder, *show, wires, watch, output,
         ),
         Job::Build(spec, file) => build_file(alloc, files, spec, file, places),
-        Job::Plan(config, number) => plan_file(alloc, files, config, *number, output),
+        Job::Plan(config, number, form) => plan_file(alloc, files, config, *number, *form, output),
     }
 }

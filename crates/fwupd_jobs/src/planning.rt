@@ -8,13 +8,14 @@ use crate::files::Files;
 use crate::numbering::{is_numbered, numbered};
 use crate::output::Output;
 use crate::setups::{configuration, package_files, packages_in};
+use fw_json::{Form, plan_in};
 use fw_script::Config;
 use fw_setup::forecast;
 use std::alloc::Global;
 use std::io::Write;
 
-/// Writes what an update of the devices of the configuration in a file comes to, with its package of this number, from 1 on.
-/// Nothing is begun.
+/// Writes in a form what an update of the devices of the configuration in a file comes to, with its package of this number, from 1
+/// on. Nothing is begun.
 ///
 /// # Errors
 /// The first fault, in this order: of the configuration's file; `NoPackage` where it names no package of this number; of the
@@ -25,10 +26,11 @@ pub fn plan_file<F: Files, W: Write + Drop>(
     files: &F,
     config: &str,
     number: usize,
+    form: Form,
     output: &mut Output<W>,
 ) -> Result<(), RunFault>
-    ensures ok { OnOk result (Plans (F.holds files.now) config.now number output.old output.new) }
-    ensures fault { IfErr result (λ e. PlanEnds (F.holds files.now) config.now number e output.old output.new) }
+    ensures ok { OnOk result (Plans (F.holds files.now) config.now number form output.old output.new) }
+    ensures fault { IfErr result (λ e. PlanEnds (F.holds files.now) config.now number form e output.old output.new) }
 {
     let Config {
         agent: _,
@@ -52,7 +54,7 @@ pub fn plan_file<F: Files, W: Write + Drop>(
     let Some(contents) = numbered(packages.as_slice(), number) else {
         return Err(RunFault::Memory);
     };
-    let Ok(text) = forecast(alloc, number, contents, devices.as_slice()) else {
+    let Ok(text) = plan_in(alloc, number, contents, devices.as_slice(), form) else {
         return Err(RunFault::Memory);
     };
     match output.write(&text) {

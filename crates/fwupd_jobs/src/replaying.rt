@@ -3,7 +3,7 @@
 ghost use Rattle.std.specs.Prelude.{IfErr, IfOk, None, OnOk, map};
 ghost use Rattle.fw_script.specs.Seen.{device_of};
 ghost use Rattle.fw_script.specs.Whole.{AreWhole};
-ghost use Rattle.fw_world.specs.Replays.{new_world};
+ghost use Rattle.fw_world.specs.Headline.{new_world};
 ghost use Rattle.fw_setup.specs.Nodes.{nodes_made};
 ghost use Rattle.fwupd_jobs.specs.Replayed.{IsReplayed, ReplayEnds, Reports};
 
@@ -11,8 +11,9 @@ use crate::faults::RunFault;
 use crate::files::Files;
 use crate::output::Output;
 use crate::setups::{configuration, package_files, packages_in, schedule};
+use fw_json::{Form, report_in};
 use fw_package::Package;
-use fw_script::{Config, DeviceConfig, report};
+use fw_script::{Config, DeviceConfig};
 use fw_setup::opening_world;
 use fw_world::{Step, StepFault, packets_are_safe, replay};
 use mctp_ctl::Endpoint;
@@ -38,9 +39,10 @@ pub fn replayed<'a>(
     devices: Vec<DeviceConfig>,
     packages: &'a [Package<'a>],
     steps: &[Step],
+    form: Form,
 ) -> Result<Outcome, AllocError>
     requires { AreWhole agent.eid (map device_of devices.items) }
-    ensures { IfOk result (λ r. IsReplayed (new_world agent (nodes_made agent.eid (map device_of devices.items)) packages.now) steps.now r.fault r.report.items) }
+    ensures { IfOk result (λ r. IsReplayed (new_world agent (nodes_made agent.eid (map device_of devices.items)) packages.now) steps.now r.fault form r.report.items) }
 {
     packets_are_safe();
     let mut world = opening_world(alloc, agent, devices, packages)?;
@@ -48,11 +50,11 @@ pub fn replayed<'a>(
         Ok(()) => None,
         Err(fault) => Some(fault),
     };
-    let report = report(alloc, &world)?;
+    let report = report_in(alloc, &world, form)?;
     Ok(Outcome { report, fault })
 }
 
-/// Replays the schedule in a file on the nodes of the configuration in another, and writes the report of what that leaves.
+/// Replays the schedule in a file on the nodes of the configuration in another, and writes in a form the report of what that leaves.
 ///
 /// # Errors
 /// The first fault, in this order: of the configuration's file, of the packages that it names, one after the other, and of the
@@ -64,10 +66,11 @@ pub fn replay_files<F: Files, W: Write + Drop>(
     files: &F,
     config: &str,
     steps: &str,
+    form: Form,
     output: &mut Output<W>,
 ) -> Result<(), RunFault>
-    ensures ok { OnOk result (Reports (F.holds files.now) config.now steps.now None output.old output.new) }
-    ensures fault { IfErr result (λ e. ReplayEnds (F.holds files.now) config.now steps.now e output.old output.new) }
+    ensures ok { OnOk result (Reports (F.holds files.now) config.now steps.now form None output.old output.new) }
+    ensures fault { IfErr result (λ e. ReplayEnds (F.holds files.now) config.now steps.now form e output.old output.new) }
 {
     let Config {
         agent,
@@ -89,7 +92,14 @@ pub fn replay_files<F: Files, W: Write + Drop>(
         Ok(steps) => steps,
         Err(fault) => return Err(fault),
     };
-    let Ok(outcome) = replayed(alloc, agent, devices, packages.as_slice(), steps.as_slice()) else {
+    let Ok(outcome) = replayed(
+        alloc,
+        agent,
+        devices,
+        packages.as_slice(),
+        steps.as_slice(),
+        form,
+    ) else {
         return Err(RunFault::Memory);
     };
     match output.write(&outcome.report) {

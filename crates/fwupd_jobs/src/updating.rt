@@ -2,7 +2,7 @@
 
 ghost use Rattle.std.specs.Prelude.{◌≡◌, ◌∷◌, ◌⊎◌, Bool, IfErr, IfOk, IfSome, List, None, OnOk, Some, length, map, string_bytes, true, ℕ};
 ghost use Rattle.std.specs.List.{AllByRecursion};
-ghost use Rattle.fw_script.specs.Reports.{report_of};
+ghost use Rattle.fw_json.specs.Forms.{report_in};
 ghost use Rattle.fwupd_jobs.specs.Outputs.{FailsToPrint, Prints};
 ghost use Rattle.fwupd_jobs.specs.Sessions.{undone_in};
 ghost use Rattle.fwupd_jobs.specs.Running.{DrivingEnds, IsApart, IsBarred, IsCaused, IsLost, IsUnlinked, IsUpdated, NamesLost, ReportsUpdate, StepsLead, UpdateEnds, Updates, show_of, shown_of};
@@ -17,7 +17,8 @@ use crate::sessions::{Undone, first_undone};
 use crate::setups::{configuration, package_files, packages_in};
 use fd_core::MemBank;
 use fw_edge::{EdgeFault, Link};
-use fw_script::{Config, report};
+use fw_json::{Form, report_in};
+use fw_script::Config;
 use fw_setup::opening_world;
 use fw_world::{World, packets_are_safe};
 use std::alloc::Global;
@@ -62,16 +63,17 @@ fn open_all<L: Link + Drop, S: Wires<L>>(
     Ok(links)
 }
 
-/// Writes the report of a world.
+/// Writes the report of a world in a form.
 fn write_report<W: Write + Drop>(
     alloc: Global,
     world: &World<'_, MemBank>,
+    form: Form,
     output: &mut Output<W>,
 ) -> Result<(), RunFault>
-    ensures ok { OnOk result (Prints output.old output.new (report_of world.now)) }
-    ensures fault { IfErr result (λ e. ((e ≡ RunFault.Memory) × (output.new ≡ output.old)) ⊎ ((e ≡ RunFault.Output) × FailsToPrint output.old output.new (report_of world.now))) }
+    ensures ok { OnOk result (Prints output.old output.new (report_in form world.now)) }
+    ensures fault { IfErr result (λ e. ((e ≡ RunFault.Memory) × (output.new ≡ output.old)) ⊎ ((e ≡ RunFault.Output) × FailsToPrint output.old output.new (report_in form world.now))) }
 {
-    let Ok(text) = report(alloc, world) else {
+    let Ok(text) = report_in(alloc, world, form) else {
         return Err(RunFault::Memory);
     };
     match output.write(&text) {
@@ -173,6 +175,7 @@ fn update_over<L: Link + Drop, S: Wires<L>, V: Watch, W: Write + Drop>(
     world: &mut World<'_, MemBank>,
     number: usize,
     folder: &str,
+    form: Form,
     wires: &mut S,
     watch: &mut V,
     output: &mut Output<W>,
@@ -185,10 +188,10 @@ fn update_over<L: Link + Drop, S: Wires<L>, V: Watch, W: Write + Drop>(
     ensures none_lost { OnOk result ((V.watched watch.new).lost ≡ (V.watched watch.old).lost) }
     ensures unwritten { IfErr result (λ e. e ≡ RunFault.Trace → (V.watched watch.new).fault ≡ Some WatchFault.Unwritten) }
     ensures same { (V.watched watch.new).shows ≡ (V.watched watch.old).shows }
-    ensures written { OnOk result (Prints output.old output.new (report_of world.new)) }
+    ensures written { OnOk result (Prints output.old output.new (report_in form world.new)) }
     ensures undone { IfOk result (λ u. u ≡ undone_in world.new) }
     ensures reached { StepsLead number world.old world.new }
-    ensures fault { IfErr result (λ e. DrivingEnds number (S.lacks wires.old folder.now) world.old world.new e (V.watched watch.new) output.old output.new) }
+    ensures fault { IfErr result (λ e. DrivingEnds number form (S.lacks wires.old folder.now) world.old world.new e (V.watched watch.new) output.old output.new) }
 {
     let mut links = match open_all(alloc, world, folder, wires) {
         Ok(links) => links,
@@ -198,14 +201,14 @@ fn update_over<L: Link + Drop, S: Wires<L>, V: Watch, W: Write + Drop>(
         Ok(()) => {}
         Err(RunFault::Memory) => return Err(RunFault::Memory),
         Err(fault) => {
-            match write_report(alloc, world, output) {
+            match write_report(alloc, world, form, output) {
                 Ok(()) => {}
                 Err(other) => return Err(other),
             }
             return Err(fault);
         }
     }
-    match write_report(alloc, world, output) {
+    match write_report(alloc, world, form, output) {
         Ok(()) => Ok(first_undone(world)),
         Err(fault) => Err(fault),
     }
@@ -262,7 +265,9 @@ pub fn update_files<F: Files, L: Link + Drop, S: Wires<L>, V: Watch, W: Write + 
         Ok(()) => {}
         Err(fault) => return Err(fault),
     }
-    match update_over(alloc, &mut world, number, folder, wires, watch, output) {
+    match update_over(
+        alloc, &mut world, number, folder, show.form, wires, watch, output,
+    ) {
         Ok(undone) => Ok(undone),
         Err(fault) => Err(fault),
     }

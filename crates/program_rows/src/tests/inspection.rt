@@ -1,5 +1,6 @@
 //! Inspections where memory is refused.
 
+use fw_json::inspect_json;
 use fwupd_base::{InspectFault, inspect};
 
 /// The package with the text `v`, its checksum computed apart.
@@ -17,6 +18,18 @@ const PACKAGE: [u8; 83] = [
 fn refused_memory_refuses_the_inspection(rt: HostRuntime) {
     match inspect(rt.alloc(), &PACKAGE) {
         Ok(text) => assert!(rt; text.ends_with(b"version \"v\"\n")),
+        Err(fault) => assert!(rt; fault == InspectFault::Memory),
+    }
+}
+
+/// Holds whichever single allocation is refused.
+#[test]
+fn refused_memory_refuses_the_line_of_json(rt: HostRuntime) {
+    match inspect_json(rt.alloc(), &PACKAGE) {
+        Ok(line) => assert!(rt;
+            line.starts_with(b"{\"format\":\"fwupd-inspect/1\",")
+                && line.ends_with(b"\"version\":\"v\"}]}\n")
+        ),
         Err(fault) => assert!(rt; fault == InspectFault::Memory),
     }
 }

@@ -5,6 +5,7 @@ ghost use Rattle.fwupd_jobs.specs.Setups.{any_file};
 
 use fd_core::MemBank;
 use fw_edge::{Link, MemLink, StreamLink};
+use fw_json::Form;
 use fw_world::World;
 use fwupd_jobs::{
     FileFault, FileIdentity, Files, Order, Output, RunFault, Show, Watch, WatchFault, Wires,
@@ -230,6 +231,7 @@ fn updated<'a, L: Link + Drop, S: Wires<L>>(
         Show {
             is_quiet: true,
             trace,
+            form: Form::Text,
         },
         wires,
         &mut watch,
@@ -273,6 +275,7 @@ fn planned(
         &MemFiles { files: &files },
         "c",
         number,
+        Form::Text,
         &mut output,
     );
     outcome(rt, end, output.into_writer())

@@ -11,21 +11,21 @@ packages_in-requires g c =
 
 pub returns-in-Ok-write-clause-ok : goal.returns-in-Ok-write-clause-ok
 returns-in-Ok-write-clause-ok g c = record {
-  text = c.in-Ok-forecast.text.items;
+  text = c.in-Ok-plan_in.text.items;
   forecasts =
-      foretold (g.F.Files.holds c.args.files.now) c.args.config.now c.args.number c.in-Ok.config c.as_slice.result.now c.in-Ok-package_files.contents.items c.as_slice-2.result.now
-      c.in-Ok-packages_in.packages.items c.as_slice-3.result.now c.in-Some.contents.now c.as_slice-4.result.now c.in-Ok-forecast.text.items
+      foretold (g.F.Files.holds c.args.files.now) c.args.config.now c.args.number c.args.form c.in-Ok.config c.as_slice.result.now c.in-Ok-package_files.contents.items c.as_slice-2.result.now
+      c.in-Ok-packages_in.packages.items c.as_slice-3.result.now c.in-Some.contents.now c.as_slice-4.result.now c.in-Ok-plan_in.text.items
       c.in-Ok.ensures.says c.as_slice.ensures.value c.in-Ok-package_files.ensures.packed c.as_slice-2.ensures.value c.in-Ok-packages_in.ensures.is c.as_slice-3.ensures.value
-      c.in-Some.ensures.is c.in-Some.ensures.there.0 c.in-Some.ensures.there.1 c.as_slice-4.ensures.value c.in-Ok-forecast.ensures;
+      c.in-Some.ensures.is c.in-Some.ensures.there.0 c.in-Some.ensures.there.1 c.as_slice-4.ensures.value c.in-Ok-plan_in.ensures;
   written = rw c.deref.ensures.value at c.in-Ok-write.ensures.ok;
 }
 
 pub returns-clause-fault : goal.returns-clause-fault
 returns-clause-fault g c =
-    plan_breaks (g.F.Files.holds c.args.files.now) c.args.config.now c.args.number c.in-Ok-forecast.text.items c.in-Err-write.fault c.args.output.now c.write.new.self
+    plan_breaks (g.F.Files.holds c.args.files.now) c.args.config.now c.args.number c.args.form c.in-Ok-plan_in.text.items c.in-Err-write.fault c.args.output.now c.write.new.self
     c.in-Err-write.ensures.fault
-    (foretold (g.F.Files.holds c.args.files.now) c.args.config.now c.args.number c.in-Ok.config c.as_slice.result.now c.in-Ok-package_files.contents.items c.as_slice-2.result.now
-    c.in-Ok-packages_in.packages.items c.as_slice-3.result.now c.in-Some.contents.now c.as_slice-4.result.now c.in-Ok-forecast.text.items
+    (foretold (g.F.Files.holds c.args.files.now) c.args.config.now c.args.number c.args.form c.in-Ok.config c.as_slice.result.now c.in-Ok-package_files.contents.items c.as_slice-2.result.now
+    c.in-Ok-packages_in.packages.items c.as_slice-3.result.now c.in-Some.contents.now c.as_slice-4.result.now c.in-Ok-plan_in.text.items
     c.in-Ok.ensures.says c.as_slice.ensures.value c.in-Ok-package_files.ensures.packed c.as_slice-2.ensures.value c.in-Ok-packages_in.ensures.is c.as_slice-3.ensures.value
-    c.in-Some.ensures.is c.in-Some.ensures.there.0 c.in-Some.ensures.there.1 c.as_slice-4.ensures.value c.in-Ok-forecast.ensures)
+    c.in-Some.ensures.is c.in-Some.ensures.there.0 c.in-Some.ensures.there.1 c.as_slice-4.ensures.value c.in-Ok-plan_in.ensures)
     (rw c.deref.ensures.value at c.in-Err-write.ensures.failed)

@@ -1,0 +1,6 @@
+mod Chains
+mod Numbers
+mod Reading
+mod Inspected
+mod Reported
+mod Planned

@@ -1,0 +1,13 @@
+use Rattle.std.proofs.Common.{◌≡◌, ◌++◌, drop, map}
+use Rattle.json.specs.Tree.{items_tokens}
+use Rattle.fw_script.specs.Seen.{device_of}
+use Rattle.fw_json.specs.Plans.{configured_value}
+use Rattle.fw_json.specs.Values.{items}
+use Rattle.fw_json.proofs.plan.push_devices.Given as goal
+
+-- what is written, and what is left to write
+abbrev pub invariant-loop-device : goal.invariant-loop-device
+invariant-loop-device l =
+    (l.writer.before ≡ l.fn.writer.before)
+    × (l.writer.tokens ++ items_tokens (items (configured_value l.contents) (map device_of (drop l.device-index l.devices)))
+    ≡ l.fn.writer.tokens ++ items_tokens (items (configured_value l.contents) (map device_of l.devices)))

@@ -1,0 +1,6 @@
+pub mod Values
+pub mod Writing
+pub mod Inspections
+pub mod Reports
+pub mod Plans
+pub mod Forms

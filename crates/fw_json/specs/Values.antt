@@ -1,0 +1,51 @@
+-- Values of JSON, and the line that a value is written as.
+use Rattle.std.specs.Prelude.{◌≡◌, ℕ, ◌+◌, List, [], ◌∷◌, ◌++◌, decimal, Option, Some, None}
+use Rattle.std.specs.List.{flat_map}
+use Rattle.hex.specs.Hex.{encode_upper}
+use Rattle.json.specs.Json.{Json, document, null, number, string, object, Items, no_items, item, Members, no_members, member}
+use Rattle.json.specs.Print.{print}
+use Rattle.json.specs.Tree.{json_tokens}
+use Rattle.fw_text.specs.Printing.{escaped}
+
+-- the members of an object, in their order
+abbrev pub members : List (List ℕ × Json) → Members
+members [] = no_members
+members (m ∷ ms) = member m.0 m.1 (members ms)
+
+abbrev pub object_of : List (List ℕ × Json) → Json
+object_of ms = object (members ms)
+
+-- the items of an array: the values of these things, in their order
+abbrev pub items : {A : Type 0} → (A → Json) → List A → Items
+items f [] = no_items
+items f (x ∷ xs) = item (f x) (items f xs)
+
+-- the same of things that are counted, from number n on
+abbrev pub counted_items : {A : Type 0} → (ℕ → A → Json) → ℕ → List A → Items
+counted_items f n [] = no_items
+counted_items f n (x ∷ xs) = item (f n x) (counted_items f (n + 1) xs)
+
+-- a number in decimal digits
+abbrev pub counted : ℕ → Json
+counted n = number (decimal n)
+
+-- bytes in upper-case digits, two each
+abbrev pub in_digits : List ℕ → Json
+in_digits bytes = string (encode_upper bytes)
+
+-- a text as it is printed between quotes
+abbrev pub spelled : List ℕ → Json
+spelled text = string (flat_map escaped text)
+
+-- what is absent is null
+abbrev pub optional : {A : Type 0} → (A → Json) → Option A → Json
+optional f None = null
+optional f (Some x) = f x
+
+-- a value's line: its bytes, and a line feed
+abbrev pub line_of : Json → List ℕ
+line_of j = print (json_tokens j) ++ 10 ∷ []
+
+-- a reader finds the value in its line, without the line feed
+abbrev pub ReadsBack : Json → Type 0
+ReadsBack j = document (print (json_tokens j)) ≡ Some j

@@ -1,0 +1,78 @@
+//! The form in which something is written.
+
+ghost use Rattle.std.specs.Prelude.{◌≡◌, ◌≢◌, Err, IfErr, IfOk, IsOk, Ok, map};
+ghost use Rattle.std.specs.Result.{result_map_both};
+ghost use Rattle.fw_package.specs.Reading.{package_of};
+ghost use Rattle.fw_script.specs.Seen.{device_of};
+ghost use Rattle.fw_json.specs.Forms.{inspection_in, plan_in, report_in};
+
+use crate::inspection::inspect_json;
+use crate::plan::plan_json;
+use crate::report::report_json;
+use fd_core::Bank;
+use fw_package::Package;
+use fw_script::{DeviceConfig, report};
+use fw_setup::forecast;
+use fw_world::World;
+use fwupd_base::{InspectFault, inspect};
+use std::alloc::{AllocError, Global};
+
+/// The form in which something is written.
+#[derive(Clone, Copy, PartialEq, Eq)]
+pub enum Form {
+    /// Lines of text, for a reader.
+    Text,
+    /// One line of JSON, for a program.
+    Json,
+}
+
+/// Inspects a firmware package, in a form.
+///
+/// # Errors
+/// Bytes that are no package are refused by the first fault that holds; `Memory` only where memory was refused.
+pub fn inspect_in(alloc: Global, bytes: &[u8], form: Form) -> Result<Vec<u8>, InspectFault>
+    ensures text { IfOk result (λ text. result_map_both (inspection_in form) (λ e. e) (package_of bytes.now) ≡ Ok text.items) }
+    ensures fault { IfErr result (λ e. e ≢ InspectFault.Memory → result_map_both (λ p. p) InspectFault.Package (package_of bytes.now) ≡ Err e) }
+    ensures memory { IfErr result (λ e. e ≡ InspectFault.Memory → IsOk (package_of bytes.now)) }
+{
+    match form {
+        Form::Text => inspect(alloc, bytes),
+        Form::Json => inspect_json(alloc, bytes),
+    }
+}
+
+/// The report of a world, in a form.
+///
+/// # Errors
+/// `AllocError` where memory for it is refused.
+pub fn report_in<'a, B: Bank + Drop>(
+    alloc: Global,
+    world: &World<'a, B>,
+    form: Form,
+) -> Result<Vec<u8>, AllocError>
+    ensures { IfOk result (λ text. text.items ≡ report_in form world.now) }
+{
+    match form {
+        Form::Text => report(alloc, world),
+        Form::Json => report_json(alloc, world),
+    }
+}
+
+/// What an update of each of these devices comes to, with the package of this number, in a form.
+///
+/// # Errors
+/// `AllocError` where memory for it is refused.
+pub fn plan_in(
+    alloc: Global,
+    number: usize,
+    contents: &Package<'_>,
+    devices: &[DeviceConfig],
+    form: Form,
+) -> Result<Vec<u8>, AllocError>
+    ensures { IfOk result (λ text. text.items ≡ plan_in form number contents.now (map device_of devices.now)) }
+{
+    match form {
+        Form::Text => forecast(alloc, number, contents, devices),
+        Form::Json => plan_json(alloc, number, contents, devices),
+    }
+}

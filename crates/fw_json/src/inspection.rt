@@ -1,0 +1,199 @@
+//! The inspection of a package as a value of JSON.
+
+ghost use Rattle.std.specs.Prelude.{◌≡◌, ◌≢◌, ◌+◌, Err, IfErr, IfOk, IsOk, OnOk, Ok};
+ghost use Rattle.std.specs.Result.{result_map_both};
+ghost use Rattle.json.specs.Tree.{items_tokens, json_tokens};
+ghost use Rattle.fw_package.specs.Lent.{component_seen, record_seen};
+ghost use Rattle.fw_package.specs.Package.{descriptor_of};
+ghost use Rattle.fw_package.specs.Reading.{package_of};
+ghost use Rattle.fw_json.specs.Inspections.{component_value, descriptor_value, inspection_value, record_value, use_value};
+ghost use Rattle.fw_json.specs.Values.{ReadsBack, counted_items, items, line_of};
+ghost use Rattle.fw_json.specs.Writing.{Tells};
+
+use crate::fields::{
+    close_array, close_object, line, open_array_field, open_object, push_digits_field, push_next,
+    push_number_field, push_text_field, push_word_field,
+};
+use fw_package::{Component, Components, Descriptor, Descriptors, Package, Record, Records, Uses};
+use fwupd_base::InspectFault;
+use json::Writer;
+use std::alloc::{AllocError, Global};
+
+/// Writes a descriptor.
+#[tactic(auto, unfolding(crate::specs::Inspections::descriptor_value))]
+pub(crate) fn push_descriptor(
+    alloc: Global,
+    writer: &mut Writer,
+    descriptor: Descriptor<'_>,
+) -> Result<(), AllocError>
+    ensures { OnOk result (Tells writer.old writer.new (json_tokens (descriptor_value (descriptor_of descriptor.entry)))) }
+{
+    open_object(writer)?;
+    push_number_field(writer, "type", usize::from(descriptor.kind))?;
+    push_digits_field(alloc, writer, "data", descriptor.bytes)?;
+    close_object(writer)?;
+    Ok(())
+}
+
+/// Writes the descriptors of a record, and ends their array.
+#[tactic(auto, using(crate::proofs::Chains::telling))]
+fn push_descriptors(
+    alloc: Global,
+    writer: &mut Writer,
+    descriptors: Descriptors<'_>,
+) -> Result<(), AllocError>
+    ensures { OnOk result (Tells writer.old writer.new (items_tokens (items descriptor_value descriptors.entry))) }
+{
+    for descriptor in descriptors {
+        push_descriptor(alloc, writer, descriptor)?;
+    }
+    close_array(writer)?;
+    Ok(())
+}
+
+/// Writes the number of each component that a record uses, and ends their array.
+#[tactic(auto, using(crate::proofs::Chains::telling))]
+fn push_uses(alloc: Global, writer: &mut Writer, uses: Uses<'_>) -> Result<(), AllocError>
+    ensures { OnOk result (Tells writer.old writer.new (items_tokens (items use_value uses.entry))) }
+{
+    for component in uses {
+        push_next(alloc, writer, usize::from(component))?;
+    }
+    close_array(writer)?;
+    Ok(())
+}
+
+/// Writes a record.
+fn push_record(
+    alloc: Global,
+    writer: &mut Writer,
+    number: usize,
+    contents: Record<'_>,
+) -> Result<(), AllocError>
+    ensures { OnOk result (Tells writer.old writer.new (json_tokens (record_value number (record_seen contents.entry)))) }
+{
+    open_object(writer)?;
+    push_number_field(writer, "number", number)?;
+    push_number_field(writer, "flags", contents.flags as usize)?;
+    push_text_field(alloc, writer, "set", contents.set_text.bytes)?;
+    open_array_field(writer, "uses")?;
+    push_uses(alloc, writer, contents.uses.iter())?;
+    open_array_field(writer, "descriptors")?;
+    push_descriptors(alloc, writer, contents.descriptors)?;
+    close_object(writer)?;
+    Ok(())
+}
+
+/// Writes all records, and ends their array.
+#[tactic(auto, using(crate::proofs::Chains::telling))]
+fn push_records(
+    alloc: Global,
+    writer: &mut Writer,
+    mut records: Records<'_>,
+) -> Result<(), AllocError>
+    ensures { OnOk result (Tells writer.old writer.new (items_tokens (counted_items record_value 1 records.entry))) }
+{
+    for number in 0..records.len() {
+        let Some(contents) = records.next() else {
+            unreachable!()
+        };
+        push_record(alloc, writer, number + 1, contents)?;
+    }
+    close_array(writer)?;
+    Ok(())
+}
+
+/// Writes a component.
+fn push_component(
+    alloc: Global,
+    writer: &mut Writer,
+    number: usize,
+    contents: Component<'_>,
+) -> Result<(), AllocError>
+    ensures { OnOk result (Tells writer.old writer.new (json_tokens (component_value number (component_seen contents.entry)))) }
+{
+    open_object(writer)?;
+    push_number_field(writer, "number", number)?;
+    push_number_field(
+        writer,
+        "classification",
+        usize::from(contents.classification),
+    )?;
+    push_number_field(writer, "identifier", usize::from(contents.identifier))?;
+    push_number_field(writer, "stamp", contents.stamp as usize)?;
+    push_number_field(writer, "options", usize::from(contents.options))?;
+    push_number_field(writer, "offset", contents.offset)?;
+    push_number_field(writer, "size", contents.image.len())?;
+    push_text_field(alloc, writer, "version", contents.text.bytes)?;
+    close_object(writer)?;
+    Ok(())
+}
+
+/// Writes all components, and ends their array.
+#[tactic(auto, using(crate::proofs::Chains::telling))]
+fn push_components(
+    alloc: Global,
+    writer: &mut Writer,
+    mut components: Components<'_>,
+) -> Result<(), AllocError>
+    ensures { OnOk result (Tells writer.old writer.new (items_tokens (counted_items component_value 1 components.entry))) }
+{
+    for number in 0..components.len() {
+        let Some(contents) = components.next() else {
+            unreachable!()
+        };
+        push_component(alloc, writer, number + 1, contents)?;
+    }
+    close_array(writer)?;
+    Ok(())
+}
+
+/// Writes a package.
+fn push_package(
+    alloc: Global,
+    writer: &mut Writer,
+    contents: &Package<'_>,
+) -> Result<(), AllocError>
+    ensures { OnOk result (Tells writer.old writer.new (json_tokens (inspection_value contents.now))) }
+{
+    open_object(writer)?;
+    push_word_field(writer, "format", "fwupd-inspect/1")?;
+    push_number_field(writer, "header_size", contents.header_size())?;
+    open_array_field(writer, "records")?;
+    push_records(alloc, writer, contents.records())?;
+    open_array_field(writer, "components")?;
+    push_components(alloc, writer, contents.components())?;
+    close_object(writer)?;
+    Ok(())
+}
+
+/// The line of a package.
+fn inspection(alloc: Global, contents: &Package<'_>) -> Result<Vec<u8>, AllocError>
+    ensures line { IfOk result (λ text. text.items ≡ line_of (inspection_value contents.now)) }
+    ensures reads_back { OnOk result (ReadsBack (inspection_value contents.now)) }
+{
+    let mut writer = Writer::new(Vec::new(alloc));
+    push_package(alloc, &mut writer, contents)?;
+    line(writer)
+}
+
+/// Inspects a firmware package: what its records name, and its components, as a value of JSON on one line, ended by a line feed.
+/// Without it the line reads back as that value.
+///
+/// # Errors
+/// Bytes that are no package are refused by the first fault that holds; `Memory` only where memory was refused.
+pub fn inspect_json(alloc: Global, bytes: &[u8]) -> Result<Vec<u8>, InspectFault>
+    ensures line { IfOk result (λ text. result_map_both (λ p. line_of (inspection_value p)) (λ e. e) (package_of bytes.now) ≡ Ok text.items) }
+    ensures reads_back { OnOk result (IfOk (package_of bytes.now) (λ p. ReadsBack (inspection_value p))) }
+    ensures fault { IfErr result (λ e. e ≢ InspectFault.Memory → result_map_both (λ p. p) InspectFault.Package (package_of bytes.now) ≡ Err e) }
+    ensures memory { IfErr result (λ e. e ≡ InspectFault.Memory → IsOk (package_of bytes.now)) }
+{
+    let contents = match Package::read(bytes) {
+        Ok(contents) => contents,
+        Err(fault) => return Err(InspectFault::Package(fault)),
+    };
+    let Ok(text) = inspection(alloc, &contents) else {
+        return Err(InspectFault::Memory);
+    };
+    Ok(text)
+}
