@@ -69,7 +69,8 @@ Causes of a drop. The first that holds is printed:
 
 Limits: a run reads at most 16777216 bytes. The next byte ends it with 'fwupd: input'.
 
-Status: 0; 1 if standard error says 'fwupd: input', 'fwupd: output' or 'fwupd: memory'; 2 for wrong usage.";
+Status: 0; 1 if standard error says 'fwupd: input', 'fwupd: output' or 'fwupd: memory'; 2 for wrong
+usage.";
 
 /// What stands below the help of `inspect`.
 const INSPECT_HELP: &str = "\
@@ -81,15 +82,16 @@ Faults of a package. The first that holds is printed:
   Identifier    the identifier isn't that of this format
   Revision      the header revision isn't 1
   HeaderSize    the header is longer than the file, or its parts don't end where it does
-  BitmapLength  the bitmap's bit length is 0, not a multiple of 8, or less than the number of components
+  BitmapLength  the bitmap's bit length is 0, not a multiple of 8, or less than the number of
+                components
   RecordLength  a record's length isn't the sum of its parts
   Checksum      the header's checksum isn't that of the bytes before it
   ImageRange    a component's image goes past the file's end
 
 Limits: the file's path is UTF-8 text, and the file fits into memory.
 
-Status: 0; 1 if standard error says 'fwupd: package: ' and a fault, 'fwupd: FILE: unreadable', 'fwupd: output' or
-'fwupd: memory'; 2 for wrong usage.";
+Status: 0; 1 if standard error says 'fwupd: package: ' and a fault, 'fwupd: FILE: unreadable',
+'fwupd: output' or 'fwupd: memory'; 2 for wrong usage.";
 
 /// The subcommand `answer`.
 fn answer_command<'a>(alloc: Global) -> Result<Command<'a>, clap::Error> {
@@ -107,9 +109,9 @@ fn answer_command<'a>(alloc: Global) -> Result<Command<'a>, clap::Error> {
         .about("Answers MCTP packets as an endpoint without a device")
         .long_about(
             "Answers MCTP packets as an endpoint without a device.\n\n\
-            Each line of standard input is one packet in hexadecimal digits. For each line, standard output gets one: the packet\n\
-            that answers it, in upper-case digits, or 'drop' and the cause. The answers to all whole lines are written before more\n\
-            input is awaited.",
+            Each line of standard input is one packet in hexadecimal digits. For each line, standard output gets\n\
+            one: the packet that answers it, in upper-case digits, or 'drop' and the cause. The answers to all\n\
+            whole lines are written before more input is awaited.",
         )
         .after_long_help(ANSWER_HELP)
         .arg(eid)?
@@ -127,9 +129,10 @@ fn inspect_command<'a>(alloc: Global) -> Result<Command<'a>, clap::Error> {
         .about("Prints what a firmware update package holds")
         .long_about(
             "Prints what a firmware update package holds.\n\n\
-            It prints a line for the package, one for each record and each of its descriptors, and one for each component. Records\n\
-            and components are counted from 1. A byte of a text that isn't plain ASCII is printed as \\x and two digits. A file\n\
-            that isn't a package is refused with the first fault that holds.",
+            It prints a line for the package, one for each record and each of its descriptors, and one for each\n\
+            component. Records and components are counted from 1. A byte of a text that isn't plain ASCII is\n\
+            printed as \\x and two digits. A file that isn't a package is refused with the first fault that\n\
+            holds.",
         )
         .after_long_help(INSPECT_HELP)
         .arg(json_option(alloc))?
@@ -142,17 +145,19 @@ const REPLAY_HELP: &str = "\
 Example:
   fwupd replay examples/one.config examples/update.schedule
 
-CONFIG has these lines. Words stand one space apart; - is the empty text, or no bytes; empty lines, and lines that begin
-with #, are skipped:
-  agent EID UUID                                  the update agent, first; an EID is 8 to 254
-  device EID UUID                                 a device, at most 16; these lines follow it:
-    descriptor TYPE HEX                           four digits, and data; at most 246 bytes for a device
-    component CLASS IDENT INDEX STAMP TEXT HEX    a component with the image that runs; 1 to 3 for a device
-  package PATH                                    a package's file; these lines are last, and count from 1
+CONFIG has these lines. Words stand one space apart; - is the empty text, or no bytes; empty lines,
+and lines that begin with #, are skipped:
+  agent EID UUID           the update agent, first; an EID is 8 to 254
+  device EID UUID          a device, at most 16; these lines follow it:
+    descriptor TYPE HEX    four digits, and data; at most 246 bytes for a device
+    component CLASS IDENT INDEX STAMP TEXT HEX
+                           a component with the image that runs; 1 to 3 for a device
+  package PATH             a package's file; these lines are last, and count from 1
 
 SCHEDULE, a step a line:
   tick [N]                   a unit of time passes, or N, 1 to 1000; all nodes count a tick in each
-  miss EID ..                a unit passes; these nodes, 1 to 17, miss its tick, and all others count it
+  miss EID ..                a unit passes; these nodes, 1 to 17, miss its tick, and all others
+                             count it
   deliver PAIR NUMBER NODE   packet NUMBER between the agent and device PAIR is delivered to NODE
   start EID PACKAGE          the operator starts a device's update with a package
   cancel EID                 the operator cancels the update
@@ -168,12 +173,14 @@ Why a step isn't taken; the report is then of the world before it:
   NoSuchNode, NoSuchPacket, Dead (sent more than 8 units ago), Memory, or Refused: and
   NoSuchPackage, Busy, NotReady, NotNow, ClockEnd, ClockSlow
 
-The report has the units that passed; each node, and whether it hears; for a device its state, that of the
-agent's session with it, and how many packets were sent between the two; the images that run, with size and first bytes; the
-event log's records and last answer; and what was applied, recorded and activated, in order.
+The report has the units that passed; each node, and whether it hears; for a device its state, that
+of the agent's session with it, and how many packets were sent between the two; the images that run,
+with size and first bytes; the event log's records and last answer; and what was applied, recorded
+and activated, in order.
 
-Status: 0; 1 if standard error says 'fwupd: PATH: line N: FAULT', 'fwupd: package: FAULT', 'fwupd: step N: FAULT',
-'fwupd: FILE: unreadable', 'fwupd: output' or 'fwupd: memory'; 2 for wrong usage.";
+Status: 0; 1 if standard error says 'fwupd: PATH: line N: FAULT', 'fwupd: package: FAULT',
+'fwupd: step N: FAULT', 'fwupd: FILE: unreadable', 'fwupd: output' or 'fwupd: memory'; 2 for wrong
+usage.";
 
 /// The subcommand `replay`.
 fn replay_command<'a>(alloc: Global) -> Result<Command<'a>, clap::Error> {
@@ -188,9 +195,10 @@ fn replay_command<'a>(alloc: Global) -> Result<Command<'a>, clap::Error> {
     let command = Command::new(alloc, "replay")
         .about("Replays a schedule of packets, ticks and commands, and prints a report")
         .long_about(
-            "Replays a schedule of packets, ticks and commands on an update agent and its devices, and prints a report.\n\n\
-            A packet may be delivered at once, later, more than once or never, for 8 units after it was sent. The schedule says\n\
-            which packet is delivered when.",
+            "Replays a schedule of packets, ticks and commands on an update agent and its devices, and\n\
+            prints a report.\n\n\
+            A packet may be delivered at once, later, more than once or never, for 8 units after it was sent.\n\
+            The schedule says which packet is delivered when.",
         )
         .after_long_help(REPLAY_HELP)
         .arg(json_option(alloc))?
@@ -208,17 +216,20 @@ Examples:
 
 CONFIG and the report are those of 'fwupd replay --help'.
 
-If standard error is a terminal, it shows the progress of the first device that loads an image. --trace writes a line for
-each packet: the turn, the device, to-device or to-agent, and the packet in hexadecimal digits.
+If standard error is a terminal, it shows the progress of the first device that loads an image.
+--trace writes a line for each packet: the turn, the device, to-device or to-agent, and the packet
+in hexadecimal digits.
 
-Faults: 'package: none' if CONFIG names fewer packages; 'socket: EID' if FOLDER/EID.sock can't be made, or is there already;
-after the report, 'edge: Frame' if a socket failed, 'edge: Step' at the end of the clock, and 'trace' if the trace can't be
-written. If its file can't be made, 'trace', and nothing is run. With --check, after the report, 'session EID: WORD' of the
-first session in configured order that isn't Done: the cause of its failure, or where it stands.
+Faults: 'package: none' if CONFIG names fewer packages; 'socket: EID' if FOLDER/EID.sock can't be
+made, or is there already; after the report, 'edge: Frame' if a socket failed, 'edge: Step' at the
+end of the clock, and 'trace' if the trace can't be written. If its file can't be made, 'trace', and
+nothing is run. With --check, after the report, 'session EID: WORD' of the first session in
+configured order that isn't Done: the cause of its failure, or where it stands.
 
 Limits: 80000 turns of one tick each. Three images of 1 MiB take about 66000.
 
-Status: 0; 1 if standard error says 'fwupd: ' and a fault, one of these or of 'replay'; 2 for wrong usage.";
+Status: 0; 1 if standard error says 'fwupd: ' and a fault, one of these or of 'replay'; 2 for wrong
+usage.";
 
 /// The subcommand `run`.
 fn run_command<'a>(alloc: Global) -> Result<Command<'a>, clap::Error> {
@@ -245,8 +256,9 @@ fn run_command<'a>(alloc: Global) -> Result<Command<'a>, clap::Error> {
     let command = Command::new(alloc, "run")
         .about("Updates each device with a package, over Unix sockets")
         .long_about(
-            "Updates each device of a configuration with its first package, or with package N, each over a Unix socket\n\
-            FOLDER/EID.sock to itself, and prints a report. A socket's file is removed as soon as both of its ends are connected.",
+            "Updates each device of a configuration with its first package, or with package N, each over a Unix\n\
+            socket FOLDER/EID.sock to itself, and prints a report. A socket's file is removed as soon as both of\n\
+            its ends are connected.",
         )
         .after_long_help(RUN_HELP)
         .arg(package_option(alloc))?
@@ -264,11 +276,13 @@ const BUILD_HELP: &str = "\
 Example:
   fwupd build my.spec my.fwpkg
 
-SPEC has these lines. Words stand one space apart; a TEXT is at most 255 bytes, of which \\xNN is the byte with these two
-upper-case digits; - is the empty text, or none; empty lines, and lines that begin with #, are skipped:
+SPEC has these lines. Words stand one space apart; a TEXT is at most 255 bytes, of which \\xNN is
+the byte with these two upper-case digits; - is the empty text, or none; empty lines, and lines that
+begin with #, are skipped:
   version TEXT             the package's version, at most once, before all records and components
   release HEX              its release time, 13 bytes, in the same way; without one it is zeros
-  record FLAGS TEXT N ..   a record: its option flags, its set text, and its components, which count from 1 and rise
+  record FLAGS TEXT N ..   a record: its option flags, its set text, and its components, which count
+                           from 1 and rise
   descriptor TYPE HEX      a descriptor of the record before; a TYPE is four digits
   component CLASS IDENT STAMP OPTIONS METHOD TEXT PATH
                            a component, behind all records; PATH is its image's file
@@ -278,19 +292,21 @@ Faults of a text. The first line with one is printed, with the first fault of it
   Fields     a field is left out, or one stands too many
   Order      the line may not stand here
   Number     a number isn't all digits, or a path isn't UTF-8 text
-  Hex        bytes aren't an even number of hexadecimal digits, a TYPE isn't four, a release time isn't 13 bytes, or a
-             backslash begins no \\xNN
+  Hex        bytes aren't an even number of hexadecimal digits, a TYPE isn't four, a release time
+             isn't 13 bytes, or a backslash begins no \\xNN
   Range      a number is too large, a record's components don't rise, or one of them isn't there
-  Limit      a text is longer than 255 bytes, a record has more than 255 descriptors, or there are more than 255 records;
-             at the line after the last: the header has more than 65535 bytes, or the package more than 4294967295
+  Limit      a text is longer than 255 bytes, a record has more than 255 descriptors, or there are
+             more than 255 records; at the line after the last: the header has more than 65535
+             bytes, or the package more than 4294967295
 
-FILE is written beside its place, as FILE.new, and comes there when it is whole. Where that fails FILE is as it was. A file
-FILE.new that is there already, as a run that was killed leaves it, isn't written over: 'fwupd: output'.
+FILE is written beside its place, as FILE.new, and comes there when it is whole. Where that fails
+FILE is as it was. A file FILE.new that is there already, as a run that was killed leaves it, isn't
+written over: 'fwupd: output'.
 
 Limits: paths are UTF-8 text, and the images fit into memory.
 
-Status: 0; 1 if standard error says 'fwupd: SPEC: line N: ' and a fault, 'fwupd: PATH: unreadable', 'fwupd: output' or
-'fwupd: memory'; 2 for wrong usage.";
+Status: 0; 1 if standard error says 'fwupd: SPEC: line N: ' and a fault, 'fwupd: PATH: unreadable',
+'fwupd: output' or 'fwupd: memory'; 2 for wrong usage.";
 
 /// The subcommand `build`.
 fn build_command<'a>(alloc: Global) -> Result<Command<'a>, clap::Error> {
@@ -339,28 +355,31 @@ CONFIG is that of 'fwupd replay --help'. A device has these lines:
   device EID package N record R set TEXT WORD
       R is the first record of the package that is for the device; a dash if none is
   record R lacks descriptor TYPE HEX, or record R has none
-      if none is: for each record the first of its descriptors that the device lacks, or that it has no descriptor
+      if none is: for each record the first of its descriptors that the device lacks, or that it has
+      no descriptor
   component CLASS ident IDENT size SIZE stamp STAMP version TEXT active STAMP TEXT WORD
-      a component that the device is offered, and what runs in the device; dashes if it has no such component
+      a component that the device is offered, and what runs in the device; dashes if it has no such
+      component
 
 What becomes of the update:
   Update              its components are loaded, in this order
   NothingToUpdate     it fails: the record uses no component, or the device takes none of them
   NoRecord            it fails: no record is for the device
-  Plan:FAULT          it fails: two components of the record have one class and ident (DuplicateComponent), there are more than
-                      8 (TooManyComponents), an image has more than 1048576 bytes (ImageTooLarge), or the set text or a version
-                      more than 200 (TextTooLong)
+  Plan:FAULT          it fails: two components of the record have one class and ident
+                      (DuplicateComponent), there are more than 8 (TooManyComponents), an image has
+                      more than 1048576 bytes (ImageTooLarge), or the set text or a version more
+                      than 200 (TextTooLong)
 
 What becomes of a component:
   update              it is loaded
-  force               the device declines it, as its stamp isn't higher, and its option bit 0 forces it
+  force               the device declines it, as its stamp isn't higher, and option bit 0 forces it
   skip identical      its stamp is that of the image that runs
   skip lower          its stamp is lower
   skip unsupported    the device has no such component
 A stamp FFFFFFFF is compared with none: the component's option bit 1 is clear, or it is its stamp.
 
-Status: 0, also where an update would fail; 1 if standard error says 'fwupd: package: none', as CONFIG names fewer packages, or
-a fault of 'replay'; 2 for wrong usage.";
+Status: 0, also where an update would fail; 1 if standard error says 'fwupd: package: none', as
+CONFIG names fewer packages, or a fault of 'replay'; 2 for wrong usage.";
 
 /// The subcommand `plan`.
 fn plan_command<'a>(alloc: Global) -> Result<Command<'a>, clap::Error> {
@@ -371,8 +390,8 @@ fn plan_command<'a>(alloc: Global) -> Result<Command<'a>, clap::Error> {
     let command = Command::new(alloc, "plan")
         .about("Prints what an update of each device would come to")
         .long_about(
-            "Prints what an update of each device of a configuration would come to, with its first package or another, and why. Nothing\n\
-            is updated, and nothing is made.",
+            "Prints what an update of each device of a configuration would come to, with its first package or\n\
+            another, and why. Nothing is updated, and nothing is made.",
         )
         .after_long_help(PLAN_HELP)
         .arg(package_option(alloc))?
