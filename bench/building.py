@@ -6,14 +6,14 @@ Both are run in turn, RUNS times (15 by default). What is printed are the median
 ratios, and how much more memory a build needs than one of an empty package, in parts of the images' size."""
 import os
 import pathlib
-import resource
 import statistics
 import subprocess
 import sys
 import tempfile
 import time
 
-MIB = 1 << 20
+from memory import MIB, needs
+
 IMAGES = 4
 SIZE = 4 * MIB
 
@@ -25,23 +25,6 @@ def measured(arguments):
     _, status, usage = os.wait4(child, 0)
     assert status == 0, (arguments, status)
     return usage.ru_utime + usage.ru_stime, time.monotonic() - begun
-
-
-def needs(arguments):
-    """The least address space with which a command ends well, to 64 KiB."""
-
-    def runs(limit):
-        def limited():
-            resource.setrlimit(resource.RLIMIT_AS, (limit, limit))
-
-        child = subprocess.run(arguments, preexec_fn=limited, stdout=subprocess.DEVNULL, stderr=subprocess.DEVNULL)
-        return child.returncode == 0
-
-    low, high = 0, 256 * MIB
-    while high - low > 65536:
-        middle = (low + high) // 2
-        low, high = (low, middle) if runs(middle) else (middle, high)
-    return high
 
 
 def prepared(folder):

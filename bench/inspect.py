@@ -9,7 +9,6 @@ should need its own size of memory more than a small one.
 """
 
 import os
-import resource
 import struct
 import subprocess
 import sys
@@ -17,8 +16,9 @@ import tempfile
 import time
 import zlib
 
+from memory import MIB, needs
+
 IDENTIFIER = bytes.fromhex("F018878CCB7D49439800A02F059ACA02")
-MEBIBYTE = 1 << 20
 
 
 def package(records, components, image):
@@ -45,23 +45,6 @@ def measure(program, path, turns):
     return seconds
 
 
-def needs(program, path):
-    """The least address space with which a run ends well, to 64 KiB."""
-
-    def runs(limit):
-        def limited():
-            resource.setrlimit(resource.RLIMIT_AS, (limit, limit))
-
-        child = subprocess.run([program, "inspect", path], preexec_fn=limited, stdout=subprocess.DEVNULL, stderr=subprocess.DEVNULL)
-        return child.returncode == 0
-
-    low, high = 0, 256 * MEBIBYTE
-    while high - low > 65536:
-        middle = (low + high) // 2
-        low, high = (low, middle) if runs(middle) else (middle, high)
-    return high
-
-
 def main():
     program = os.path.abspath(sys.argv[1])
     rows = {
@@ -69,8 +52,8 @@ def main():
         "40 records of 1,800 uses": (40, 1800, 0),
         "80 records of 900 uses": (80, 900, 0),
         "80 records of 1,800 uses": (80, 1800, 0),
-        "an image of 8 MiB": (1, 1, 8 * MEBIBYTE),
-        "an image of 16 MiB": (1, 1, 16 * MEBIBYTE),
+        "an image of 8 MiB": (1, 1, 8 * MIB),
+        "an image of 16 MiB": (1, 1, 16 * MIB),
     }
     found = {}
     with tempfile.TemporaryDirectory() as folder:
@@ -78,15 +61,15 @@ def main():
         for name, (records, components, image) in rows.items():
             with open(path, "wb") as file:
                 file.write(package(records, components, image))
-            seconds, memory = measure(program, path, 60), needs(program, path)
+            seconds, memory = measure(program, path, 60), needs([program, "inspect", path])
             found[name] = seconds, memory
-            print(f"{name}: {1000 * seconds:.1f} ms, {memory / MEBIBYTE:.1f} MiB")
+            print(f"{name}: {1000 * seconds:.1f} ms, {memory / MIB:.1f} MiB")
     small = found["one record of 1 use"]
     spent = {name: seconds - small[0] for name, (seconds, _) in found.items()}
     print(f"twice the records: {spent['80 records of 1,800 uses'] / spent['40 records of 1,800 uses']:.2f} times the time")
     print(f"twice the components: {spent['80 records of 1,800 uses'] / spent['80 records of 900 uses']:.2f} times the time")
     more = found["an image of 16 MiB"][1] - small[1]
-    print(f"memory of 16 MiB: {more / (16 * MEBIBYTE):.2f} times its size")
+    print(f"memory of 16 MiB: {more / (16 * MIB):.2f} times its size")
 
 
 if __name__ == "__main__":
