@@ -27,6 +27,28 @@ wanted_json() {
     compare 'run --json' '' "$(cmp "$work/json" crates/fwupd/data/worlds/unmet.report.json 2>&1)"
 }
 
+# 255 records, 16 devices, and an image of no byte that runs.
+sizes_in_json() {
+    local eid
+    for _ in {1..255}; do echo 'record 0 A -'; done > "$work/records.spec"
+    fwupd build "$work/records.spec" "$work/records.fwpkg"
+    same_in_json inspect "$work/records.fwpkg"
+    {
+        echo 'agent 8 00000000000000000000000000000000'
+        for eid in {9..24}; do
+            printf 'device %s 00000000000000000000000000000000\ndescriptor 0000 3412\ncomponent 10 1 0 1 1.0 -\n' "$eid"
+        done
+        echo "package $work/data/one.fwpkg"
+    } > "$work/sixteen.config"
+    printf 'tick 3\n' > "$work/waits"
+    same_in_json plan "$work/sixteen.config"
+    same_in_json replay "$work/sixteen.config" "$work/waits"
+    same_in_json run --check "$work/sixteen.config" "$work"
+    holds "fwupd plan '$work/sixteen.config'" 0 'device 24 package 1 record 1 set "A" Update'
+    holds "fwupd replay '$work/sixteen.config' '$work/waits'" 0 'active 24 10 1 0 -'
+    holds "fwupd run '$work/sixteen.config' '$work'" 0 'device 24 up ACTIVATE session Done sent 27' 'activated 24 10 1 241'
+}
+
 json() {
     local name file
     wanted_json
@@ -49,6 +71,7 @@ json() {
         same_in_json plan "$work/data/worlds/$name.config"
     done
     same_in_json plan --package 2 "$work/data/worlds/one.config"
+    sizes_in_json
     printf 'sel 40\n' > "$work/asked"
     same_in_json replay "$work/data/worlds/one.config" "$work/asked"
     holds 'fwupd inspect --json examples/two-records.fwpkg 2>&1 > /dev/full' 1 'fwupd: output'
