@@ -100,4 +100,5 @@ def main():
         schedules(program, folder)
 
 
-main()
+if __name__ == "__main__":
+    main()

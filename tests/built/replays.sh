@@ -17,6 +17,7 @@ worlds() {
     done
     replayed two data/worlds/late-request.schedule late-request
     replayed three data/worlds/silent.schedule silent
+    replayed wide data/worlds/wide.schedule wide
     replayed one data/worlds/no-such-packet.schedule steps 'fwupd: step 5: NoSuchPacket'
     replayed one data/worlds/dead.schedule dead 'fwupd: step 12: Dead'
     replayed one data/worlds/slow-clock.schedule slow-clock

@@ -34,6 +34,11 @@ runs() {
     compare 'its packets' '27 1 9 to-device 010908C801800501' "$(wc -l < "$work/trace") $(head -n 1 "$work/trace")"
     compare 'the first answer' '1 9 to-agent 010809C001000501000600000001000002003412' "$(sed -n 2p "$work/trace")"
     compare 'who sent them' '12 to-agent 15 to-device' "$(cut -d ' ' -f 3 "$work/trace" | sort | uniq -c | xargs)"
+    # the same update where packets carry up to 128 bytes: the device asks for its 241 bytes at once, and they come in two packets
+    compare 'a run at 128' "$(< crates/fwupd/data/worlds/wide.report)" "$(cd crates/fwupd && fwupd run --trace "$work/trace" data/worlds/wide.config "$work" 2>&1)"
+    compare 'its packets at 128' '11 to-agent 12 to-device' "$(cut -d ' ' -f 3 "$work/trace" | sort | uniq -c | xargs)"
+    compare 'its turns at 128' '11 2' "$(tail -n 1 "$work/trace" | cut -d ' ' -f 1) $(grep -c '^7 9 to-device ' "$work/trace")"
+    compare 'its longest packets at 128' '122 132' "$(awk '{ print length($4) / 2 }' "$work/trace" | sort -n | tail -n 2 | xargs)"
     holds "cd crates/fwupd && fwupd run --trace '$work/none/trace' data/worlds/one.config '$work' 2>&1" 1 'fwupd: trace'
     holds "cd crates/fwupd && fwupd run --trace /dev/full data/worlds/one.config '$work' 2>&1" 1 "$report" 'fwupd: trace'
     grep -v '^package' crates/fwupd/data/worlds/one.config > "$work/bare"

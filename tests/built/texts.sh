@@ -12,17 +12,23 @@ refused_texts() {
 2: Missing|agent 8 @
 1: Directive|agents 8 @
 1: Directive| agent 8 @
-1: Directive|unit 64\nagent 8 @
+1: Directive|units 64\nagent 8 @
 1: Fields|agent 8
 1: Fields|agent  8 @
+2: Fields|agent 8 @\nunit
 1: Order|device 9 @
+1: Order|unit 64\nagent 8 @
 2: Order|agent 8 @\nagent 9 @
+3: Order|agent 8 @\nunit 64\nunit 64
+3: Order|agent 8 @\ndevice 9 @\nunit 64
 3: Order|agent 8 @\ndevice 9 @\nagent x y
 1: Number|agent x @
 1: Number|agent 8 0
 1: Number|agent 300 0
+2: Number|agent 8 @\nunit wide
 1: Range|agent 7 @
 1: Range|agent 255 @
+2: Range|agent 8 @\nunit 65
 2: Duplicate|agent 8 @\ndevice 8 @
 3: Hex|agent 8 @\ndevice 9 @\ndescriptor 000 3412
 3: Hex|agent 8 @\ndevice 9 @\ndescriptor 0000 341
@@ -114,7 +120,7 @@ texts() {
     while IFS='|' read -r cause line; do
         configured "$start$line" "line 4: $cause"
     done <<'TABLE'
-Directive|unit 3
+Directive|units 3
 Directive|miss 9
 Directive|tick
 Directive| device 10 @
@@ -126,8 +132,12 @@ Fields|component 10 2 0 1 1.0 beta AA
 Fields|component 10 2 0 1  AA
 Fields|package
 Fields|package a b
+Fields|unit
+Fields|unit 64 64
 Fields|package a\x20
 Order|agent 10 @
+Order|unit 64
+Order|unit 3
 Number|device x @
 Number|device 10 -
 Number|device 10 0000000000000000000000000000000
@@ -149,7 +159,8 @@ Range|component 10 2 0 4294967296 1.0 AA
 Duplicate|device 8 @
 Duplicate|device 9 @
 Duplicate|component 10 1 7 9 2.0 -
-Directive|unit 3\x20
+Directive|units 3\x20
+Fields|unit 3\x20
 Fields|agent 10
 Order|agent x -
 Order|agent 7 @
@@ -174,12 +185,24 @@ TABLE
 1: Order|descriptor 0000 -\n
 1: Order|package \xFF\n
 2: Order|agent 8 @\ncomponent 10 1 0 1 - -\n
+2: Order|#\nunit 64\n
+3: Order|agent 8 @\npackage a\nunit 64\n
+4: Order|agent 8 @\nunit 128\n\nunit x\n
+2: Number|agent 8 @\nunit -\n
+2: Range|agent 8 @\nunit 0\n
+2: Range|agent 8 @\nunit 96\n
+2: Range|agent 8 @\nunit 256\n
+2: Range|agent 8 @\nunit 18446744073709551744\n
 2: Number|agent 8 @\npackage \xFF\n
 1: Number|agent 8 -\nunit 3\n
 3: Order|agent 8 @\npackage a\ndevice x -\n
 4: Order|agent 8 @\ndevice 9 @\npackage a\ndescriptor 0 -\n
 TABLE
     configured '' 'line 1: Missing'
+    # each transmission unit, directly behind the agent's line or behind lines that say nothing
+    for line in 'unit 64' 'unit 128' 'unit 064' 'unit 0000000000000000000000128' '\n# wide\nunit 128\n'; do
+        configured "agent 8 @\n$line\ndevice 9 @\ncomponent 10 1 0 1 1.0 AA\n" ''
+    done
     # 246 bytes of descriptors, three components, 1,048,576 bytes of an image, 16 devices; and one more of each
     configured "${start}descriptor 0000 $(digits 00 242)" ''
     configured "${start}descriptor 0000 $(digits 00 243)" 'line 4: Limit'

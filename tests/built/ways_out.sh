@@ -24,7 +24,7 @@ ways_out() {
     holds 'fwupd answer 2> /dev/full' 2
     holds 'fwupd inspect none 2> /dev/full' 1
     holds 'fwupd answer --help' 0 '8 to 254' 'at most 16777216 bytes' 'more than 64 bytes'
-    holds 'fwupd replay --help' 0 'at most 16;' 'at most 246 bytes' '1 to 3 for' 'tick [N]' '1 to 1000;' '1 to 17,' 'deaf for 40 ticks' 'at most 64 bytes' 'more than 8 units'
+    holds 'fwupd replay --help' 0 'the unit is 64' 'at most 16;' 'at most 246 bytes' '1 to 3 for' 'tick [N]' '1 to 1000;' '1 to 17,' 'deaf for 40 ticks' 'at most 64 bytes' 'more than 8 units'
     holds 'fwupd run --help' 0 '80000 turns' 'about 66000'
     holds "head -c 16777216 /dev/zero | tr '\\0' 0 | fwupd answer 9 2>&1" 0 'drop Version'
     holds "head -c 16777217 /dev/zero | tr '\\0' 0 | fwupd answer 9 2>&1" 1 'fwupd: input'

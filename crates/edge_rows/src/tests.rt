@@ -8,3 +8,4 @@ mod packages;
 mod runs;
 mod setup;
 mod stories;
+mod units;

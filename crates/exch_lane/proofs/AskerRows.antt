@@ -1,12 +1,13 @@
 -- What a packet of a reply is for the asker.
 use Rattle.std.proofs.Common.{◌≡◌, ◌∙◌, ◌≤◌, ◌<◌, ◌==◌, ℕ, false, List, Option, Some, None, IfSome, length, slice_set, inl, inr, refl, sym, ap, subst}
+use Rattle.pldm_base.specs.Limits.{reply_limit}
+use Rattle.mctp_wire.specs.declared.unit.Unit.{«Unit»}
 use Rattle.std.proofs.lemmas.Bool.{eq-eqb}
 use Rattle.std.proofs.lemmas.Bool.Decides.{eqb_tells}
 use Rattle.mctp_reasm.specs.Held.{Held, fed, held_after}
 use Rattle.mctp_reasm.specs.declared.outcomes.Fed.{Fed}
 use Rattle.mctp_reasm.specs.declared.outcomes.Fed.TheVariants.{Dropped, Whole}
 use Rattle.mctp_reasm.specs.declared.outcomes.Fed.TheVariants as outcomes
-use Rattle.pldm_base.specs.Limits.{reply_limit}
 use Rattle.pldm_exch.specs.Caller.{Open, answer_body, answer_in, closed_by, heard_as}
 use Rattle.exch_lane.specs.Cells.{cell_at_asker}
 use Rattle.exch_lane.specs.Clocks.{Clock}
@@ -29,7 +30,7 @@ abbrev pub HearsRow : LaneOf → Ghost → AskerRow → Type 0
 HearsRow w g row = GoesOn (asker_does w row) (cell_at_asker row (run_of w g))
 
 -- whether a reply answers the open request
-answers : (l : Laws) (x : Ends) (e : Exchange) (r : List ℕ) (o : Open) (c : Clock) → IsWording e → x.tag ≡ o.tag → IsOpenOf c x o e
+answers : (l : Laws) (x : Ends) (e : Exchange) (r : List ℕ) (o : Open) (c : Clock) → IsWording x.unit e → x.tag ≡ o.tag → IsOpenOf c x o e
     → answer_body o (reply_of x e r) ≡ Some r
 answers l x e r o c wording same h =
     rw (eq-eqb x.tag o.tag same)
@@ -67,7 +68,7 @@ row_heard l w g tag e r (Some o) asked k c h = row_open l w g tag e r o asked k 
 
 -- what its assembly says of a packet of a reply
 row_fed : (l : Laws) (w : LaneOf) (g : Ghost) (tag : ℕ) (e : Exchange) (r : List ℕ) (f : Fed) (o : Option Held)
-    → Comes (reply_of (ends_of w tag) e r) f o → ReplyCame w g tag e r → LaneGood w g
+    → Comes w.unit (reply_of (ends_of w tag) e r) f o → ReplyCame w g tag e r → LaneGood w g
     → HearsRow w g (asker_fed (slice_set w.asker.replies tag o) w.asker.caller f)
 row_fed l w g tag e r (Whole m) o comes c h =
     subst (λ o. HearsRow w g (asker_fed (slice_set w.asker.replies tag o) w.asker.caller (Whole m))) (sym comes.1)
@@ -78,34 +79,34 @@ row_fed l w g tag e r (Dropped cause) o comes c h =
     asker_holds w g tag e r o c (holds_replies (asker_clock w) (ends_of w tag) e r (Dropped cause) o c.answered h.body.asker_time c.soon comes) h
 
 -- the row of a packet of a reply
-row_is : (l : Laws) (w : LaneOf) (tag : ℕ) (e : Exchange) (r : List ℕ) (s : Sent) (p : IsPacketOf (reply_of (ends_of w tag) e r) s.bytes)
-    → w.asker.deaf ≡ 0 → length r ≤ reply_limit → tag < 8
-    → asker_row_in w s.bytes ≡ asker_fed (slice_set w.asker.replies tag (held_after (held_at w.asker.replies tag) p.packet)) w.asker.caller (fed (held_at w.asker.replies tag) p.packet)
+row_is : (l : Laws) (w : LaneOf) (tag : ℕ) (e : Exchange) (r : List ℕ) (s : Sent) (p : IsPacketOf w.unit (reply_of (ends_of w tag) e r) s.bytes)
+    → w.asker.deaf ≡ 0 → length r ≤ reply_limit w.unit → tag < 8
+    → asker_row_in w s.bytes ≡ asker_fed (slice_set w.asker.replies tag (held_after w.unit (held_at w.asker.replies tag) p.packet)) w.asker.caller (fed w.unit (held_at w.asker.replies tag) p.packet)
 row_is l w tag e r s p hears few low =
     let lawful = reply_is (ends_of w tag) e r few in
-    let arrives = packet_arrives l w.asker_eid w.taker_eid false (reply_of (ends_of w tag) e r) p.number p.packet s.bytes lawful low refl refl refl p.at p.is in
-    let under : p.packet.head.tag ≡ tag = piece_tag l (reply_of (ends_of w tag) e r) p.number p.packet lawful p.at in
+    let arrives = packet_arrives l w.unit w.asker_eid w.taker_eid false (reply_of (ends_of w tag) e r) p.number p.packet s.bytes lawful low refl refl refl p.at p.is in
+    let under : p.packet.head.tag ≡ tag = piece_tag l w.unit (reply_of (ends_of w tag) e r) p.number p.packet lawful p.at in
     rw (hears, arrives, under) refl
 
 -- what is held is part of the reply
 part_from : (c : Clock) (x : Ends) (e : Exchange) (r : List ℕ) (o : Option Held) → e.reply ≡ Some r → IfSome o (IsReplies c x e)
-    → IfSome o (λ h. IsPart (reply_of x e r) h.packets)
+    → IfSome o (λ h. IsPart x.unit (reply_of x e r) h.packets)
 part_from c x e r None is h = tt
 part_from c x e r (Some held) is h = rw is at h.part
 
-pub few_of : (e : Exchange) (r : List ℕ) → e.reply ≡ Some r → IsWording e → length r ≤ reply_limit
-few_of e r is h = rw is at h.reply
+pub few_of : (u : «Unit») (e : Exchange) (r : List ℕ) → e.reply ≡ Some r → IsWording u e → length r ≤ reply_limit u
+few_of u e r is h = rw is at h.reply
 
 -- a packet of a reply comes to the hearing asker
 pub hears_reply : (l : Laws) (w : LaneOf) (g : Ghost) (tag : ℕ) (e : Exchange) (r : List ℕ) (s : Sent)
-    → IsPacketOf (reply_of (ends_of w tag) e r) s.bytes → ReplyCame w g tag e r → LaneGood w g → HearsRow w g (asker_row_in w s.bytes)
+    → IsPacketOf w.unit (reply_of (ends_of w tag) e r) s.bytes → ReplyCame w g tag e r → LaneGood w g → HearsRow w g (asker_row_in w s.bytes)
 hears_reply l w g tag e r s p c h =
     let k = came_of w g tag e c.low c.is h in
-    let few = few_of e r c.answered k.wording in
+    let few = few_of w.unit e r c.answered k.wording in
     let part = part_from (asker_clock w) (ends_of w tag) e r (held_at w.asker.replies tag) c.answered k.asker.replies in
-    let comes = piece_comes l (reply_of (ends_of w tag) e r) p.number p.packet (held_at w.asker.replies tag) (reply_is (ends_of w tag) e r few) p.at part in
+    let comes = piece_comes l w.unit (reply_of (ends_of w tag) e r) p.number p.packet (held_at w.asker.replies tag) (reply_is (ends_of w tag) e r few) p.at part in
     subst (HearsRow w g) (sym (row_is l w tag e r s p c.hears few c.low))
-    (row_fed l w g tag e r (fed (held_at w.asker.replies tag) p.packet) (held_after (held_at w.asker.replies tag) p.packet) comes c h)
+    (row_fed l w g tag e r (fed w.unit (held_at w.asker.replies tag) p.packet) (held_after w.unit (held_at w.asker.replies tag) p.packet) comes c h)
 
 -- a deaf asker, and a packet that isn't for it
 pub asker_silent : (w : LaneOf) (g : Ghost) (row : AskerRow) → row ≡ AskerRow.Ignores w.asker.replies → LaneGood w g → HearsRow w g row

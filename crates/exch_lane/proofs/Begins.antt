@@ -1,9 +1,9 @@
 -- A request begins.
 use Rattle.std.proofs.Common.{◌≡◌, ◌∙◌, ◌+◌, ◌≤◌, ◌<◌, ◌==◌, ◌&&◌, ◌%◌, ◌++◌, ℕ, true, if◌then◌else◌, List, Option, Some, None, IfSome, is_some, length, inl, inr, refl, sym, subst, arith}
+use Rattle.pldm_base.specs.Limits.{reply_limit}
 use Rattle.std.specs.List.{AllByRecursion}
 use Rattle.std.proofs.lemmas.Bool.{eq-eqb, eqb-true}
 use Rattle.std.proofs.lemmas.Bool.Decides.{eqb_tells}
-use Rattle.pldm_base.specs.Limits.{reply_limit}
 use Rattle.pldm_exch.specs.Caller.{begun, is_quiet, may_begin, next_tag, rest_at}
 use Rattle.pldm_exch.specs.Laws.{CallerStep}
 use Rattle.exch_lane.specs.Cells.{cell_ask}
@@ -28,7 +28,7 @@ rested_far (Some e) v hears rest h = let far = h.asker.rest hears in omega (arit
 pub exchange_of : LaneOf → ℕ → List ℕ → Exchange
 exchange_of w command body = record { identifier = w.asker.caller.number; command = command; body = body; first = w.now; last = w.now; reply = None }
 
-begins_tag : (l : Laws) (w : LaneOf) (g : Ghost) (command : ℕ) (body : List ℕ) → length body ≤ reply_limit → w.asker.deaf ≡ 0
+begins_tag : (l : Laws) (w : LaneOf) (g : Ghost) (command : ℕ) (body : List ℕ) → length body ≤ reply_limit w.unit → w.asker.deaf ≡ 0
     → rest_at w.asker.caller (next_tag w.asker.caller) ≡ 0 → g.current ≡ None → LaneGood w g
     → (t : ℕ) → t < 8
     → TagOf (view_of (begins w command body) (Some (next_tag w.asker.caller)) t) (put (next_tag w.asker.caller) (exchange_of w command body) g.exchanges t)
@@ -83,7 +83,7 @@ begins_runs : (w : LaneOf) (g : Ghost) (command : ℕ) (body : List ℕ) → g.c
 unfolding exchange_of
 begins_runs w g command body none = rw (none, eq-eqb (next_tag w.asker.caller) (next_tag w.asker.caller) refl) refl
 
-begins_body : (l : Laws) (w : LaneOf) (g : Ghost) (command : ℕ) (body : List ℕ) → length body ≤ reply_limit → w.asker.deaf ≡ 0
+begins_body : (l : Laws) (w : LaneOf) (g : Ghost) (command : ℕ) (body : List ℕ) → length body ≤ reply_limit w.unit → w.asker.deaf ≡ 0
     → rest_at w.asker.caller (next_tag w.asker.caller) ≡ 0 → g.current ≡ None → LaneGood w g
     → LaneBody (begins w command body) (record { exchanges = put (next_tag w.asker.caller) (exchange_of w command body) g.exchanges; current = Some (next_tag w.asker.caller) })
 begins_body l w g command body few hears rest none h =
@@ -103,15 +103,15 @@ begins_body l w g command body few hears rest none h =
       taker_time = h.body.taker_time;
       caller = l.callers.after w.asker.caller (CallerStep.Begin 5 command body) h.body.caller;
       tags = begins_tag l w g command body few hears rest none h;
-      packets = subst (λ x. AllByRecursion (IsLiving w.now w.asker_eid w.taker_eid (put tag e g.exchanges)) (w.packets ++ sendings w.now x)) (sym m)
-          (request_sent w.now w.asker_eid w.taker_eid (put tag e g.exchanges) tag e w.packets low (put_here tag e g.exchanges) (omega (arith, now))
-          (packets_begin w.now w.asker_eid w.taker_eid g.exchanges tag e w.packets (rested_far (g.exchanges tag) (view_of w g.current tag) hears rest (h.body.tags tag low)) h.body.packets));
+      packets = subst (λ x. AllByRecursion (IsLiving w.unit w.now w.asker_eid w.taker_eid (put tag e g.exchanges)) (w.packets ++ sendings w.unit w.now x)) (sym m)
+          (request_sent w.unit w.now w.asker_eid w.taker_eid (put tag e g.exchanges) tag e w.packets low (put_here tag e g.exchanges) (omega (arith, now))
+          (packets_begin w.unit w.now w.asker_eid w.taker_eid g.exchanges tag e w.packets (rested_far (g.exchanges tag) (view_of w g.current tag) hears rest (h.body.tags tag low)) h.body.packets));
       asked = begins_asked w g command body hears h;
       current = record { low = low; there = begins_there tag e g.exchanges };
       deaf = λ z. absurd (omega (arith, z, hears));
     }
 
-begins_good : (l : Laws) (w : LaneOf) (g : Ghost) (command : ℕ) (body : List ℕ) → length body ≤ reply_limit → w.asker.deaf ≡ 0
+begins_good : (l : Laws) (w : LaneOf) (g : Ghost) (command : ℕ) (body : List ℕ) → length body ≤ reply_limit w.unit → w.asker.deaf ≡ 0
     → rest_at w.asker.caller (next_tag w.asker.caller) ≡ 0 → g.current ≡ None → LaneGood w g
     → GoesOn (begins w command body) (cell_ask command body (run_of w g))
 begins_good l w g command body few hears rest none h = record {
@@ -124,7 +124,7 @@ begins_good l w g command body few hears rest none h = record {
   runs = begins_runs w g command body none;
 }
 
-pub goes_begin : (l : Laws) (w : LaneOf) (g : Ghost) (command : ℕ) (body : List ℕ) → length body ≤ reply_limit
+pub goes_begin : (l : Laws) (w : LaneOf) (g : Ghost) (command : ℕ) (body : List ℕ) → length body ≤ reply_limit w.unit
     → (if (w.asker.deaf == 0) && may_begin w.asker.caller then None else Some faults.NotNow) ≡ None → LaneGood w g
     → GoesOn (begins w command body) (cell_ask command body (run_of w g))
 goes_begin l w g command body few may h =

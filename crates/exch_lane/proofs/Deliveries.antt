@@ -10,23 +10,23 @@ use Rattle.exch_lane.specs.Clocks.{Clock, IsClock}
 use Rattle.exch_lane.proofs.Below.{Laws}
 use Rattle.exch_lane.proofs.Elapsed.{elapsed_start}
 use Rattle.exch_lane.proofs.Facts.{none_of}
-use Rattle.exch_lane.proofs.Pieces.{Comes}
+use Rattle.exch_lane.proofs.Pieces.{unit_some, Comes}
 use Rattle.exch_lane.proofs.Views.{AskerView, Ends, Exchange, IsAsker, IsExchange, IsPart, IsReplies, IsRequests, IsSpan, IsTaker, IsWording, TagView, TakerView, answered_with, asker_time, reply_of, request_of, taker_time}
 
 -- the messages of an exchange read back
-pub request_is : (x : Ends) (e : Exchange) → IsWording e → IsMessage (request_of x e)
-request_is x e h = let few = h.body in (omega arith, omega arith)
+pub request_is : (x : Ends) (e : Exchange) → IsWording x.unit e → IsMessage x.unit (request_of x e)
+request_is x e h = let few = h.body in let some = unit_some x.unit in (omega arith, omega arith)
 
-pub reply_is : (x : Ends) (e : Exchange) (r : List ℕ) → length r ≤ reply_limit → IsMessage (reply_of x e r)
-reply_is x e r few = (omega arith, omega arith)
+pub reply_is : (x : Ends) (e : Exchange) (r : List ℕ) → length r ≤ reply_limit x.unit → IsMessage x.unit (reply_of x e r)
+reply_is x e r few = let some = unit_some x.unit in (omega arith, omega arith)
 
-pub request_reads : (l : Laws) (x : Ends) (e : Exchange) → IsWording e
+pub request_reads : (l : Laws) (x : Ends) (e : Exchange) → IsWording x.unit e
     → pldm_of (request_of x e).bytes ≡ Ok (record { rq = true; instance = e.identifier; pldm_type = 5; command = e.command }, e.body)
 request_reads l x e h =
     l.messages_read (request_of x e).bytes (record { rq = true; instance = e.identifier; pldm_type = 5; command = e.command }) e.body
     (l.messages_written (record { rq = true; instance = e.identifier; pldm_type = 5; command = e.command }) e.body (h.identifier, omega arith))
 
-pub reply_reads : (l : Laws) (x : Ends) (e : Exchange) (r : List ℕ) → IsWording e
+pub reply_reads : (l : Laws) (x : Ends) (e : Exchange) (r : List ℕ) → IsWording x.unit e
     → pldm_of (reply_of x e r).bytes ≡ Ok (record { rq = false; instance = e.identifier; pldm_type = 5; command = e.command }, r)
 reply_reads l x e r h =
     l.messages_read (reply_of x e r).bytes (record { rq = false; instance = e.identifier; pldm_type = 5; command = e.command }) r
@@ -34,23 +34,23 @@ reply_reads l x e r h =
 
 -- what is held of a message after one of its pieces
 begins_requests : (c : Clock) (x : Ends) (e : Exchange) (o : Option Held) → IsClock c → c.now ≤ e.last + 8
-    → IsSomeAnd o (λ h. IsPart (request_of x e) h.packets × (h.age ≡ 0)) → IfSome o (IsRequests c x e)
+    → IsSomeAnd o (λ h. IsPart x.unit (request_of x e) h.packets × (h.age ≡ 0)) → IfSome o (IsRequests c x e)
 begins_requests c x e None ok soon h = tt
 begins_requests c x e (Some held) ok soon h = record { part = h.0; age = omega (arith, h.1); soon = rw h.1 (elapsed_start c (e.last + 8) ok soon) }
 
-pub holds_requests : (c : Clock) (x : Ends) (e : Exchange) (f : Fed) (o : Option Held) → IsClock c → c.now ≤ e.last + 8 → Comes (request_of x e) f o
+pub holds_requests : (c : Clock) (x : Ends) (e : Exchange) (f : Fed) (o : Option Held) → IsClock c → c.now ≤ e.last + 8 → Comes x.unit (request_of x e) f o
     → IfSome o (IsRequests c x e)
 holds_requests c x e (Whole m) o ok soon h = rw h.1 tt
 holds_requests c x e Open o ok soon h = begins_requests c x e o ok soon h
 holds_requests c x e (Dropped cause) o ok soon h = rw h tt
 
 begins_replies : (c : Clock) (x : Ends) (e : Exchange) (r : List ℕ) (o : Option Held) → e.reply ≡ Some r → IsClock c → c.now ≤ e.last + 16
-    → IsSomeAnd o (λ h. IsPart (reply_of x e r) h.packets × (h.age ≡ 0)) → IfSome o (IsReplies c x e)
+    → IsSomeAnd o (λ h. IsPart x.unit (reply_of x e r) h.packets × (h.age ≡ 0)) → IfSome o (IsReplies c x e)
 begins_replies c x e r None is ok soon h = tt
 begins_replies c x e r (Some held) is ok soon h = record { part = rw is h.0; age = omega (arith, h.1); soon = rw h.1 (elapsed_start c (e.last + 16) ok soon) }
 
 pub holds_replies : (c : Clock) (x : Ends) (e : Exchange) (r : List ℕ) (f : Fed) (o : Option Held) → e.reply ≡ Some r → IsClock c
-    → c.now ≤ e.last + 16 → Comes (reply_of x e r) f o → IfSome o (IsReplies c x e)
+    → c.now ≤ e.last + 16 → Comes x.unit (reply_of x e r) f o → IfSome o (IsReplies c x e)
 holds_replies c x e r (Whole m) o is ok soon h = rw h.1 tt
 holds_replies c x e r Open o is ok soon h = begins_replies c x e r o is ok soon h
 holds_replies c x e r (Dropped cause) o is ok soon h = rw h tt
@@ -103,7 +103,7 @@ unanswered_is_current v e none soon h = current_from v e v.is_current refl none 
 no_replies : (c : Clock) (x : Ends) (e : Exchange) (w : AskerView) → e.reply ≡ None → IsAsker c x e w → w.replies ≡ None
 no_replies c x e w none h = none_of w.replies (IsReplies c x e) h.replies (λ o r. rw none at r.part)
 
-pub view_takes : (v : TagView) (e : Exchange) (r : List ℕ) → IsClock (taker_time v) → v.taker.deaf ≡ 0 → e.reply ≡ None → length r ≤ reply_limit
+pub view_takes : (v : TagView) (e : Exchange) (r : List ℕ) → IsClock (taker_time v) → v.taker.deaf ≡ 0 → e.reply ≡ None → length r ≤ reply_limit v.ends.unit
     → v.now ≤ e.last + 8 → IsExchange v e
     → IsExchange (record v { taker = record { deaf = v.taker.deaf; kept = Some (record { identifier = e.identifier; reply = reply_of v.ends e r; age = 0 }); requests = None } }) (answered_with r e)
 view_takes v e r ok hears none few soon h =

@@ -1,5 +1,6 @@
 -- What explains a lane: the latest exchange of each tag, and which of them stands in the cell.
 use Rattle.std.proofs.Common.{◌≡◌, ◌≢◌, ◌+◌, ◌≤◌, ◌<◌, ◌==◌, ℕ, Bool, true, false, if◌then◌else◌, List, Option, Some, None, IfSome, IsSomeAnd, is_none, is_some, length, slice_get, ◌⊎◌}
+use Rattle.mctp_wire.specs.declared.unit.Unit.{«Unit»}
 use Rattle.std.specs.List.{AllByRecursion}
 use Rattle.mctp_reasm.specs.Pieces.{MessageOf, PacketOf, pieces, spelled}
 use Rattle.pldm_exch.specs.Caller.{IsCaller, Open, fresh, is_quiet, last_tag, rest_at}
@@ -26,7 +27,7 @@ is_at (Some tag) t = t == tag
 
 -- one tag of a lane
 abbrev pub ends_of : LaneOf → ℕ → Ends
-ends_of w t = record { asker = w.asker_eid; taker = w.taker_eid; tag = t }
+ends_of w t = record { unit = w.unit; asker = w.asker_eid; taker = w.taker_eid; tag = t }
 
 abbrev pub asker_view : AskerOf → ℕ → AskerView
 asker_view a t = record { deaf = a.deaf; rest = rest_at a.caller t; replies = held_at a.replies t }
@@ -63,27 +64,27 @@ abbrev pub run_of : LaneOf → Ghost → CellRun
 run_of w g = record { cell = cell_from (is_some w.asker.caller.asked) (exchange_at g.exchanges g.current); entries = w.entries }
 
 -- bytes of a packet of a message
-pub record IsPacketOf (m : MessageOf) (bytes : List ℕ) : Type 0 where
+pub record IsPacketOf (u : «Unit») (m : MessageOf) (bytes : List ℕ) : Type 0 where
   pub number : ℕ
   pub packet : PacketOf
-  pub at : slice_get (pieces m) number ≡ Some packet
+  pub at : slice_get (pieces u m) number ≡ Some packet
   pub is : bytes ≡ spelled packet
 
 -- a packet of an exchange: of its request, not sent after the last sending; or of its reply, which some packet of the
 -- request called forth
 abbrev pub IsOfExchange : Ends → Exchange → Sent → Type 0
 IsOfExchange x e s =
-    (IsPacketOf (request_of x e) s.bytes × (s.date ≤ e.last))
-    ⊎ IsSomeAnd e.reply (λ r. IsPacketOf (reply_of x e r) s.bytes × (s.date ≤ e.last + 8))
+    (IsPacketOf x.unit (request_of x e) s.bytes × (s.date ≤ e.last))
+    ⊎ IsSomeAnd e.reply (λ r. IsPacketOf x.unit (reply_of x e r) s.bytes × (s.date ≤ e.last + 8))
 
-pub record IsExplained (asker taker : ℕ) (exchanges : ℕ → Option Exchange) (s : Sent) : Type 0 where
+pub record IsExplained (u : «Unit») (asker taker : ℕ) (exchanges : ℕ → Option Exchange) (s : Sent) : Type 0 where
   pub tag : ℕ
   pub low : tag < 8
-  pub of : IsSomeAnd (exchanges tag) (λ e. IsOfExchange (record { asker = asker; taker = taker; tag = tag }) e s)
+  pub of : IsSomeAnd (exchanges tag) (λ e. IsOfExchange (record { unit = u; asker = asker; taker = taker; tag = tag }) e s)
 
 -- each packet that can still come is one of the latest exchange of its tag
-abbrev pub IsLiving : (now asker taker : ℕ) → (ℕ → Option Exchange) → Sent → Type 0
-IsLiving now asker taker exchanges s = now ≤ s.date + 8 → IsExplained asker taker exchanges s
+abbrev pub IsLiving : (u : «Unit») (now asker taker : ℕ) → (ℕ → Option Exchange) → Sent → Type 0
+IsLiving u now asker taker exchanges s = now ≤ s.date + 8 → IsExplained u asker taker exchanges s
 
 -- the open request is that of an exchange
 pub record IsOpenOf (c : Clock) (x : Ends) (o : Open) (e : Exchange) : Type 0 where
@@ -93,13 +94,13 @@ pub record IsOpenOf (c : Clock) (x : Ends) (o : Open) (e : Exchange) : Type 0 wh
   pub message : o.message ≡ request_of x e
   pub soon : elapsed c e.first o.age
 
-pub record IsOpenRequest (c : Clock) (asker taker deaf : ℕ) (g : Ghost) (o : Open) : Type 0 where
+pub record IsOpenRequest (u : «Unit») (c : Clock) (asker taker deaf : ℕ) (g : Ghost) (o : Open) : Type 0 where
   pub hears : deaf ≡ 0
   pub current : g.current ≡ Some o.tag
-  pub of : IsSomeAnd (g.exchanges o.tag) (IsOpenOf c (record { asker = asker; taker = taker; tag = o.tag }) o)
+  pub of : IsSomeAnd (g.exchanges o.tag) (IsOpenOf c (record { unit = u; asker = asker; taker = taker; tag = o.tag }) o)
 
 abbrev pub IsAskedOf : LaneOf → Ghost → Open → Type 0
-IsAskedOf w g o = IsOpenRequest (asker_clock w) w.asker_eid w.taker_eid w.asker.deaf g o
+IsAskedOf w g o = IsOpenRequest w.unit (asker_clock w) w.asker_eid w.taker_eid w.asker.deaf g o
 
 pub record IsCurrent (g : Ghost) (t : ℕ) : Type 0 where
   pub low : t < 8
@@ -117,7 +118,7 @@ pub record LaneBody (w : LaneOf) (g : Ghost) : Type 0 where
   pub taker_time : IsClock (taker_clock w)
   pub caller : IsCaller w.asker.caller
   pub tags : (t : ℕ) → t < 8 → TagOf (view_of w g.current t) (g.exchanges t)
-  pub packets : AllByRecursion (IsLiving w.now w.asker_eid w.taker_eid g.exchanges) w.packets
+  pub packets : AllByRecursion (IsLiving w.unit w.now w.asker_eid w.taker_eid g.exchanges) w.packets
   pub asked : IfSome w.asker.caller.asked (IsAskedOf w g)
   pub current : IfSome g.current (IsCurrent g)
   pub deaf : 0 < w.asker.deaf → w.asker.caller ≡ fresh w.asker_eid w.taker_eid

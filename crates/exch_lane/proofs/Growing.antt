@@ -1,5 +1,6 @@
 -- What is known of the open request and of the cell's exchange stays as an exchange grows.
 use Rattle.std.proofs.Common.{◌≡◌, ◌∙◌, ℕ, true, List, Option, Some, None, inl, inr, refl, sym, ap}
+use Rattle.mctp_wire.specs.declared.unit.Unit.{«Unit»}
 use Rattle.std.proofs.lemmas.Bool.{eq-eqb, eqb-true}
 use Rattle.std.proofs.lemmas.Bool.Decides.{eqb_tells}
 use Rattle.pldm_exch.specs.Caller.{Open}
@@ -14,15 +15,15 @@ put_here tag e exchanges = rw (eq-eqb tag tag refl) refl
 open_grows : (c : Clock) (x : Ends) (o : Open) (e : Exchange) (last : ℕ) (reply : Option (List ℕ)) → IsOpenOf c x o e → IsOpenOf c x o (grown last reply e)
 open_grows c x o e last reply h = record { identifier = h.identifier; kind = h.kind; command = h.command; message = h.message; soon = h.soon }
 
-pub asked_grows : (c : Clock) (a b deaf : ℕ) (g : Ghost) (tag : ℕ) (e : Exchange) (last : ℕ) (reply : Option (List ℕ)) (o : Open) → g.exchanges tag ≡ Some e
-    → IsOpenRequest c a b deaf g o → IsOpenRequest c a b deaf (record { exchanges = put tag (grown last reply e) g.exchanges; current = g.current }) o
-asked_grows c a b deaf g tag e last reply o is h = record {
+pub asked_grows : (u : «Unit») (c : Clock) (a b deaf : ℕ) (g : Ghost) (tag : ℕ) (e : Exchange) (last : ℕ) (reply : Option (List ℕ)) (o : Open) → g.exchanges tag ≡ Some e
+    → IsOpenRequest u c a b deaf g o → IsOpenRequest u c a b deaf (record { exchanges = put tag (grown last reply e) g.exchanges; current = g.current }) o
+asked_grows u c a b deaf g tag e last reply o is h = record {
   hears = h.hears;
   current = h.current;
   of = elim (eqb_tells o.tag tag) [
     | inl same ↦
         let there : g.exchanges o.tag ≡ Some e = ap g.exchanges same.1 ∙ is in
-        rw same.0 (open_grows c (record { asker = a; taker = b; tag = o.tag }) o e last reply (rw there at h.of))
+        rw same.0 (open_grows c (record { unit = u; asker = a; taker = b; tag = o.tag }) o e last reply (rw there at h.of))
     | inr other ↦ rw other.0 h.of
   ];
 }

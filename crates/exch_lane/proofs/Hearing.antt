@@ -75,7 +75,7 @@ older_waits l w g o may is k not_due not_over h =
     record {
       ticked = heard_ticked w (older_caller w.asker.caller o) lawful h.body.own h.body.peer h.body.replies;
       view = λ t lt. asker_hear_view w.asker t (older_caller w.asker.caller o) (omega (arith, k.hears)) (rest_falls w.asker.caller.rests t);
-      asked = record { hears = refl; current = k.current; of = open_counts (asker_clock w) (record { asker = w.asker_eid; taker = w.taker_eid; tag = o.tag }) o (g.exchanges o.tag) may k.of };
+      asked = record { hears = refl; current = k.current; of = open_counts (asker_clock w) (record { unit = w.unit; asker = w.asker_eid; taker = w.taker_eid; tag = o.tag }) o (g.exchanges o.tag) may k.of };
       last = λ z q. h.last k.hears;
       unquiet = λ z q. rw k.current refl;
       rested = λ z q. absurd (true≢false (sym q));

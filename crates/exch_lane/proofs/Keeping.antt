@@ -18,11 +18,11 @@ run_append w [] ts = refl
 run_append w (s ∷ ss) ts = run_append (lane_after w s) ss ts
 
 pub keeps : LaneIsACell → (old new : LaneOf) (ss : List StepOf) → Ran old ss new → KeepsItsCell old ss new
-keeps law old new ss ran asker taker before k =
-    let may : MayRun (lane_run (lane_new asker taker) before) ss = subst (λ w. MayRun w ss) k.is ran.may in
-    let leads : new ≡ lane_run (lane_new asker taker) (before ++ ss) = ran.leads ∙ (ap (λ w. lane_run w ss) k.is ∙ sym (run_append (lane_new asker taker) before ss)) in
-    subst (λ w. IsSomeAnd (cells_along (lane_new asker taker) (before ++ ss) (Some no_cell_yet)) (IsCellOf w)) (sym leads)
-    (law asker taker (before ++ ss) k.ends (may_append (lane_new asker taker) before ss k.may may))
+keeps law old new ss ran u asker taker before k =
+    let may : MayRun (lane_run (lane_new u asker taker) before) ss = subst (λ w. MayRun w ss) k.is ran.may in
+    let leads : new ≡ lane_run (lane_new u asker taker) (before ++ ss) = ran.leads ∙ (ap (λ w. lane_run w ss) k.is ∙ sym (run_append (lane_new u asker taker) before ss)) in
+    subst (λ w. IsSomeAnd (cells_along (lane_new u asker taker) (before ++ ss) (Some no_cell_yet)) (IsCellOf w)) (sym leads)
+    (law u asker taker (before ++ ss) k.ends (may_append (lane_new u asker taker) before ss k.may may))
 
 -- all steps are taken
 pub ran_all : (old new : LaneOf) (xs : List LaneStep) (number : ℕ) → length xs ≤ number → Ran old (steps_of (take number xs)) new → Ran old (steps_of xs) new

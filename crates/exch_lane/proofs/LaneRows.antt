@@ -29,7 +29,7 @@ pub taker_does_is : (w : LaneOf) (reply : List ℕ) (row : TakerRow)
     → taker_does w reply row
     ≡ record w {
       taker = taker_after w.taker reply row;
-      packets = with_sent w.now w.packets (heard_in reply row);
+      packets = with_sent w.unit w.now w.packets (heard_in reply row);
       entries = with_taken reply w.entries (heard_in reply row);
     }
 taker_does_is w reply (TakerRow.Silent requests) = refl
@@ -39,7 +39,7 @@ taker_does_is w reply (TakerRow.Strays requests m) = refl
 
 -- a tick of the node that asks
 pub resends_is : (w : LaneOf) (row : AskerTick) (m : MessageOf) → ticks.Send m ≡ call_tick_of row
-    → asker_ticks w row ≡ record w { asker = asker_ticked row; packets = w.packets ++ sendings w.now m }
+    → asker_ticks w row ≡ record w { asker = asker_ticked row; packets = w.packets ++ sendings w.unit w.now m }
 resends_is w (AskerTick.Waits a) m e = absurd (cc)
 resends_is w (AskerTick.Resends a n) m e = let same : n ≡ m = cc in rw same refl
 resends_is w (AskerTick.GivesUp a) m e = absurd (cc)

@@ -37,7 +37,7 @@ missed_waits w g may h = record {
   ticked = record { own = h.body.own; peer = h.body.peer; replies = h.body.replies; caller = h.body.caller; deaf = h.body.deaf };
   view = λ t lt. refl;
   asked = some_maps w.asker.caller.asked (IsAskedOf w g) (IsAskedThen w false w.asker g) h.body.asked
-      (λ o k. record { hears = k.hears; current = k.current; of = open_misses (asker_clock w) (record { asker = w.asker_eid; taker = w.taker_eid; tag = o.tag }) o (g.exchanges o.tag) may k.of });
+      (λ o k. record { hears = k.hears; current = k.current; of = open_misses (asker_clock w) (record { unit = w.unit; asker = w.asker_eid; taker = w.taker_eid; tag = o.tag }) o (g.exchanges o.tag) may k.of });
   last = λ z q. h.last z;
   unquiet = λ z q. sym (h.quiet z) ∙ q;
   rested = λ z q. none_current w g (λ t. rest_at w.asker.caller t ≡ 0) z q h;

@@ -49,7 +49,7 @@ pub record IsDue (w : LaneOf) (g : Ghost) (o : Open) (e : Exchange) : Type 0 whe
 
 -- the lane and what explains it then
 abbrev pub sent_lane : LaneOf → Bool → Open → LaneOf
-sent_lane w taker o = ticked_lane w true taker (heard_tick w (sent_caller w.asker.caller o)) (w.packets ++ sendings (w.now + 1) o.message)
+sent_lane w taker o = ticked_lane w true taker (heard_tick w (sent_caller w.asker.caller o)) (w.packets ++ sendings w.unit (w.now + 1) o.message)
 
 abbrev pub sent_ghost : LaneOf → Ghost → Open → Exchange → Ghost
 sent_ghost w g o e = record { exchanges = put o.tag (resent (w.now + 1) e) g.exchanges; current = g.current }
@@ -83,17 +83,17 @@ sent_tags w g taker o e may allowed d h t lt = elim (eqb_tells t o.tag) [
   | inr other ↦
       let falls : rest_at (sent_caller w.asker.caller o) t ≡ rest_at w.asker.caller t - 1 = rest_of_others w.asker.caller.rests o.tag t other.1 in
       rw other.0
-      (tag_ticks w g true taker (heard_tick w (sent_caller w.asker.caller o)) (w.packets ++ sendings (w.now + 1) o.message) t may allowed h lt
+      (tag_ticks w g true taker (heard_tick w (sent_caller w.asker.caller o)) (w.packets ++ sendings w.unit (w.now + 1) o.message) t may allowed h lt
       (asker_hear_view w.asker t (sent_caller w.asker.caller o) (omega (arith, d.hears)) falls))
 ]
 
 -- all packets
 sent_packets : (w : LaneOf) (g : Ghost) (o : Open) (e : Exchange) → IsDue w g o e → LaneBody w g → e.last ≤ w.now
-    → AllByRecursion (IsLiving (w.now + 1) w.asker_eid w.taker_eid (put o.tag (resent (w.now + 1) e) g.exchanges)) (w.packets ++ sendings (w.now + 1) o.message)
+    → AllByRecursion (IsLiving w.unit (w.now + 1) w.asker_eid w.taker_eid (put o.tag (resent (w.now + 1) e) g.exchanges)) (w.packets ++ sendings w.unit (w.now + 1) o.message)
 sent_packets w g o e d h past =
-    let old = packets_grow (w.now + 1) w.asker_eid w.taker_eid g.exchanges o.tag e (w.now + 1) e.reply w.packets d.is (omega arith) (λ r is. is) (packets_later w.now w.asker_eid w.taker_eid g.exchanges w.packets h.packets) in
-    subst (λ m. AllByRecursion (IsLiving (w.now + 1) w.asker_eid w.taker_eid (put o.tag (resent (w.now + 1) e) g.exchanges)) (w.packets ++ sendings (w.now + 1) m)) (sym d.of.message)
-    (request_sent (w.now + 1) w.asker_eid w.taker_eid (put o.tag (resent (w.now + 1) e) g.exchanges) o.tag (resent (w.now + 1) e) w.packets d.low (put_here o.tag (resent (w.now + 1) e) g.exchanges) (omega arith) old)
+    let old = packets_grow w.unit (w.now + 1) w.asker_eid w.taker_eid g.exchanges o.tag e (w.now + 1) e.reply w.packets d.is (omega arith) (λ r is. is) (packets_later w.unit w.now w.asker_eid w.taker_eid g.exchanges w.packets h.packets) in
+    subst (λ m. AllByRecursion (IsLiving w.unit (w.now + 1) w.asker_eid w.taker_eid (put o.tag (resent (w.now + 1) e) g.exchanges)) (w.packets ++ sendings w.unit (w.now + 1) m)) (sym d.of.message)
+    (request_sent w.unit (w.now + 1) w.asker_eid w.taker_eid (put o.tag (resent (w.now + 1) e) g.exchanges) o.tag (resent (w.now + 1) e) w.packets d.low (put_here o.tag (resent (w.now + 1) e) g.exchanges) (omega arith) old)
 
 sent_asked : (w : LaneOf) (g : Ghost) (o : Open) (e : Exchange) → MayBeat true (asker_clock w) → IsDue w g o e
     → IsAskedThen w true (heard_tick w (sent_caller w.asker.caller o)) (sent_ghost w g o e) (older o)
@@ -130,7 +130,7 @@ resends l w g taker o e may allowed d h =
     record {
       ghost = sent_ghost w g o e;
       good = record {
-        body = ticks_body w g true taker (heard_tick w (sent_caller w.asker.caller o)) (put o.tag (resent (w.now + 1) e) g.exchanges) (w.packets ++ sendings (w.now + 1) o.message) may allowed h.body
+        body = ticks_body w g true taker (heard_tick w (sent_caller w.asker.caller o)) (put o.tag (resent (w.now + 1) e) g.exchanges) (w.packets ++ sendings w.unit (w.now + 1) o.message) may allowed h.body
             (heard_ticked w (sent_caller w.asker.caller o) lawful h.body.own h.body.peer h.body.replies)
             (sent_tags w g taker o e may allowed d h.body)
             (sent_packets w g o e d h.body (past_of w g o e d h.body))

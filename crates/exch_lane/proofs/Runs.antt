@@ -1,5 +1,9 @@
 -- Lane refinement: a new lane is an empty cell, each step goes on, and so does every list of steps.
-use Rattle.std.proofs.Common.{◌≡◌, ◌≢◌, ◌∙◌, ◌-◌, ◌^◌, ◌&&◌, ℕ, nat_lt, Bool, true, false, List, [], ◌∷◌, Option, Some, None, IfSome, IsSomeAnd, is_some, refl, sym, subst, arith}
+use Rattle.std.proofs.Common.{◌≡◌, ◌≢◌, ◌≤◌, ◌∙◌, ◌-◌, ◌^◌, ◌&&◌, ℕ, nat_lt, Bool, if◌then◌else◌, length, true, false, List, [], ◌∷◌, Option, Some, None, IfSome, IsSomeAnd, is_some, refl, sym, subst, arith}
+use Rattle.std.proofs.lemmas.Bool.{le-ltb}
+use Rattle.mctp_wire.specs.declared.unit.Unit.{«Unit»}
+use Rattle.pldm_base.specs.Limits.{reply_limit}
+use Rattle.exch_lane.specs.declared.step.LaneFault.{LaneFault}
 use Rattle.std.specs.Option.{option_map}
 use Rattle.pldm_exch.specs.Caller.{Open, asking}
 use Rattle.exch_lane.specs.Cells.{cell_along, cells_along}
@@ -25,8 +29,8 @@ use Rattle.exch_lane.proofs.Views.{Ends, Exchange}
 abbrev pub ghost_new : Ghost
 ghost_new = record { exchanges = λ t. None; current = None }
 
-new_good : (l : Laws) (asker taker : ℕ) → asker ≢ taker → LaneGood (lane_new asker taker) ghost_new
-new_good l asker taker differ = record {
+new_good : (l : Laws) (u : «Unit») (asker taker : ℕ) → asker ≢ taker → LaneGood (lane_new u asker taker) ghost_new
+new_good l u asker taker differ = record {
   body = record {
     differ = differ;
     own = refl;
@@ -54,11 +58,15 @@ ticks_beat w asker taker may =
     let all = both (nat_lt w.now (2 ^ 32 - 1)) ends (may_of (nat_lt w.now (2 ^ 32 - 1) && ends) faults.NotNow may) in
     both (may_beat asker w.asker_since_miss) (may_beat taker w.taker_since_miss) all.1
 
+-- what is short enough may go on as it could
+short_enough : (limit size : ℕ) (o : Option LaneFault) → size ≤ limit → (if nat_lt limit size then Some faults.NotNow else o) ≡ None → o ≡ None
+short_enough limit size o le h = rw (le-ltb limit size le) at h
+
 -- each step goes on
 step_goes : (l : Laws) (w : LaneOf) (g : Ghost) (s : StepOf) → MayTake w s → LaneGood w g → GoesOn (lane_after w s) (cell_along w s (run_of w g))
-step_goes l w g (StepOf.Begin command body) may h = goes_begin l w g command body may.lawful may.may h
+step_goes l w g (StepOf.Begin command body) may h = goes_begin l w g command body may.lawful (short_enough (reply_limit w.unit) (length body) _ may.lawful may.may) h
 step_goes l w g StepOf.Abandon may h = goes_abandon l w g may.may h
-step_goes l w g (StepOf.Deliver number end reply) may h = goes_deliver l w g number end reply may.may may.lawful h
+step_goes l w g (StepOf.Deliver number end reply) may h = goes_deliver l w g number end reply (short_enough (reply_limit w.unit) (length reply) _ may.lawful may.may) may.lawful h
 step_goes l w g (StepOf.Tick asker taker) may h =
     let beats = ticks_beat w asker taker may.may in
     goes_tick l w g asker taker beats.0 beats.1 h
@@ -105,4 +113,4 @@ run_goes l w g (s ∷ ss) may h =
     subst (λ run. IsSomeAnd (cells_along (lane_after w s) ss run) (IsCellOf (lane_run (lane_after w s) ss))) (sym next.runs) (run_goes l (lane_after w s) next.ghost ss may.1 next.good)
 
 pub lane_refinement : Laws → LaneIsACell
-lane_refinement l asker taker steps ends_are may = run_goes l (lane_new asker taker) ghost_new steps may (new_good l asker taker ends_are.differ)
+lane_refinement l u asker taker steps ends_are may = run_goes l (lane_new u asker taker) ghost_new steps may (new_good l u asker taker ends_are.differ)

@@ -56,7 +56,7 @@ view_rested (Some e) v hears rest h =
     (a.1, t.0, t.1)
 
 -- a request begins under a tag that has rested
-pub view_begins : (o : Option Exchange) (v : TagView) (e : Exchange) → v.asker.deaf ≡ 0 → v.asker.rest ≡ 0 → IsWording e → e.first ≡ v.now
+pub view_begins : (o : Option Exchange) (v : TagView) (e : Exchange) → v.asker.deaf ≡ 0 → v.asker.rest ≡ 0 → IsWording v.ends.unit e → e.first ≡ v.now
     → e.last ≡ v.now → e.reply ≡ None
     → TagOf v o → IsExchange (record v { asker = rested v.asker; is_current = true }) e
 view_begins o v e hears rest wording first last reply h =

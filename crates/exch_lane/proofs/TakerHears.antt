@@ -21,7 +21,7 @@ taker_turned w taker packets entries = record w { taker = taker; packets = packe
 pub taker_turns : (w : LaneOf) (g : Ghost) (exchanges : ℕ → Option Exchange) (taker : TakerOf) (packets : List Sent) (entries : List EntryOf) → LaneGood w g
     → length taker.kept ≡ 8 → length taker.requests ≡ 8
     → ((t : ℕ) → t < 8 → TagOf (view_of (taker_turned w taker packets entries) g.current t) (exchanges t))
-    → AllByRecursion (IsLiving w.now w.asker_eid w.taker_eid exchanges) packets
+    → AllByRecursion (IsLiving w.unit w.now w.asker_eid w.taker_eid exchanges) packets
     → IfSome w.asker.caller.asked (IsAskedOf w (record { exchanges = exchanges; current = g.current }))
     → IfSome g.current (IsCurrent (record { exchanges = exchanges; current = g.current }))
     → LaneGood (taker_turned w taker packets entries) (record { exchanges = exchanges; current = g.current })
@@ -60,7 +60,7 @@ silent_tags w g tag e o packets low is hears holds h t lt = elim (eqb_tells t ta
 
 pub taker_holds : (w : LaneOf) (g : Ghost) (tag : ℕ) (e : Exchange) (o : Option Held) (packets : List Sent) → tag < 8 → g.exchanges tag ≡ Some e
     → w.taker.deaf ≡ 0 → IfSome o (IsRequests (taker_clock w) (ends_of w tag) e)
-    → AllByRecursion (IsLiving w.now w.asker_eid w.taker_eid g.exchanges) packets → LaneGood w g
+    → AllByRecursion (IsLiving w.unit w.now w.asker_eid w.taker_eid g.exchanges) packets → LaneGood w g
     → GoesOn (taker_turned w (record w.taker { requests = slice_set w.taker.requests tag o }) packets w.entries) (Some (run_of w g))
 taker_holds w g tag e o packets low is hears holds living h = record {
   ghost = g;

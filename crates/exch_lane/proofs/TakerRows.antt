@@ -1,11 +1,11 @@
 -- What a packet of a request is for the taker.
 use Rattle.std.proofs.Common.{◌≡◌, ◌≤◌, ◌<◌, ◌++◌, ◌∷◌, [], ℕ, true, List, Option, Some, None, IfSome, length, slice_set, refl, sym, ap, subst}
+use Rattle.pldm_base.specs.Limits.{reply_limit}
 use Rattle.std.proofs.lemmas.Bool.{eq-eqb}
 use Rattle.mctp_reasm.specs.Held.{Held, fed, held_after}
 use Rattle.mctp_reasm.specs.declared.outcomes.Fed.{Fed}
 use Rattle.mctp_reasm.specs.declared.outcomes.Fed.TheVariants.{Dropped, Open, Whole}
 use Rattle.pldm_base.specs.Header.{pldm_of}
-use Rattle.pldm_base.specs.Limits.{reply_limit}
 use Rattle.pldm_base.specs.declared.header.PldmHead.{PldmHead}
 use Rattle.pldm_exch.specs.Kept.{Kept, asked_as, identifier_in, identifier_of, kept_as, kept_at, kept_with, request_heard}
 use Rattle.exch_lane.specs.Cells.{cell_at_taker, cell_take}
@@ -31,10 +31,10 @@ DoesRow w g reply row = GoesOn (taker_does w reply row) (cell_at_taker reply row
 abbrev pub request_head : Exchange → PldmHead
 request_head e = record { rq = true; instance = e.identifier; pldm_type = 5; command = e.command }
 
-request_identifier : (l : Laws) (x : Ends) (e : Exchange) → IsWording e → identifier_of (request_of x e) ≡ Some e.identifier
+request_identifier : (l : Laws) (x : Ends) (e : Exchange) → IsWording x.unit e → identifier_of (request_of x e) ≡ Some e.identifier
 request_identifier l x e h = ap identifier_in (request_reads l x e h)
 
-reply_identifier : (l : Laws) (x : Ends) (e : Exchange) (r : List ℕ) → IsWording e → identifier_of (reply_of x e r) ≡ Some e.identifier
+reply_identifier : (l : Laws) (x : Ends) (e : Exchange) (r : List ℕ) → IsWording x.unit e → identifier_of (reply_of x e r) ≡ Some e.identifier
 reply_identifier l x e r h = ap identifier_in (reply_reads l x e r h)
 
 -- a whole request is new or there again
@@ -43,7 +43,7 @@ row_again : (w : LaneOf) (g : Ghost) (tag : ℕ) (e : Exchange) (reply : List �
     → DoesRow w g reply (TakerRow.Repeats (slice_set w.taker.requests tag None) k.reply)
 row_again w g tag e reply k kept c h = taker_repeats w g tag e k kept c h
 
-row_new : (l : Laws) (w : LaneOf) (g : Ghost) (tag : ℕ) (e : Exchange) (reply : List ℕ) → length reply ≤ reply_limit → kept_at w.taker.kept tag ≡ None
+row_new : (l : Laws) (w : LaneOf) (g : Ghost) (tag : ℕ) (e : Exchange) (reply : List ℕ) → length reply ≤ reply_limit w.unit → kept_at w.taker.kept tag ≡ None
     → RequestCame w g tag e → LaneGood w g
     → DoesRow w g reply (TakerRow.TakesUp (slice_set w.taker.requests tag None) (request_of (ends_of w tag) e) (request_head e) e.body)
 row_new l w g tag e reply few new c h =
@@ -52,17 +52,17 @@ row_new l w g tag e reply few new c h =
     = ap (kept_as w.taker.kept (reply_of (ends_of w tag) e reply)) (reply_identifier l (ends_of w tag) e reply k.wording) in
     subst
     (λ kept. GoesOn
-    (taker_turned w (record w.taker { kept = kept; requests = slice_set w.taker.requests tag None }) (w.packets ++ sendings w.now (reply_of (ends_of w tag) e reply)) (w.entries ++ EntryOf.Taken e.command e.body reply ∷ []))
+    (taker_turned w (record w.taker { kept = kept; requests = slice_set w.taker.requests tag None }) (w.packets ++ sendings w.unit w.now (reply_of (ends_of w tag) e reply)) (w.entries ++ EntryOf.Taken e.command e.body reply ∷ []))
     (cell_take e.command e.body reply (run_of w g)))
     (sym kept) (taker_takes w g tag e reply few new c h)
 
 row_asked : (l : Laws) (w : LaneOf) (g : Ghost) (tag : ℕ) (e : Exchange) (reply : List ℕ) (k : Option Kept) → kept_at w.taker.kept tag ≡ k
-    → IfSome k (IsKept (taker_clock w) (ends_of w tag) e) → length reply ≤ reply_limit → RequestCame w g tag e → LaneGood w g
+    → IfSome k (IsKept (taker_clock w) (ends_of w tag) e) → length reply ≤ reply_limit w.unit → RequestCame w g tag e → LaneGood w g
     → DoesRow w g reply (taker_asked (slice_set w.taker.requests tag None) (request_of (ends_of w tag) e) (request_head e) e.body (asked_as k (Some e.identifier)))
 row_asked l w g tag e reply None is kept few c h = row_new l w g tag e reply few is c h
 row_asked l w g tag e reply (Some k) is kept few c h = rw (eq-eqb k.identifier e.identifier kept.identifier) (row_again w g tag e reply k kept c h)
 
-row_whole : (l : Laws) (w : LaneOf) (g : Ghost) (tag : ℕ) (e : Exchange) (reply : List ℕ) → length reply ≤ reply_limit → RequestCame w g tag e → LaneGood w g
+row_whole : (l : Laws) (w : LaneOf) (g : Ghost) (tag : ℕ) (e : Exchange) (reply : List ℕ) → length reply ≤ reply_limit w.unit → RequestCame w g tag e → LaneGood w g
     → DoesRow w g reply (taker_read (slice_set w.taker.requests tag None) w.taker.kept (request_of (ends_of w tag) e) (pldm_of (request_of (ends_of w tag) e).bytes))
 row_whole l w g tag e reply few c h =
     let k = came_of w g tag e c.low c.is h in
@@ -74,7 +74,7 @@ row_whole l w g tag e reply few c h =
 
 -- what its assembly says of a packet of a request
 row_fed : (l : Laws) (w : LaneOf) (g : Ghost) (tag : ℕ) (e : Exchange) (reply : List ℕ) (f : Fed) (o : Option Held)
-    → Comes (request_of (ends_of w tag) e) f o → length reply ≤ reply_limit → RequestCame w g tag e → LaneGood w g
+    → Comes w.unit (request_of (ends_of w tag) e) f o → length reply ≤ reply_limit w.unit → RequestCame w g tag e → LaneGood w g
     → DoesRow w g reply (taker_fed (slice_set w.taker.requests tag o) w.taker.kept f)
 row_fed l w g tag e reply (Whole m) o comes few c h =
     subst (λ o. DoesRow w g reply (taker_fed (slice_set w.taker.requests tag o) w.taker.kept (Whole m))) (sym comes.1)
@@ -85,24 +85,24 @@ row_fed l w g tag e reply (Dropped cause) o comes few c h =
     taker_holds w g tag e o w.packets c.low c.is c.hears (holds_requests (taker_clock w) (ends_of w tag) e (Dropped cause) o h.body.taker_time c.soon comes) h.body.packets h
 
 -- the row of a packet of a request
-row_is : (l : Laws) (w : LaneOf) (tag : ℕ) (e : Exchange) (s : Sent) (p : IsPacketOf (request_of (ends_of w tag) e) s.bytes) → w.taker.deaf ≡ 0 → IsWording e → tag < 8
-    → taker_row_in w s.bytes ≡ taker_fed (slice_set w.taker.requests tag (held_after (held_at w.taker.requests tag) p.packet)) w.taker.kept (fed (held_at w.taker.requests tag) p.packet)
+row_is : (l : Laws) (w : LaneOf) (tag : ℕ) (e : Exchange) (s : Sent) (p : IsPacketOf w.unit (request_of (ends_of w tag) e) s.bytes) → w.taker.deaf ≡ 0 → IsWording w.unit e → tag < 8
+    → taker_row_in w s.bytes ≡ taker_fed (slice_set w.taker.requests tag (held_after w.unit (held_at w.taker.requests tag) p.packet)) w.taker.kept (fed w.unit (held_at w.taker.requests tag) p.packet)
 row_is l w tag e s p hears wording low =
     let lawful = request_is (ends_of w tag) e wording in
-    let arrives = packet_arrives l w.taker_eid w.asker_eid true (request_of (ends_of w tag) e) p.number p.packet s.bytes lawful low refl refl refl p.at p.is in
-    let under : p.packet.head.tag ≡ tag = piece_tag l (request_of (ends_of w tag) e) p.number p.packet lawful p.at in
+    let arrives = packet_arrives l w.unit w.taker_eid w.asker_eid true (request_of (ends_of w tag) e) p.number p.packet s.bytes lawful low refl refl refl p.at p.is in
+    let under : p.packet.head.tag ≡ tag = piece_tag l w.unit (request_of (ends_of w tag) e) p.number p.packet lawful p.at in
     rw (hears, arrives, under) refl
 
 -- a packet of a request comes to the hearing taker
 pub hears_request : (l : Laws) (w : LaneOf) (g : Ghost) (tag : ℕ) (e : Exchange) (reply : List ℕ) (s : Sent)
-    → IsPacketOf (request_of (ends_of w tag) e) s.bytes → length reply ≤ reply_limit → RequestCame w g tag e → LaneGood w g
+    → IsPacketOf w.unit (request_of (ends_of w tag) e) s.bytes → length reply ≤ reply_limit w.unit → RequestCame w g tag e → LaneGood w g
     → DoesRow w g reply (taker_row_in w s.bytes)
 hears_request l w g tag e reply s p few c h =
     let k = came_of w g tag e c.low c.is h in
-    let part = some_maps (held_at w.taker.requests tag) (IsRequests (taker_clock w) (ends_of w tag) e) (λ o. IsPart (request_of (ends_of w tag) e) o.packets) k.taker.requests (λ o r. r.part) in
-    let comes = piece_comes l (request_of (ends_of w tag) e) p.number p.packet (held_at w.taker.requests tag) (request_is (ends_of w tag) e k.wording) p.at part in
+    let part = some_maps (held_at w.taker.requests tag) (IsRequests (taker_clock w) (ends_of w tag) e) (λ o. IsPart w.unit (request_of (ends_of w tag) e) o.packets) k.taker.requests (λ o r. r.part) in
+    let comes = piece_comes l w.unit (request_of (ends_of w tag) e) p.number p.packet (held_at w.taker.requests tag) (request_is (ends_of w tag) e k.wording) p.at part in
     subst (DoesRow w g reply) (sym (row_is l w tag e s p c.hears k.wording c.low))
-    (row_fed l w g tag e reply (fed (held_at w.taker.requests tag) p.packet) (held_after (held_at w.taker.requests tag) p.packet) comes few c h)
+    (row_fed l w g tag e reply (fed w.unit (held_at w.taker.requests tag) p.packet) (held_after w.unit (held_at w.taker.requests tag) p.packet) comes few c h)
 
 -- a deaf taker, and a packet that isn't for it
 pub taker_silent : (w : LaneOf) (g : Ghost) (reply : List ℕ) (row : TakerRow) → row ≡ TakerRow.Silent w.taker.requests → LaneGood w g → DoesRow w g reply row

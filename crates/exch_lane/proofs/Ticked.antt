@@ -26,12 +26,12 @@ pub record IsTicked (w : LaneOf) (asker : Bool) (a : AskerOf) : Type 0 where
 
 -- the open request after a tick
 abbrev pub IsAskedThen : LaneOf → Bool → AskerOf → Ghost → Open → Type 0
-IsAskedThen w asker a g o = IsOpenRequest (beat asker (asker_clock w)) w.asker_eid w.taker_eid a.deaf g o
+IsAskedThen w asker a g o = IsOpenRequest w.unit (beat asker (asker_clock w)) w.asker_eid w.taker_eid a.deaf g o
 
 pub ticks_body : (w : LaneOf) (g : Ghost) (asker taker : Bool) (a : AskerOf) (exchanges : ℕ → Option Exchange) (packets : List Sent)
     → MayBeat asker (asker_clock w) → MayBeat taker (taker_clock w) → LaneBody w g → IsTicked w asker a
     → ((t : ℕ) → t < 8 → TagOf (view_of (ticked_lane w asker taker a packets) g.current t) (exchanges t))
-    → AllByRecursion (IsLiving (w.now + 1) w.asker_eid w.taker_eid exchanges) packets
+    → AllByRecursion (IsLiving w.unit (w.now + 1) w.asker_eid w.taker_eid exchanges) packets
     → IfSome a.caller.asked (IsAskedThen w asker a (record { exchanges = exchanges; current = g.current }))
     → IfSome g.current (IsCurrent (record { exchanges = exchanges; current = g.current }))
     → LaneBody (ticked_lane w asker taker a packets) (record { exchanges = exchanges; current = g.current })

@@ -1,14 +1,16 @@
 -- One tag of a lane: its latest exchange, and what both ends hold under it.
 use Rattle.std.proofs.Common.{◌≡◌, ◌+◌, ◌-◌, ◌≤◌, ◌<◌, ℕ, Bool, true, false, nat_le, if◌then◌else◌, List, Option, Some, None, IfSome, IsSomeAnd, is_some, length, take, ◌⊎◌}
+use Rattle.mctp_wire.specs.declared.unit.Unit.{«Unit»}
+use Rattle.pldm_base.specs.Limits.{reply_limit}
 use Rattle.mctp_reasm.specs.Pieces.{MessageOf, PacketOf, pieces}
 use Rattle.mctp_reasm.specs.Held.{Held, held_tick}
 use Rattle.pldm_base.specs.Header.{pldm_bytes}
-use Rattle.pldm_base.specs.Limits.{reply_limit}
 use Rattle.pldm_exch.specs.Kept.{Kept, kept_tick}
 use Rattle.exch_lane.specs.Clocks.{Clock, beat, elapsed}
 
 -- who asks whom, under which tag
 pub record Ends : Type 0 where
+  pub unit : «Unit»
   pub asker : ℕ
   pub taker : ℕ
   pub tag : ℕ
@@ -114,21 +116,21 @@ view_ticked v asker taker =
     }
 
 -- a proper beginning of a message
-pub record IsPart (m : MessageOf) (ps : List PacketOf) : Type 0 where
+pub record IsPart (u : «Unit») (m : MessageOf) (ps : List PacketOf) : Type 0 where
   pub count : ℕ
   pub some : 0 < count
-  pub proper : count < length (pieces m)
-  pub is : ps ≡ take count (pieces m)
+  pub proper : count < length (pieces u m)
+  pub is : ps ≡ take count (pieces u m)
 
 -- what is held of the request
 pub record IsRequests (c : Clock) (x : Ends) (e : Exchange) (h : Held) : Type 0 where
-  pub part : IsPart (request_of x e) h.packets
+  pub part : IsPart x.unit (request_of x e) h.packets
   pub age : h.age ≤ 8
   pub soon : elapsed c (e.last + 8) h.age
 
 -- what is held of the reply
 pub record IsReplies (c : Clock) (x : Ends) (e : Exchange) (h : Held) : Type 0 where
-  pub part : IsSomeAnd e.reply (λ r. IsPart (reply_of x e r) h.packets)
+  pub part : IsSomeAnd e.reply (λ r. IsPart x.unit (reply_of x e r) h.packets)
   pub age : h.age ≤ 8
   pub soon : elapsed c (e.last + 16) h.age
 
@@ -147,10 +149,10 @@ pub record IsSpan (now : ℕ) (e : Exchange) : Type 0 where
   pub past : e.last ≤ now
 
 -- the exchange can be written
-pub record IsWording (e : Exchange) : Type 0 where
+pub record IsWording (u : «Unit») (e : Exchange) : Type 0 where
   pub identifier : e.identifier ≤ 31
-  pub body : length e.body ≤ reply_limit
-  pub reply : IfSome e.reply (λ r. length r ≤ reply_limit)
+  pub body : length e.body ≤ reply_limit u
+  pub reply : IfSome e.reply (λ r. length r ≤ reply_limit u)
 
 -- the asker's side: the tag rests until nothing of the exchange can be left
 pub record IsAsker (c : Clock) (x : Ends) (e : Exchange) (w : AskerView) : Type 0 where
@@ -175,7 +177,7 @@ IsEmptyTag v = (v.asker.replies ≡ None) × (v.taker.requests ≡ None) × (v.t
 
 -- a tag and its exchange
 pub record IsExchange (v : TagView) (e : Exchange) : Type 0 where
-  pub wording : IsWording e
+  pub wording : IsWording v.ends.unit e
   pub span : IsSpan v.now e
   pub asker : IsAsker (asker_time v) v.ends e v.asker
   pub taker : IsTaker (taker_time v) v.ends e v.taker

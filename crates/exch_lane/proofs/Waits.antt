@@ -35,7 +35,7 @@ pub waiting_body : (w : LaneOf) (g : Ghost) (asker taker : Bool) (a : AskerOf) �
     → LaneBody w g → IsWaiting w g asker a → LaneBody (ticked_lane w asker taker a w.packets) g
 waiting_body w g asker taker a may allowed h k =
     ticks_body w g asker taker a g.exchanges w.packets may allowed h k.ticked (λ t lt. tag_ticks w g asker taker a w.packets t may allowed h lt (k.view t lt))
-    (packets_later w.now w.asker_eid w.taker_eid g.exchanges w.packets h.packets) k.asked h.current
+    (packets_later w.unit w.now w.asker_eid w.taker_eid g.exchanges w.packets h.packets) k.asked h.current
 
 -- where it hears and isn't quiet
 busy_quiet : (a : AskerOf) → a.deaf ≡ 0 → hears_quiet a ≡ false → is_quiet a.caller ≡ false

@@ -1,5 +1,6 @@
 -- Worked lanes, by computation: what the definitions must say of them.
 use Rattle.std.proofs.Common.{◌≡◌, ℕ, true, false, List, [], ◌∷◌, ◌++◌, replicate, length, Some, None, refl}
+use Rattle.mctp_wire.specs.declared.unit.Unit.TheVariants.{U64}
 use Rattle.mctp_reasm.specs.Pieces.{pieces_from}
 use Rattle.exch_lane.specs.Cells.{Cell, cells_along, no_cell_yet}
 use Rattle.exch_lane.specs.Lanes.{EntryOf, LaneOf, StepOf, lane_new}
@@ -20,7 +21,7 @@ replied : List StepOf
 replied = StepOf.Deliver 3 ends.Taker (0 ∷ 2 ∷ []) ∷ StepOf.Deliver 4 ends.Asker [] ∷ StepOf.Deliver 2 ends.Asker [] ∷ []
 
 after_reply : LaneOf
-after_reply = lane_run (lane_new 8 9) (repeated ++ replied)
+after_reply = lane_run (lane_new U64 8 9) (repeated ++ replied)
 
 -- four packets were sent, and the request was taken once and its first reply learnt once
 four_packets : length after_reply.packets ≡ 4
@@ -31,16 +32,16 @@ history : after_reply.entries ≡ EntryOf.Asked 16 (7 ∷ []) ∷ EntryOf.Taken 
 unfolding after_reply pieces_from repeated replied ticks
 history = refl
 
-cell_is_empty : cells_along (lane_new 8 9) (repeated ++ replied) (Some no_cell_yet) ≡ Some (record { cell = Cell.Empty; entries = after_reply.entries })
+cell_is_empty : cells_along (lane_new U64 8 9) (repeated ++ replied) (Some no_cell_yet) ≡ Some (record { cell = Cell.Empty; entries = after_reply.entries })
 unfolding after_reply pieces_from repeated replied ticks
 cell_is_empty = refl
 
 -- a packet may arrive for eight units, and not in the ninth
-eight_units : may_step (lane_run (lane_new 8 9) (repeated ++ ticks 2)) (StepOf.Deliver 1 ends.Taker []) ≡ None
+eight_units : may_step (lane_run (lane_new U64 8 9) (repeated ++ ticks 2)) (StepOf.Deliver 1 ends.Taker []) ≡ None
 unfolding pieces_from repeated ticks
 eight_units = refl
 
-nine_units : may_step (lane_run (lane_new 8 9) (repeated ++ ticks 3)) (StepOf.Deliver 1 ends.Taker []) ≡ Some faults.Dead
+nine_units : may_step (lane_run (lane_new U64 8 9) (repeated ++ ticks 3)) (StepOf.Deliver 1 ends.Taker []) ≡ Some faults.Dead
 unfolding pieces_from repeated ticks
 nine_units = refl
 
@@ -48,18 +49,18 @@ nine_units = refl
 unanswered_for : ℕ → List StepOf
 unanswered_for n = StepOf.Begin 16 [] ∷ ticks n
 
-too_early : may_step (lane_run (lane_new 8 9) (unanswered_for 51)) (StepOf.Begin 16 []) ≡ Some faults.NotNow
+too_early : may_step (lane_run (lane_new U64 8 9) (unanswered_for 51)) (StepOf.Begin 16 []) ≡ Some faults.NotNow
 unfolding pieces_from ticks unanswered_for
 too_early = refl
 
-in_time : may_step (lane_run (lane_new 8 9) (unanswered_for 52)) (StepOf.Begin 16 []) ≡ None
+in_time : may_step (lane_run (lane_new U64 8 9) (unanswered_for 52)) (StepOf.Begin 16 []) ≡ None
 unfolding pieces_from ticks unanswered_for
 in_time = refl
 
-closed : cells_along (lane_new 8 9) (unanswered_for 51) (Some no_cell_yet) ≡ Some (record { cell = Cell.Asked 16 [] false; entries = EntryOf.Asked 16 [] ∷ [] })
+closed : cells_along (lane_new U64 8 9) (unanswered_for 51) (Some no_cell_yet) ≡ Some (record { cell = Cell.Asked 16 [] false; entries = EntryOf.Asked 16 [] ∷ [] })
 unfolding pieces_from ticks unanswered_for
 closed = refl
 
-dropped : cells_along (lane_new 8 9) (unanswered_for 52) (Some no_cell_yet) ≡ Some (record { cell = Cell.Empty; entries = EntryOf.Asked 16 [] ∷ [] })
+dropped : cells_along (lane_new U64 8 9) (unanswered_for 52) (Some no_cell_yet) ≡ Some (record { cell = Cell.Empty; entries = EntryOf.Asked 16 [] ∷ [] })
 unfolding pieces_from ticks unanswered_for
 dropped = refl

@@ -1,5 +1,6 @@
 -- A lane: the node that asks, the node that answers, and all packets between them.
 use Rattle.std.specs.Prelude.{◌≢◌, ◌≤◌, ℕ, ◌+◌, ◌-◌, ◌==◌, not, nat_lt, if◌then◌else◌, Bool, List, [], map, slice_get, Option, None}
+use Rattle.mctp_wire.specs.declared.unit.Unit.{«Unit»}
 use Rattle.pldm_exch.specs.Ends.{AskerOf, TakerOf, asker_new, taker_new}
 use Rattle.exch_lane.specs.Clocks.{Clock}
 use Rattle.exch_lane.specs.declared.step.End.{End}
@@ -28,9 +29,10 @@ pub data EntryOf : Type 0 where
   Taken : (command : ℕ) → (body reply : List ℕ) → EntryOf
   Learnt : (reply : List ℕ) → EntryOf
 
--- The lane: who asks whom, the time, the ticks of each end since it last missed one, both ends, every packet ever sent,
--- in order, and all that happened.
+-- The lane: the network's transmission unit, who asks whom, the time, the ticks of each end since it last missed one, both
+-- ends, every packet ever sent, in order, and all that happened.
 pub record LaneOf : Type 0 where
+  pub unit : «Unit»
   pub asker_eid : ℕ
   pub taker_eid : ℕ
   pub now : ℕ
@@ -67,9 +69,10 @@ entry_of (entries.Taken command body reply) = EntryOf.Taken command body.items r
 entry_of (entries.Learnt reply) = EntryOf.Learnt reply.items
 
 -- a lane in which nothing happened yet
-abbrev pub lane_new : (asker taker : ℕ) → LaneOf
-lane_new asker taker =
+abbrev pub lane_new : (u : «Unit») (asker taker : ℕ) → LaneOf
+lane_new u asker taker =
     record {
+      unit = u;
       asker_eid = asker;
       taker_eid = taker;
       now = 0;

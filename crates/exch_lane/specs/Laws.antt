@@ -2,6 +2,7 @@
 use Rattle.std.specs.Prelude.{◌≡◌, ◌==◌, ◌&&◌, ℕ, Bool, true, false, if◌then◌else◌, List, ◌++◌, Option, Some, None, IsSomeAnd, Result, Ok, Err}
 use Rattle.std.specs.List.{AllByRecursion}
 use Rattle.mctp_wire.specs.Packet as wire
+use Rattle.mctp_wire.specs.declared.unit.Unit.{«Unit»}
 use Rattle.mctp_wire.specs.declared.fault.WireFault.{WireFault}
 use Rattle.mctp_wire.specs.declared.layout.Head.{Head}
 use Rattle.std.specs.Option.{option_map}
@@ -25,12 +26,12 @@ abbrev pub read_between : (asker taker : ℕ) → Result (Head × List ℕ) Wire
 read_between asker taker (Ok p) = is_between asker taker p.0
 read_between asker taker (Err fault) = false
 
-abbrev pub in_lane : (asker taker : ℕ) → List ℕ → Bool
-in_lane asker taker bytes = read_between asker taker (wire.packet_of bytes)
+abbrev pub in_lane : (u : «Unit») (asker taker : ℕ) → List ℕ → Bool
+in_lane u asker taker bytes = read_between asker taker (wire.packet_of u bytes)
 
 -- a packet that can still come is one of the lane
 abbrev pub IsOfLane : LaneOf → Sent → Type 0
-IsOfLane w s = Lives w.now s → in_lane w.asker_eid w.taker_eid s.bytes ≡ true
+IsOfLane w s = Lives w.now s → in_lane w.unit w.asker_eid w.taker_eid s.bytes ≡ true
 
 -- The cell is the lane's: their histories are the same, and where the asker hears and is quiet the cell is empty.
 pub record IsCellOf (w : LaneOf) (run : CellRun) : Type 0 where
@@ -40,25 +41,25 @@ pub record IsCellOf (w : LaneOf) (run : CellRun) : Type 0 where
   pub waits : awaited run.cell ≡ option_map asking w.asker.caller.asked
 
 -- the cell's run along these steps is never stuck, and its cell is the lane's
-abbrev pub StaysACell : (asker taker : ℕ) → List StepOf → Type 0
-StaysACell asker taker steps =
-    IsSomeAnd (cells_along (lane_new asker taker) steps (Some no_cell_yet)) (IsCellOf (lane_run (lane_new asker taker) steps))
+abbrev pub StaysACell : (u : «Unit») (asker taker : ℕ) → List StepOf → Type 0
+StaysACell u asker taker steps =
+    IsSomeAnd (cells_along (lane_new u asker taker) steps (Some no_cell_yet)) (IsCellOf (lane_run (lane_new u asker taker) steps))
 
 -- From a new lane, for every list of steps that may be taken one after another, whatever is lost, repeated, reordered or
 -- late and whoever restarts.
 abbrev pub LaneIsACell : Type 0
 LaneIsACell =
-    (asker taker : ℕ) (steps : List StepOf) → AreEnds asker taker → MayRun (lane_new asker taker) steps
-    → StaysACell asker taker steps
+    (u : «Unit») (asker taker : ℕ) (steps : List StepOf) → AreEnds asker taker → MayRun (lane_new u asker taker) steps
+    → StaysACell u asker taker steps
 
 -- these steps lead from a new lane to this one
-pub record LeadsTo (asker taker : ℕ) (steps : List StepOf) (w : LaneOf) : Type 0 where
+pub record LeadsTo (u : «Unit») (asker taker : ℕ) (steps : List StepOf) (w : LaneOf) : Type 0 where
   pub ends : AreEnds asker taker
-  pub may : MayRun (lane_new asker taker) steps
-  pub is : w ≡ lane_run (lane_new asker taker) steps
+  pub may : MayRun (lane_new u asker taker) steps
+  pub is : w ≡ lane_run (lane_new u asker taker) steps
 
 -- Wherever steps led a new lane, its cell goes on with it through these further steps.
 abbrev pub KeepsItsCell : LaneOf → List StepOf → LaneOf → Type 0
 KeepsItsCell old steps new =
-    (asker taker : ℕ) (before : List StepOf) → LeadsTo asker taker before old
-    → IsSomeAnd (cells_along (lane_new asker taker) (before ++ steps) (Some no_cell_yet)) (IsCellOf new)
+    (u : «Unit») (asker taker : ℕ) (before : List StepOf) → LeadsTo u asker taker before old
+    → IsSomeAnd (cells_along (lane_new u asker taker) (before ++ steps) (Some no_cell_yet)) (IsCellOf new)

@@ -1,8 +1,9 @@
 -- What a step makes of a lane, and when it may be taken.
 use Rattle.std.specs.Prelude.{◌≡◌, ◌⊎◌, ◌≤◌, ℕ, ◌+◌, ◌-◌, ◌^◌, ◌==◌, ◌&&◌, nat_lt, if◌then◌else◌, Bool, false, true, List, [], ◌∷◌, ◌++◌, length, map, Option, Some, None, is_some}
+use Rattle.mctp_wire.specs.declared.unit.Unit.{«Unit»}
 use Rattle.mctp_reasm.specs.Held.{Held}
-use Rattle.mctp_reasm.specs.Pieces.{MessageOf, pieces, spelled}
 use Rattle.pldm_base.specs.Limits.{reply_limit}
+use Rattle.mctp_reasm.specs.Pieces.{MessageOf, pieces, spelled}
 use Rattle.pldm_base.specs.declared.header.PldmHead.{PldmHead}
 use Rattle.pldm_exch.specs.Caller.{abandoned, begun, may_begin}
 use Rattle.pldm_exch.specs.Kept.{kept_with}
@@ -21,12 +22,12 @@ abbrev pub sent_at : ℕ → List ℕ → Sent
 sent_at now bytes = record { date = now; bytes = bytes }
 
 -- the packets of a message that is sent at this moment
-abbrev pub sendings : ℕ → MessageOf → List Sent
-sendings now m = map (sent_at now) (map spelled (pieces m))
+abbrev pub sendings : «Unit» → ℕ → MessageOf → List Sent
+sendings u now m = map (sent_at now) (map spelled (pieces u m))
 
 -- A message is sent: its packets are dated now.
 abbrev pub sending : LaneOf → MessageOf → LaneOf
-sending w m = record w { packets = w.packets ++ sendings w.now m }
+sending w m = record w { packets = w.packets ++ sendings w.unit w.now m }
 
 -- something happened
 abbrev pub noted : LaneOf → EntryOf → LaneOf
@@ -75,11 +76,11 @@ asker_does w (AskerRow.Learns replies caller heard) =
 
 -- the row of the node that answers, for these bytes
 abbrev pub taker_row_in : LaneOf → List ℕ → TakerRow
-taker_row_in w bytes = taker_row w.taker_eid w.asker_eid w.taker bytes
+taker_row_in w bytes = taker_row w.unit w.taker_eid w.asker_eid w.taker bytes
 
 -- the row of the node that asks, for these bytes
 abbrev pub asker_row_in : LaneOf → List ℕ → AskerRow
-asker_row_in w bytes = asker_row w.asker_eid w.taker_eid w.asker bytes
+asker_row_in w bytes = asker_row w.unit w.asker_eid w.taker_eid w.asker bytes
 
 -- An end hears these bytes, and answers a new request with this reply.
 abbrev pub lane_hears : LaneOf → End → List ℕ → (reply : List ℕ) → LaneOf
@@ -140,9 +141,11 @@ may_deliver now (Some p) = if nat_lt (lives_until p) now then Some faults.Dead e
 -- Why a step may not be taken; None where it may.
 abbrev pub may_step : LaneOf → StepOf → Option LaneFault
 may_step w (StepOf.Begin command body) =
-    if (w.asker.deaf == 0) && may_begin w.asker.caller then None else Some faults.NotNow
+    if nat_lt (reply_limit w.unit) (length body) then Some faults.NotNow
+    else if (w.asker.deaf == 0) && may_begin w.asker.caller then None else Some faults.NotNow
 may_step w StepOf.Abandon = if is_some w.asker.caller.asked then None else Some faults.NotNow
-may_step w (StepOf.Deliver number end reply) = may_deliver w.now (numbered w.packets number)
+may_step w (StepOf.Deliver number end reply) =
+    if nat_lt (reply_limit w.unit) (length reply) then Some faults.NotNow else may_deliver w.now (numbered w.packets number)
 may_step w (StepOf.Tick asker taker) =
     if nat_lt w.now (2 ^ 32 - 1) && (may_beat asker w.asker_since_miss && may_beat taker w.taker_since_miss) then None
     else Some faults.NotNow
@@ -160,20 +163,20 @@ needs_memory (StepOf.Restart end) = false
 abbrev pub IsCause : LaneOf → StepOf → LaneFault → Type 0
 IsCause w s e = (may_step w s ≡ Some e) ⊎ ((e ≡ faults.Memory) × (needs_memory s ≡ true) × (may_step w s ≡ None))
 
--- request data and a reply with its code fit a message behind its header
-abbrev pub IsStep : StepOf → Type 0
-IsStep (StepOf.Begin command body) = length body ≤ reply_limit
-IsStep StepOf.Abandon = Unit {0}
-IsStep (StepOf.Deliver number end reply) = length reply ≤ reply_limit
-IsStep (StepOf.Tick asker taker) = Unit {0}
-IsStep (StepOf.Restart end) = Unit {0}
+-- request data and a reply with its code fit a message of the transmission unit behind its header
+abbrev pub IsStep : «Unit» → StepOf → Type 0
+IsStep u (StepOf.Begin command body) = length body ≤ reply_limit u
+IsStep u StepOf.Abandon = Prim.Unit {0}
+IsStep u (StepOf.Deliver number end reply) = length reply ≤ reply_limit u
+IsStep u (StepOf.Tick asker taker) = Prim.Unit {0}
+IsStep u (StepOf.Restart end) = Prim.Unit {0}
 
 -- the step may be taken
 pub record MayTake (w : LaneOf) (s : StepOf) : Type 0 where
-  pub lawful : IsStep s
+  pub lawful : IsStep w.unit s
   pub may : may_step w s ≡ None
 
 -- each of these steps may be taken where it stands
 abbrev pub MayRun : LaneOf → List StepOf → Type 0
-MayRun w [] = Unit {0}
+MayRun w [] = Prim.Unit {0}
 MayRun w (s ∷ ss) = MayTake w s × MayRun (lane_after w s) ss

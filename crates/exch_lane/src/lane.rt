@@ -1,6 +1,7 @@
 //! A lane.
 
 ghost use Rattle.std.specs.Prelude.{◌&&◌, ◌==◌, ◌≡◌, ◌≢◌, ◌≤◌, IfErr, None, OnErr, OnOk, is_some, length, map, true};
+ghost use Rattle.pldm_base.specs.Limits.{reply_limit};
 ghost use Rattle.pldm_exch.specs.Caller.{is_quiet, may_begin};
 ghost use Rattle.pldm_exch.specs.Ends.{asker_of, taker_of};
 ghost use Rattle.exch_lane.specs.Journals.{HasRoom, sent_of, with_learnt, with_sent, with_taken};
@@ -13,7 +14,9 @@ use crate::clock::{UNMISSED, may_beat, since_after};
 use crate::entry::LaneEntry;
 use crate::journal::{Journal, SentPacket};
 use crate::step::{End, LaneFault, LaneStep};
-use pldm_base::{MAX_REPLY, Reply};
+use mctp_reasm::MAX_PACKETS;
+use mctp_wire::Unit;
+use pldm_base::{HEADER_SIZE, MAX_REPLY, Reply};
 use pldm_exch::{Asker, Brought, CallTick, DEAF, Taker};
 use std::alloc::Global;
 use std::marker::Model;
@@ -45,24 +48,25 @@ impl Model for Lane {
 
     ghost Value = { LaneOf };
 
-    ghost view = { λ l. record { asker_eid = l.asker.own; taker_eid = l.asker.peer; now = l.journal.time; asker_since_miss = l.asker_since_miss; taker_since_miss = l.taker_since_miss; asker = asker_of l.asker_deaf l.asker; taker = taker_of l.taker_deaf l.taker; packets = map sent_of l.journal.packets.items; entries = map entry_of l.journal.entries.items } };
+    ghost view = { λ l. record { unit = l.asker.unit; asker_eid = l.asker.own; taker_eid = l.asker.peer; now = l.journal.time; asker_since_miss = l.asker_since_miss; taker_since_miss = l.taker_since_miss; asker = asker_of l.asker_deaf l.asker; taker = taker_of l.taker_deaf l.taker; packets = map sent_of l.journal.packets.items; entries = map entry_of l.journal.entries.items } };
 
-    ghost invariant = { λ l. (l.taker.own ≡ l.asker.peer) × (l.taker.peer ≡ l.asker.own) };
+    ghost invariant = { λ l. (l.taker.unit ≡ l.asker.unit) × (l.taker.own ≡ l.asker.peer) × (l.taker.peer ≡ l.asker.own) };
 }
 
 impl Lane {
-    /// A lane in which nothing happened yet, between two different nodes with endpoints of 8 to 254.
-    pub fn new(alloc: Global, asker: u8, taker: u8) -> Lane
+    /// A lane in which nothing happened yet, between two different nodes with endpoints of 8 to 254, in a network with
+    /// this transmission unit.
+    pub fn new(alloc: Global, unit: Unit, asker: u8, taker: u8) -> Lane
         requires { AreEnds asker taker }
-        ensures { result ≡ lane_new asker taker }
+        ensures { result ≡ lane_new unit asker taker }
     {
         Lane {
             asker_since_miss: UNMISSED,
             taker_since_miss: UNMISSED,
             asker_deaf: 0,
             taker_deaf: 0,
-            asker: Asker::new(asker, taker),
-            taker: Taker::new(taker, asker),
+            asker: Asker::new(unit, asker, taker),
+            taker: Taker::new(unit, taker, asker),
             journal: Journal::new(alloc),
         }
     }
@@ -141,19 +145,19 @@ impl Lane {
     /// The asker begins a request.
     #[tactic(auto, using(crate::proofs::LaneRows::rows))]
     fn begin(&mut self, command: u8, body: &[u8]) -> Result<(), LaneFault>
-        requires { length body.now ≤ MAX_REPLY }
         ensures ok { OnOk result ((may_step self.old (StepOf.Begin command body.now) ≡ None) × (self.new ≡ begins self.old command body.now)) }
         ensures err { OnErr result (self.new ≡ self.old) }
         ensures cause { IfErr result (λ e. IsCause self.old (StepOf.Begin command body.now) e) }
     {
-        if !self.can_begin() {
+        let unit = self.asker.unit();
+        if body.len() > reply_limit(unit) || !self.can_begin() {
             return Err(LaneFault::NotNow);
         }
         let Ok(()) = self.journal.make_room() else {
             return Err(LaneFault::Memory);
         };
         let message = self.asker.begin(command, body);
-        self.journal.send(&message);
+        self.journal.send(unit, &message);
         self.journal.note(LaneEntry::Asked(command, data_of(body)));
         Ok(())
     }
@@ -173,11 +177,13 @@ impl Lane {
 
     /// A packet comes to an end.
     fn deliver(&mut self, number: usize, end: End, reply: &[u8]) -> Result<(), LaneFault>
-        requires { length reply.now ≤ MAX_REPLY }
         ensures ok { OnOk result ((may_step self.old (StepOf.Deliver number end reply.now) ≡ None) × (self.new ≡ lane_after self.old (StepOf.Deliver number end reply.now))) }
         ensures err { OnErr result (self.new ≡ self.old) }
         ensures cause { IfErr result (λ e. IsCause self.old (StepOf.Deliver number end reply.now) e) }
     {
+        if reply.len() > reply_limit(self.taker.unit()) {
+            return Err(LaneFault::NotNow);
+        }
         let packet = match self.journal.living(number) {
             Ok(packet) => packet,
             Err(fault) => return Err(fault),
@@ -223,7 +229,7 @@ impl Lane {
         }
         if asker {
             if let CallTick::Send(message) = asker_ticks(&mut self.asker_deaf, &mut self.asker) {
-                self.journal.send(&message);
+                self.journal.send(self.asker.unit(), &message);
             }
         }
         Ok(())
@@ -235,11 +241,11 @@ impl Lane {
     {
         match end {
             End::Asker => {
-                self.asker = Asker::new(self.asker.own(), self.asker.peer());
+                self.asker = Asker::new(self.asker.unit(), self.asker.own(), self.asker.peer());
                 self.asker_deaf = DEAF;
             }
             End::Taker => {
-                self.taker = Taker::new(self.taker.own(), self.taker.peer());
+                self.taker = Taker::new(self.taker.unit(), self.taker.own(), self.taker.peer());
                 self.taker_deaf = DEAF;
             }
         }
@@ -250,10 +256,10 @@ impl Lane {
 #[tactic(auto, using(crate::proofs::LaneRows::rows))]
 fn asker_hears(deaf: u8, asker: &mut Asker, journal: &mut Journal, bytes: &[u8])
     requires room { HasRoom journal.old }
-    ensures asker { asker_of deaf asker.new ≡ asker_after (asker_of deaf asker.old) (asker_row asker.old.own asker.old.peer (asker_of deaf asker.old) bytes.now) }
-    ensures between { (asker.new.own ≡ asker.old.own) × (asker.new.peer ≡ asker.old.peer) }
+    ensures asker { asker_of deaf asker.new ≡ asker_after (asker_of deaf asker.old) (asker_row asker.old.unit asker.old.own asker.old.peer (asker_of deaf asker.old) bytes.now) }
+    ensures between { (asker.new.unit ≡ asker.old.unit) × (asker.new.own ≡ asker.old.own) × (asker.new.peer ≡ asker.old.peer) }
     ensures packets { journal.new.packets ≡ journal.old.packets }
-    ensures entries { map entry_of journal.new.entries.items ≡ with_learnt (map entry_of journal.old.entries.items) (learnt_in (asker_row asker.old.own asker.old.peer (asker_of deaf asker.old) bytes.now)) }
+    ensures entries { map entry_of journal.new.entries.items ≡ with_learnt (map entry_of journal.old.entries.items) (learnt_in (asker_row asker.old.unit asker.old.own asker.old.peer (asker_of deaf asker.old) bytes.now)) }
     ensures time { journal.new.time ≡ journal.old.time }
 {
     if deaf > 0 {
@@ -268,11 +274,11 @@ fn asker_hears(deaf: u8, asker: &mut Asker, journal: &mut Journal, bytes: &[u8])
 #[tactic(auto, using(crate::proofs::LaneRows::rows))]
 fn taker_hears(deaf: u8, taker: &mut Taker, journal: &mut Journal, bytes: &[u8], reply: &[u8])
     requires room { HasRoom journal.old }
-    requires reply { length reply.now ≤ MAX_REPLY }
-    ensures taker { taker_of deaf taker.new ≡ taker_after (taker_of deaf taker.old) reply.now (taker_row taker.old.own taker.old.peer (taker_of deaf taker.old) bytes.now) }
-    ensures between { (taker.new.own ≡ taker.old.own) × (taker.new.peer ≡ taker.old.peer) }
-    ensures packets { map sent_of journal.new.packets.items ≡ with_sent journal.old.time (map sent_of journal.old.packets.items) (heard_in reply.now (taker_row taker.old.own taker.old.peer (taker_of deaf taker.old) bytes.now)) }
-    ensures entries { map entry_of journal.new.entries.items ≡ with_taken reply.now (map entry_of journal.old.entries.items) (heard_in reply.now (taker_row taker.old.own taker.old.peer (taker_of deaf taker.old) bytes.now)) }
+    requires reply { length reply.now ≤ reply_limit taker.old.unit }
+    ensures taker { taker_of deaf taker.new ≡ taker_after (taker_of deaf taker.old) reply.now (taker_row taker.old.unit taker.old.own taker.old.peer (taker_of deaf taker.old) bytes.now) }
+    ensures between { (taker.new.unit ≡ taker.old.unit) × (taker.new.own ≡ taker.old.own) × (taker.new.peer ≡ taker.old.peer) }
+    ensures packets { map sent_of journal.new.packets.items ≡ with_sent taker.old.unit journal.old.time (map sent_of journal.old.packets.items) (heard_in reply.now (taker_row taker.old.unit taker.old.own taker.old.peer (taker_of deaf taker.old) bytes.now)) }
+    ensures entries { map entry_of journal.new.entries.items ≡ with_taken reply.now (map entry_of journal.old.entries.items) (heard_in reply.now (taker_row taker.old.unit taker.old.own taker.old.peer (taker_of deaf taker.old) bytes.now)) }
     ensures time { journal.new.time ≡ journal.old.time }
 {
     if deaf > 0 {
@@ -280,10 +286,10 @@ fn taker_hears(deaf: u8, taker: &mut Taker, journal: &mut Journal, bytes: &[u8],
     }
     match taker.hear(bytes) {
         Brought::Nothing | Brought::Strays(_) => {}
-        Brought::Again(answer) => journal.send(&answer),
+        Brought::Again(answer) => journal.send(taker.unit(), &answer),
         Brought::New(request) => {
             let answer = taker.answer(&request, reply);
-            journal.send(&answer);
+            journal.send(taker.unit(), &answer);
             let body = data_of(request.body());
             journal.note(LaneEntry::Taken(request.head().command, body, data_of(reply)));
         }
@@ -295,7 +301,7 @@ fn taker_hears(deaf: u8, taker: &mut Taker, journal: &mut Journal, bytes: &[u8],
 fn asker_ticks(deaf: &mut u8, asker: &mut Asker) -> CallTick
     ensures answer { result ≡ call_tick_of (asker_counts (asker_of deaf.old asker.old)) }
     ensures after { asker_of deaf.new asker.new ≡ asker_ticked (asker_counts (asker_of deaf.old asker.old)) }
-    ensures between { (asker.new.own ≡ asker.old.own) × (asker.new.peer ≡ asker.old.peer) }
+    ensures between { (asker.new.unit ≡ asker.old.unit) × (asker.new.own ≡ asker.old.own) × (asker.new.peer ≡ asker.old.peer) }
 {
     if *deaf > 1 {
         *deaf -= 1;
@@ -308,7 +314,7 @@ fn asker_ticks(deaf: &mut u8, asker: &mut Asker) -> CallTick
 /// A tick at the taker: a deaf count falls by one, and where it is 0 then the end grows older.
 fn taker_ticks(deaf: &mut u8, taker: &mut Taker)
     ensures after { taker_of deaf.new taker.new ≡ taker_counts (taker_of deaf.old taker.old) }
-    ensures between { (taker.new.own ≡ taker.old.own) × (taker.new.peer ≡ taker.old.peer) }
+    ensures between { (taker.new.unit ≡ taker.old.unit) × (taker.new.own ≡ taker.old.own) × (taker.new.peer ≡ taker.old.peer) }
 {
     if *deaf > 1 {
         *deaf -= 1;
@@ -316,6 +322,13 @@ fn taker_ticks(deaf: &mut u8, taker: &mut Taker)
     }
     *deaf = 0;
     taker.tick();
+}
+
+/// The most bytes of request data, and of a reply with its code: what a message holds after its header.
+fn reply_limit(unit: Unit) -> usize
+    ensures { result ≡ reply_limit unit }
+{
+    MAX_PACKETS * unit.bytes() - HEADER_SIZE
 }
 
 /// Request data, or a reply, of their own.

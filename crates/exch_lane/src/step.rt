@@ -31,8 +31,9 @@ pub enum LaneStep {
 /// Why a step isn't taken.
 #[derive(Clone, Copy, Debug, PartialEq, Eq, Error)]
 pub enum LaneFault {
-    /// Begin at a deaf asker, or while no request may begin; Abandon while no request is open; Tick at the end of time, or
-    /// missed by an end that counted fewer than 8 since the last that it missed.
+    /// Begin at a deaf asker, while no request may begin, or with more data than a message of the transmission unit holds
+    /// after its header; Deliver with such a reply; Abandon while no request is open; Tick at the end of time, or missed by
+    /// an end that counted fewer than 8 since the last that it missed.
     #[error("NotNow")]
     NotNow,
     /// No packet of this number was sent.

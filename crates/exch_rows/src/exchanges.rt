@@ -4,6 +4,7 @@ mod answerer;
 mod caller;
 
 use mctp_reasm::Message;
+use mctp_wire::Unit;
 
 /// The answer of code 0 to a request, with a field to tell it by.
 fn answer_to(request: &Message, field: u8) -> Option<Message> {
@@ -12,5 +13,5 @@ fn answer_to(request: &Message, field: u8) -> Option<Message> {
     };
     let bytes = [*kind, *flags & 0x1F, *pldm_type, *command, 0, field];
     let (dest, source, tag) = (request.source(), request.dest(), request.tag());
-    Message::new(dest, source, false, tag, &bytes).ok()
+    Message::new(Unit::U64, dest, source, false, tag, &bytes).ok()
 }

@@ -2,7 +2,9 @@
 
 use crate::lanes::glance;
 use exch_lane::{End, Lane, LaneEntry, LaneFault, LaneStep, lane_replay};
+use mctp_wire::Unit;
 use pldm_base::Reply;
+use std::alloc::Global;
 
 /// Each request that is taken is the last that was asked, and is taken once; each reply that is learnt is the last one
 /// that was given, and is learnt once.
@@ -44,10 +46,10 @@ fn takes(lane: &mut Lane, step: &LaneStep) -> bool {
 }
 
 /// Whether a request of this command is answered, with a reply of four packets, in one tick.
-fn exchanges(lane: &mut Lane, command: u8) -> bool {
+fn exchanges(lane: &mut Lane, command: u8, fields: &[u8]) -> bool {
     let first = lane.packets().len().wrapping_add(1);
     let mut reply = Reply::new();
-    let _ = reply.try_extend_from_slice(&[command; 200]);
+    let _ = reply.try_extend_from_slice(fields);
     let to_asker = |at: usize| LaneStep::Deliver(at, End::Asker, Reply::new());
     let steps = [
         LaneStep::Begin(command, Reply::new()),
@@ -66,13 +68,23 @@ fn exchanges(lane: &mut Lane, command: u8) -> bool {
     true
 }
 
+/// Whether eight requests are answered at a transmission unit, each with a reply of four packets.
+fn is_left(alloc: Global, unit: Unit, fields: &[u8]) -> bool {
+    let mut lane = Lane::new(alloc, unit, 8, 9);
+    for command in 0..8u8 {
+        if !exchanges(&mut lane, command, fields) {
+            return false;
+        }
+    }
+    lane.now() == 8
+        && lane.packets().len() == 40
+        && lane.history().len() == 24
+        && is_of_a_cell(lane.history())
+}
+
 /// Holds whichever single allocation is refused.
 #[test]
 fn refused_memory_leaves_the_lane(rt: HostRuntime) {
-    let mut lane = Lane::new(rt.alloc(), 8, 9);
-    for command in 0..8u8 {
-        assert!(rt; exchanges(&mut lane, command));
-    }
-    assert!(rt; lane.now() == 8 && lane.packets().len() == 40 && lane.history().len() == 24);
-    assert!(rt; is_of_a_cell(lane.history()));
+    assert!(rt; is_left(rt.alloc(), Unit::U64, &[0x5A; 252]));
+    assert!(rt; is_left(rt.alloc(), Unit::U128, &[0x5A; 508]));
 }

@@ -1,6 +1,7 @@
 //! Lanes, step by step: what is sent, and what happened.
 
 use exch_lane::{End, Lane, LaneEntry, LaneFault, LaneStep, lane_replay};
+use mctp_wire::Unit;
 use pldm_base::Reply;
 use std::alloc::Global;
 
@@ -129,6 +130,7 @@ fn is_noted(entry: &LaneEntry, noted: Noted<'_>) -> bool {
 
 /// A situation: what is done, each with its fault; how many packets were sent then, some of them by number, date and bytes; and what
 /// happened.
+#[derive(Drop)]
 struct Row<'a> {
     situation: &'a str,
     acts: &'a [(Act<'a>, Option<LaneFault>)],
@@ -137,9 +139,9 @@ struct Row<'a> {
     history: &'a [Noted<'a>],
 }
 
-/// Whether a lane comes to what a row says.
-fn holds(alloc: Global, row: &Row<'_>) -> bool {
-    let mut lane = Lane::new(alloc, 8, 9);
+/// Whether a lane of a transmission unit comes to what a row says.
+fn holds(alloc: Global, unit: Unit, row: &Row<'_>) -> bool {
+    let mut lane = Lane::new(alloc, unit, 8, 9);
     for (act, fault) in row.acts {
         let taken = match *act {
             Ticks(count) => ticks(&mut lane, count, false),
@@ -170,16 +172,10 @@ const REPLY: [u8; 10] = [0x01, 8, 9, 0xC0, 0x01, 0x00, 0x05, 0x10, 0x00, 0x01];
 /// The reply of code 0 to command 13.
 const REPLY_13: [u8; 9] = [0x01, 8, 9, 0xC0, 0x01, 0x00, 0x05, 0x13, 0x00];
 
-const BODY: [u8; 100] = [0x5A; 100];
+/// The second packet of a request whose message has one byte more than the transmission unit.
+const SECOND: [u8; 5] = [0x01, 9, 8, 0x58, 0x5A];
 
-/// The second packet of a request with that data: the end of its message of 104 bytes.
-const SECOND: [u8; 44] = [
-    0x01, 9, 8, 0x58, 0x5A, 0x5A, 0x5A, 0x5A, 0x5A, 0x5A, 0x5A, 0x5A, 0x5A, 0x5A, 0x5A, 0x5A, 0x5A,
-    0x5A, 0x5A, 0x5A, 0x5A, 0x5A, 0x5A, 0x5A, 0x5A, 0x5A, 0x5A, 0x5A, 0x5A, 0x5A, 0x5A, 0x5A, 0x5A,
-    0x5A, 0x5A, 0x5A, 0x5A, 0x5A, 0x5A, 0x5A, 0x5A, 0x5A, 0x5A, 0x5A,
-];
-
-const ROWS: [Row<'static>; 9] = [
+const ROWS: [Row<'static>; 6] = [
     Row {
         situation: "a repeated request gets its first reply again",
         acts: &[
@@ -202,23 +198,6 @@ const ROWS: [Row<'static>; 9] = [
             Taken(0x10, &[0xF0, 0x00], &[0x00, 0x01]),
             Learnt(&[0x00, 0x01]),
         ],
-    },
-    Row {
-        // a second piece alone; the first of the repeat with the second of the first sending; and the other way round
-        situation: "pieces of a sending and of its repeat mix",
-        acts: &[
-            (Begin(0x13, &BODY), None),
-            (Ticks(6), None),
-            (ToAsker(5), Some(LaneFault::NoSuchPacket)),
-            (ToTaker(2, &[0x05]), None),
-            (ToTaker(3, &[0x06]), None),
-            (ToTaker(2, &[0x00]), None),
-            (ToTaker(1, &[0x07]), None),
-            (ToTaker(4, &[0x08]), None),
-        ],
-        count: 6,
-        sent: &[(5, 6, &REPLY_13), (6, 6, &REPLY_13)],
-        history: &[Asked(0x13, &BODY), Taken(0x13, &BODY, &[0x00])],
     },
     Row {
         // it neither repeats nor learns; its next request has the first tag and identifier again, and is new to the taker
@@ -284,36 +263,6 @@ const ROWS: [Row<'static>; 9] = [
         ],
     },
     Row {
-        // the taker counts 8 of these 10 units
-        situation: "an assembly waits 10 units for its next piece where two ticks are missed",
-        acts: &[
-            (Begin(0x13, &BODY), None),
-            (ToTaker(1, &[0x05]), None),
-            (TakerMisses, None),
-            (Ticks(8), None),
-            (TakerMisses, None),
-            (ToTaker(4, &[0x00]), None),
-        ],
-        count: 5,
-        sent: &[(4, 6, &SECOND), (5, 10, &REPLY_13)],
-        history: &[Asked(0x13, &BODY), Taken(0x13, &BODY, &[0x00])],
-    },
-    Row {
-        situation: "an assembly is over after 11 units, whatever is missed",
-        acts: &[
-            (Begin(0x13, &BODY), None),
-            (ToTaker(1, &[0x05]), None),
-            (TakerMisses, None),
-            (Ticks(8), None),
-            (TakerMisses, None),
-            (Ticks(1), None),
-            (ToTaker(4, &[0x00]), None),
-        ],
-        count: 4,
-        sent: &[(4, 6, &SECOND)],
-        history: &[Asked(0x13, &BODY)],
-    },
-    Row {
         situation: "an end misses a tick only where it counted eight since the last that it missed",
         acts: &[
             (BothMiss, None),
@@ -353,8 +302,144 @@ const ROWS: [Row<'static>; 9] = [
 #[test]
 fn lanes_come_to_what_the_rows_say(rt: HostRuntime) {
     for row in &ROWS {
-        assert!(rt; holds(rt.alloc(), row), "{}", row.situation);
+        assert!(rt; holds(rt.alloc(), Unit::U64, row), "{}", row.situation);
     }
+}
+
+/// Pieces of a sending and of its repeat mix: a second piece alone; the first of the repeat with the second of the first
+/// sending; and the other way round.
+fn mixes(alloc: Global, unit: Unit, body: &[u8]) -> bool {
+    let row = Row {
+        situation: "",
+        acts: &[
+            (Begin(0x13, body), None),
+            (Ticks(6), None),
+            (ToAsker(5), Some(LaneFault::NoSuchPacket)),
+            (ToTaker(2, &[0x05]), None),
+            (ToTaker(3, &[0x06]), None),
+            (ToTaker(2, &[0x00]), None),
+            (ToTaker(1, &[0x07]), None),
+            (ToTaker(4, &[0x08]), None),
+        ],
+        count: 6,
+        sent: &[(5, 6, &REPLY_13), (6, 6, &REPLY_13)],
+        history: &[Asked(0x13, body), Taken(0x13, body, &[0x00])],
+    };
+    holds(alloc, unit, &row)
+}
+
+/// An assembly waits 10 units for its next piece where two ticks are missed: the taker counts 8 of them.
+fn waits(alloc: Global, unit: Unit, body: &[u8]) -> bool {
+    let row = Row {
+        situation: "",
+        acts: &[
+            (Begin(0x13, body), None),
+            (ToTaker(1, &[0x05]), None),
+            (TakerMisses, None),
+            (Ticks(8), None),
+            (TakerMisses, None),
+            (ToTaker(4, &[0x00]), None),
+        ],
+        count: 5,
+        sent: &[(4, 6, &SECOND), (5, 10, &REPLY_13)],
+        history: &[Asked(0x13, body), Taken(0x13, body, &[0x00])],
+    };
+    holds(alloc, unit, &row)
+}
+
+/// An assembly is over after 11 units, whatever is missed.
+fn is_over(alloc: Global, unit: Unit, body: &[u8]) -> bool {
+    let row = Row {
+        situation: "",
+        acts: &[
+            (Begin(0x13, body), None),
+            (ToTaker(1, &[0x05]), None),
+            (TakerMisses, None),
+            (Ticks(8), None),
+            (TakerMisses, None),
+            (Ticks(1), None),
+            (ToTaker(4, &[0x00]), None),
+        ],
+        count: 4,
+        sent: &[(4, 6, &SECOND)],
+        history: &[Asked(0x13, body)],
+    };
+    holds(alloc, unit, &row)
+}
+
+/// The data of a request whose message has one byte more than the transmission unit.
+const ONE_MORE: [(Unit, &[u8]); 2] = [(Unit::U64, &[0x5A; 61]), (Unit::U128, &[0x5A; 125])];
+
+#[test]
+fn two_packets_are_one_message(rt: HostRuntime) {
+    for (unit, body) in ONE_MORE {
+        assert!(rt; mixes(rt.alloc(), unit, body), "{} bytes", body.len());
+        assert!(rt; waits(rt.alloc(), unit, body), "{} bytes", body.len());
+        assert!(rt; is_over(rt.alloc(), unit, body), "{} bytes", body.len());
+    }
+}
+
+/// Whether data of so many bytes go to and fro as a request and as its reply, each in four packets.
+fn go_to_and_fro(alloc: Global, unit: Unit, most: &[u8]) -> bool {
+    let row = Row {
+        situation: "",
+        acts: &[
+            (Begin(0x13, most), None),
+            (ToTaker(1, most), None),
+            (ToTaker(2, most), None),
+            (ToTaker(3, most), None),
+            (ToTaker(4, most), None),
+            (ToAsker(5), None),
+            (ToAsker(6), None),
+            (ToAsker(7), None),
+            (ToAsker(8), None),
+        ],
+        count: 8,
+        sent: &[],
+        history: &[Asked(0x13, most), Taken(0x13, most, most), Learnt(most)],
+    };
+    holds(alloc, unit, &row)
+}
+
+/// Whether data of so many bytes are refused as a request's and as a reply, and shorter ones are taken after that.
+fn are_refused(alloc: Global, unit: Unit, more: &[u8]) -> bool {
+    let row = Row {
+        situation: "",
+        acts: &[
+            (Begin(0x13, more), Some(LaneFault::NotNow)),
+            (ToTaker(1, more), Some(LaneFault::NotNow)),
+            (Begin(0x13, &[]), None),
+            (ToTaker(1, more), Some(LaneFault::NotNow)),
+            (ToTaker(1, &[0x00]), None),
+        ],
+        count: 2,
+        sent: &[(2, 0, &REPLY_13)],
+        history: &[Asked(0x13, &[]), Taken(0x13, &[], &[0x00])],
+    };
+    holds(alloc, unit, &row)
+}
+
+const BYTES: [u8; 509] = [0x5A; 509];
+
+/// How much data goes to and fro, and how much is refused. A step holds at most 508 bytes, so that a unit of 128 refuses
+/// none of them.
+#[test]
+fn a_message_has_four_packets(rt: HostRuntime) {
+    for (unit, size, taken) in [
+        (Unit::U64, 252usize, true),
+        (Unit::U64, 253, false),
+        (Unit::U64, 508, false),
+        (Unit::U128, 508, true),
+    ] {
+        assert!(rt; size <= 509);
+        let bytes = &BYTES[..size];
+        if taken {
+            assert!(rt; go_to_and_fro(rt.alloc(), unit, bytes), "{size} bytes");
+        } else {
+            assert!(rt; are_refused(rt.alloc(), unit, bytes), "{size} bytes");
+        }
+    }
+    assert!(rt; Reply::new().try_extend_from_slice(&BYTES).is_err());
 }
 
 /// Whether the steps before a fault are taken, and none after it.
@@ -366,7 +451,7 @@ fn stops_at_its_fault(alloc: Global) -> bool {
         LaneStep::Abandon,
         LaneStep::Tick(true, true),
     ];
-    let mut lane = Lane::new(alloc, 8, 9);
+    let mut lane = Lane::new(alloc, Unit::U64, 8, 9);
     lane_replay(&mut lane, &steps) == Err((3, LaneFault::NotNow))
         && lane.now() == 1
         && !lane.is_open()
@@ -379,7 +464,7 @@ fn a_run_stops_at_its_fault(rt: HostRuntime) {
 
 /// How many of so many ticks an asker counts that misses each one that it may; None where a tick is refused that it counts.
 fn counted_in(alloc: Global, units: u32) -> Option<u32> {
-    let mut lane = Lane::new(alloc, 8, 9);
+    let mut lane = Lane::new(alloc, Unit::U64, 8, 9);
     let mut counted: u32 = 0;
     for _ in 0..units {
         if !takes(&mut lane, AskerMisses, None) {

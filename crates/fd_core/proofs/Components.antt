@@ -108,7 +108,7 @@ applied v u w LearnRow.Reported known h = with_keys v (apply_by v u w LearnRow.R
 applied v u w row known h = h
 
 learnt_at : (v : DeviceState) (p : Phase) (a : Option AnswerOf) (works : Bool) → IsOneOf (map key_of v.rows) p → HasComponents v → HasComponents (learn_at v p a works).after
-learnt_at v (Phase.Download u w p) a works known h = downloaded v u w (download_row p (asked_length u w (length v.stage)) a works) known h
+learnt_at v (Phase.Download u w p) a works known h = downloaded v u w (download_row p (asked_length v.unit u w (length v.stage)) a works) known h
 learnt_at v (Phase.Verify u w p) a works known h = verified v u w (report_row p (verified_row a)) known h
 learnt_at v (Phase.Apply u w p) a works known h = applied v u w (report_row p (applied_row a)) known h
 learnt_at v p a works known h = h

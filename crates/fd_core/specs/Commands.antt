@@ -1,7 +1,9 @@
 -- How a device takes commands (DSP0267 1.0): for each command a row says what is refused and what is done, and what the
 -- row does. In a row the tests stand in their order. `quiet` says that the device has no request of its own under way,
 -- `works` that the one call of the bank that a row makes succeeds.
-use Rattle.std.specs.Prelude.{[], ◌&&◌, ◌≡◌, ◌+◌, ◌++◌, ◌==◌, ◌||◌, ◌∷◌, Bool, List, None, Option, Some, false, if◌then◌else◌, is_some, length, map, nat_lt, not, true, ℕ}
+use Rattle.std.specs.Prelude.{[], ◌&&◌, ◌≡◌, ◌+◌, ◌++◌, ◌==◌, ◌||◌, ◌∷◌, ◌≤◌, Bool, List, None, Option, Some, false, if◌then◌else◌, is_some, length, map, nat_lt, not, true, ℕ}
+use Rattle.mctp_wire.specs.declared.unit.Unit.TheVariants.{U64}
+use Rattle.pldm_base.specs.Limits.{reply_limit}
 use Rattle.fd_core.specs.Codes.{activation_not_required, already_in_update_mode, application_failed, can_be_updated, cannot_be_updated, incomplete_update, invalid_state_for_command, longest_image, most_components, no_restriction, no_stamp, not_in_update_mode, not_supported, progress_unsupported, stamp_identical, stamp_lower, transfer_failed, verification_failed}
 use Rattle.fd_core.specs.Images.{Put, RowOf, applied_of, active_of, dropped, label_of, puts, row_of, same_key, switched, version_at}
 use Rattle.fd_core.specs.States.{DeviceState, DeviceOf, Phase, UpdateOf, WorkOf, moved, reset, rested, state_of}
@@ -13,6 +15,7 @@ use Rattle.fd_core.specs.declared.states.Reason.{Reason}
 use Rattle.fd_core.specs.declared.states.Reason.TheVariants as reasons
 use Rattle.fd_core.specs.declared.states.State.{State}
 use Rattle.fd_core.specs.declared.states.State.TheVariants as states
+use Rattle.fwup_wire.specs.Answers.{answer_bytes}
 use Rattle.fwup_wire.specs.Fields.{flag_byte}
 use Rattle.fwup_wire.specs.Values.{AnswerOf, CommandOf, EntryOf, OfferOf, ParametersOf, RequestOf}
 use Rattle.fwup_wire.specs.declared.answer.OfferResponse.{OfferResponse}
@@ -376,6 +379,10 @@ activated_by v c quiet works = (device_take v c quiet works).activated
 -- the ticks without a change after it
 abbrev pub idle_after : ℕ → DeviceState → CommandOf → Bool → Bool → ℕ
 idle_after idle v c quiet works = rested idle (device_take v c quiet works).stirs
+
+-- an answer that fits a message at the smallest unit, and so at each
+abbrev pub IsShort : AnswerOf → Type 0
+IsShort a = length (answer_bytes a) ≤ reply_limit U64
 
 -- a device after what was done, and its answer
 abbrev pub IsTaken : DeviceOf → DeviceOf → AnswerOf → Taken → Type 0

@@ -1,5 +1,6 @@
 -- What a device stands for (DSP0267 1.0, "Firmware device state machine").
 use Rattle.std.specs.Prelude.{[], ◌≡◌, Bool, List, Option, None, Some, if◌then◌else◌, ℕ}
+use Rattle.mctp_wire.specs.declared.unit.Unit.{«Unit»}
 use Rattle.fd_core.specs.Images.{LabelOf, RowOf, dropped}
 use Rattle.fd_core.specs.declared.parts.Component.{Component}
 use Rattle.fd_core.specs.declared.parts.Listed.{Listed}
@@ -35,8 +36,9 @@ pub data Phase : Type 0 where
   Apply : (u : UpdateOf) (w : WorkOf) (p : Progress) → Phase
   Activated : Phase
 
--- A device: what it is configured with, its images, the bytes of the image that is being written, and where it is.
+-- A device: its network's transmission unit, what it is configured with, its images, the bytes of the image that is being written, and where it is.
 pub record DeviceState : Type 0 where
+  pub unit : «Unit»
   pub descriptors : List DescriptorOf
   pub components : List Component
   pub rows : List RowOf
@@ -79,7 +81,7 @@ staged_of p = None
 abbrev pub IsWhole : Phase → ℕ → Type 0
 IsWhole (Phase.Verify u w progress.InProgress) have = have ≡ w.size
 IsWhole (Phase.Apply u w progress.InProgress) have = have ≡ w.size
-IsWhole p have = Unit {0}
+IsWhole p have = Prim.Unit {0}
 
 -- a device in another state
 abbrev pub moved : DeviceState → Phase → DeviceState
@@ -94,9 +96,10 @@ abbrev pub rested : ℕ → Bool → ℕ
 rested idle stirs = if stirs then 0 else idle
 
 -- a device as it is configured
-abbrev pub new_device : List DescriptorOf → List Component → List RowOf → DeviceState
-new_device descriptors components rows =
+abbrev pub new_device : «Unit» → List DescriptorOf → List Component → List RowOf → DeviceState
+new_device unit descriptors components rows =
     record {
+      unit = unit;
       descriptors = descriptors;
       components = components;
       rows = rows;

@@ -1,17 +1,19 @@
 -- What a device asks of the agent, and what it learns from the answers (DSP0267 1.0).
 use Rattle.std.specs.Prelude.{[], ◌++◌, ◌-◌, ◌==◌, Bool, List, None, Option, Some, false, if◌then◌else◌, length, max, min, take, true, ℕ}
+use Rattle.mctp_wire.specs.declared.unit.Unit.{«Unit»}
 use Rattle.fd_core.specs.Codes.{application_failed, succeeded, transfer_failed, verification_failed}
 use Rattle.fd_core.specs.Commands.{download_progress}
 use Rattle.fd_core.specs.States.{DeviceState, Phase, UpdateOf, WorkOf, moved, rested}
 use Rattle.fd_core.specs.declared.states.Progress.{Progress}
 use Rattle.fd_core.specs.declared.states.Progress.TheVariants as progress
 use Rattle.fwup_wire.specs.Values.{AnswerOf, CommandOf}
-use Rattle.fwup_wire.specs.declared.transfers.TheConstants.{MAX_TRANSFER, MIN_TRANSFER}
+use Rattle.fwup_wire.specs.Transfers.{transfer_size}
+use Rattle.fwup_wire.specs.declared.transfers.TheConstants.{MIN_TRANSFER}
 
 -- How many bytes it asks for at once: what is missing, at most as many as the agent gives and as fit a message, and never
 -- fewer than the least length. What is then too much is padding.
-abbrev pub asked_length : UpdateOf → WorkOf → ℕ → ℕ
-asked_length u w have = max MIN_TRANSFER (min MAX_TRANSFER (min u.transfer_size (w.size - have)))
+abbrev pub asked_length : «Unit» → UpdateOf → WorkOf → ℕ → ℕ
+asked_length unit u w have = max MIN_TRANSFER (min (transfer_size unit) (min u.transfer_size (w.size - have)))
 
 -- the result that is to be reported: success, or the state's own failure until it is reported
 abbrev pub report_of : Progress → ℕ → Option ℕ
@@ -24,22 +26,22 @@ abbrev pub reports : (ℕ → CommandOf) → Option ℕ → Option CommandOf
 reports command None = None
 reports command (Some result) = Some (command result)
 
-abbrev pub download_wish : UpdateOf → WorkOf → Progress → ℕ → Option CommandOf
-download_wish u w progress.InProgress have = Some (CommandOf.RequestFirmwareData have (asked_length u w have))
-download_wish u w p have = reports CommandOf.TransferComplete (report_of p transfer_failed)
+abbrev pub download_wish : «Unit» → UpdateOf → WorkOf → Progress → ℕ → Option CommandOf
+download_wish unit u w progress.InProgress have = Some (CommandOf.RequestFirmwareData have (asked_length unit u w have))
+download_wish unit u w p have = reports CommandOf.TransferComplete (report_of p transfer_failed)
 
 abbrev pub apply_report : ℕ → CommandOf
 apply_report result = CommandOf.ApplyComplete result 0
 
 -- what it wishes in a state, with so many bytes of the image
-abbrev pub wish_at : Phase → ℕ → Option CommandOf
-wish_at (Phase.Download u w p) have = download_wish u w p have
-wish_at (Phase.Verify u w p) have = reports CommandOf.VerifyComplete (report_of p verification_failed)
-wish_at (Phase.Apply u w p) have = reports apply_report (report_of p application_failed)
-wish_at p have = None
+abbrev pub wish_at : «Unit» → Phase → ℕ → Option CommandOf
+wish_at unit (Phase.Download u w p) have = download_wish unit u w p have
+wish_at unit (Phase.Verify u w p) have = reports CommandOf.VerifyComplete (report_of p verification_failed)
+wish_at unit (Phase.Apply u w p) have = reports apply_report (report_of p application_failed)
+wish_at unit p have = None
 
 abbrev pub device_wish : DeviceState → Option CommandOf
-device_wish v = wish_at v.phase (length v.stage)
+device_wish v = wish_at v.unit v.phase (length v.stage)
 
 -- Which row of learning it is. A malformed answer is None.
 pub data LearnRow : Type 0 where
@@ -114,7 +116,7 @@ apply_by v u w LearnRow.Reported = stays (record v { phase = Phase.Apply u w (pr
 apply_by v u w row = stays v
 
 abbrev pub learn_at : DeviceState → Phase → Option AnswerOf → Bool → Learnt
-learn_at v (Phase.Download u w p) a works = download_by v u w (download_row p (asked_length u w (length v.stage)) a works)
+learn_at v (Phase.Download u w p) a works = download_by v u w (download_row p (asked_length v.unit u w (length v.stage)) a works)
 learn_at v (Phase.Verify u w p) a works = verify_by v u w (report_row p (verified_row a))
 learn_at v (Phase.Apply u w p) a works = apply_by v u w (report_row p (applied_row a))
 learn_at v p a works = stays v

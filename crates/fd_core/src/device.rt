@@ -1,6 +1,6 @@
 //! A device over a bank.
 
-ghost use Rattle.std.specs.Prelude.{◌≡◌, ◌≢◌, ◌<◌, OnErr, OnOk, Some, is_ok, is_some, map, not, length, true, false};
+ghost use Rattle.std.specs.Prelude.{◌≡◌, ◌≢◌, ◌<◌, ◌≤◌, OnErr, OnOk, Some, is_ok, is_some, map, not, length, true, false};
 ghost use Rattle.fd_core.specs.Banks.{Rose};
 ghost use Rattle.fd_core.specs.Commands.{bytes_work, device_after, device_answer, idle_after};
 ghost use Rattle.fd_core.specs.States.{DeviceOf, IsWhole, new_device, progress_of, reset, rested, staged_of, state_of};
@@ -10,6 +10,8 @@ ghost use Rattle.fd_core.specs.declared.states.Verdict.TheVariants.{ApplyOk};
 ghost use Rattle.fwup_wire.specs.Answers.{answer_bytes, answer_in};
 ghost use Rattle.fwup_wire.specs.Commands.{command_code};
 ghost use Rattle.fwup_wire.specs.Lent.{command_of};
+ghost use Rattle.mctp_wire.specs.declared.unit.Unit.TheVariants.{U64};
+ghost use Rattle.pldm_base.specs.Limits.{reply_limit};
 ghost use Rattle.fd_core.specs.Images.{key_of};
 
 use crate::bank::Bank;
@@ -18,6 +20,7 @@ use crate::parts::{Component, Course, MAX_COMPONENTS, NO_KEY, Update, Work};
 use crate::states::{NotNow, Progress, Reason, State, Verdict};
 use arrayvec::ArrayVec;
 use fwup_wire::{Answer, Command, DescriptorList, Key, write_answer};
+use mctp_wire::Unit;
 use pldm_base::Reply;
 use pldm_base::completion::ERROR_UNSUPPORTED_PLDM_CMD;
 use std::marker::Model;
@@ -37,6 +40,8 @@ const PATIENCE: u8 = 240;
 /// A device under update over its bank.
 #[derive(Drop)]
 pub struct Device<B: Bank> {
+    /// The transmission unit of its network; it never changes.
+    unit: Unit,
     /// What identifies the device; it never changes.
     descriptors: DescriptorList,
     /// The components that it has; they never change.
@@ -60,6 +65,7 @@ impl<B: Bank> Model for Device<B> {
 
     ghost view = { λ d. record {
       device = record {
+        unit = d.unit;
         descriptors = d.descriptors;
         components = d.components.items;
         rows = B.rows d.bank;
@@ -77,18 +83,20 @@ impl<B: Bank> Model for Device<B> {
 }
 
 impl<B: Bank> Device<B> {
-    /// A device that is idle. Its bank has its components, in the same order.
+    /// A device on a network of this transmission unit, which is idle. Its bank has its components, in the same order.
     pub fn new(
+        unit: Unit,
         descriptors: DescriptorList,
         components: ArrayVec<Component, MAX_COMPONENTS>,
         bank: B,
     ) -> Device<B>
         requires { map key_of (B.rows bank) ≡ map (λ c. c.key) components.items }
-        ensures device { result.device ≡ new_device descriptors components.items (B.rows bank) }
+        ensures device { result.device ≡ new_device unit descriptors components.items (B.rows bank) }
         ensures idle { result.idle ≡ 0 }
         ensures faults { result.faults ≡ B.faults bank }
     {
         Device {
+            unit,
             descriptors,
             components,
             bank,
@@ -106,6 +114,13 @@ impl<B: Bank> Device<B> {
             },
             work: no_work(),
         }
+    }
+
+    /// The transmission unit of its network.
+    pub fn unit(&self) -> Unit
+        ensures { result ≡ self.now.device.unit }
+    {
+        self.unit
     }
 
     /// The state.
@@ -144,13 +159,15 @@ impl<B: Bank> Device<B> {
     }
 
     /// Takes a command of the agent, and gives the reply: a completion code, and the fields after code 0. `quiet` says
-    /// that the device has no request of its own under way. A refused command changes nothing.
+    /// that the device has no request of its own under way. A refused command changes nothing. The reply fits a message of
+    /// either transmission unit.
     ///
     /// Code 1 answers UpdateComponent and ActivateFirmware where the bank failed, and only there.
     #[tactic(auto, using(crate::proofs::Answering::answers_its_command))]
     pub fn take(&mut self, command: &Command<'_>, quiet: bool) -> Reply
         ensures answer { result.items ≡ answer_bytes (device_answer self.old.device (command_of command.now) quiet (bytes_work result.items)) }
         ensures reads { answer_in (command_code (command_of command.now)) result.items ≡ Some (device_answer self.old.device (command_of command.now) quiet (bytes_work result.items)) }
+        ensures fits { length result.items ≤ reply_limit U64 }
         ensures after { self.new.device ≡ device_after self.old.device (command_of command.now) quiet (bytes_work result.items) }
         ensures idle { self.new.idle ≡ idle_after self.old.idle self.old.device (command_of command.now) quiet (bytes_work result.items) }
         ensures worked { bytes_work result.items ≡ true → self.new.faults ≡ self.old.faults }

@@ -3,28 +3,28 @@ use Rattle.std.proofs.Common.{◌≡◌, ◌≤◌, ◌<◌, ℕ, List, [], ◌�
 use Rattle.std.specs.Io.KnownBytes.{Consumes, IsAtEnd}
 use Rattle.std.proofs.KnownBytes.{Consumes-trans}
 use Rattle.byteorder.specs.Endian.{little_number}
-use Rattle.mctp_wire.specs.declared.layout.TheConstants.{MAX_PACKET}
-use Rattle.fw_edge.specs.Frames.{IsCut, PartOf, ReadCut, ReadPart}
+use Rattle.mctp_wire.specs.declared.unit.Unit.{«Unit»}
+use Rattle.fw_edge.specs.Frames.{IsCut, PartOf, ReadCut, ReadPart, most_of}
 
 -- a length, and less than it says
-pub cut_after : (head rest : List ℕ) → length head ≡ 2 → length rest < little_number 2 head → little_number 2 head ≤ MAX_PACKET → IsCut (head ++ rest)
-cut_after [] rest two less most = absurd (omega (arith, two))
-cut_after (low ∷ []) rest two less most = absurd (omega (arith, two))
-cut_after (low ∷ high ∷ []) rest two less most = (less, most)
-cut_after (low ∷ high ∷ more ∷ others) rest two less most = absurd (omega (arith, two))
+pub cut_after : (u : «Unit») (head rest : List ℕ) → length head ≡ 2 → length rest < little_number 2 head → little_number 2 head ≤ most_of u → IsCut u (head ++ rest)
+cut_after u [] rest two less most = absurd (omega (arith, two))
+cut_after u (low ∷ []) rest two less most = absurd (omega (arith, two))
+cut_after u (low ∷ high ∷ []) rest two less most = (less, most)
+cut_after u (low ∷ high ∷ more ∷ others) rest two less most = absurd (omega (arith, two))
 
-pub part_after : (a b c : Option (List ℕ)) (head : List ℕ) (size : ℕ) → length head ≡ 2 → size ≡ little_number 2 head → size ≤ MAX_PACKET → Consumes a b head → PartOf b c size → ReadPart a c
-part_after a b c head size two is most first part = record {
+pub part_after : (u : «Unit») (a b c : Option (List ℕ)) (head : List ℕ) (size : ℕ) → length head ≡ 2 → size ≡ little_number 2 head → size ≤ most_of u → Consumes a b head → PartOf b c size → ReadPart u a c
+part_after u a b c head size two is most first part = record {
   bytes = head ++ part.bytes;
-  cut = cut_after head part.bytes two (rw (← is) part.part) (rw (← is) most);
+  cut = cut_after u head part.bytes two (rw (← is) part.part) (rw (← is) most);
   read = Consumes-trans a b c head part.bytes first part.read;
 }
 
-pub ends_after : (a b c : Option (List ℕ)) (head rest : List ℕ) (size : ℕ) → length head ≡ 2 → size ≡ little_number 2 head → size ≤ MAX_PACKET → Consumes a b head → Consumes b c rest → length rest < size → IsAtEnd c → ReadCut a c
-ends_after a b c head rest size two is most first second less end = record {
+pub ends_after : (u : «Unit») (a b c : Option (List ℕ)) (head rest : List ℕ) (size : ℕ) → length head ≡ 2 → size ≡ little_number 2 head → size ≤ most_of u → Consumes a b head → Consumes b c rest → length rest < size → IsAtEnd c → ReadCut u a c
+ends_after u a b c head rest size two is most first second less end = record {
   bytes = head ++ rest;
   some = some_first head rest two;
-  cut = cut_after head rest two (rw (← is) less) (rw (← is) most);
+  cut = cut_after u head rest two (rw (← is) less) (rw (← is) most);
   read = Consumes-trans a b c head rest first second;
   end = end;
 }

@@ -69,7 +69,7 @@ posts_gain now xs (p ∷ packets) =
 
 -- a tick of the devices
 passed_gains : (counts : Bool) (now : ℕ) (x : SiteOf) → length x.packets ≤ length (site_passes counts now x).packets
-passed_gains true now x = more_sent x.packets (sent_now now (all_packets (half_ticks device_core true x.node.half).sent))
+passed_gains true now x = more_sent x.packets (sent_now now (all_packets x.node.half.unit (half_ticks device_core true x.node.half).sent))
 passed_gains false now x = omega arith
 
 ticks_gain : (missed : List ℕ) (now : ℕ) (xs : List SiteOf) → NoneFell (packet_counts xs) (packet_counts (map (site_goes_on missed now) xs))
@@ -87,8 +87,8 @@ device_gains : (works : Bool) (faults : ℕ) (w : WorldOf) (bytes : List ℕ) (p
     → NoneFell (packet_counts w.sites) (packet_counts (at_device works faults w bytes place x).sites)
 device_gains works faults w bytes (Some i) (Some x) is =
     put_gains w.sites i x
-    (record x { node = node_becomes x.node faults (device_hears works x.node bytes).tid (device_hears works x.node bytes).half; packets = x.packets ++ sent_now w.now (all_packets (device_hears works x.node bytes).sent) })
-    is (more_sent x.packets (sent_now w.now (all_packets (device_hears works x.node bytes).sent)))
+    (record x { node = node_becomes x.node faults (device_hears works x.node bytes).tid (device_hears works x.node bytes).half; packets = x.packets ++ sent_now w.now (all_packets x.node.half.unit (device_hears works x.node bytes).sent) })
+    is (more_sent x.packets (sent_now w.now (all_packets x.node.half.unit (device_hears works x.node bytes).sent)))
 device_gains works faults w bytes (Some i) None is = fell_none (packet_counts w.sites)
 device_gains works faults w bytes None x is = fell_none (packet_counts w.sites)
 
@@ -101,7 +101,7 @@ packet_gains : (works : Bool) (faults : ℕ) (w : WorldOf) (node : ℕ) (o : Opt
 packet_gains works faults w node None = fell_none (packet_counts w.sites)
 packet_gains works faults w node (Some p) =
     comes_gain (node == w.agent.endpoint.eid) w (at_agent w p.bytes) (at_device works faults w p.bytes (place_of w.sites node) (site_for w.sites node))
-    (posts_gain w.now w.sites (all_packets (agent_hears w.packages w.agent p.bytes w.now).sent))
+    (posts_gain w.now w.sites (agent_hears w.packages w.agent p.bytes w.now).sent)
     (device_gains works faults w p.bytes (place_of w.sites node) (site_for w.sites node) refl)
 
 -- a verdict

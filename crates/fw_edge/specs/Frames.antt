@@ -1,8 +1,10 @@
 -- Packets as frames in a stream of bytes, and what is read and written of a frame where one fails.
-use Rattle.std.specs.Prelude.{ℕ, ◌≡◌, ◌≤◌, ◌<◌, ◌⊎◌, List, [], ◌∷◌, ◌++◌, length, take, Option}
+use Rattle.std.specs.Prelude.{ℕ, ◌≡◌, ◌+◌, ◌≤◌, ◌<◌, ◌⊎◌, List, [], ◌∷◌, ◌++◌, length, take, Option}
 use Rattle.std.specs.Io.KnownBytes.{Appends, Consumes, IsAtEnd, Keeps}
 use Rattle.byteorder.specs.Endian.{little_bytes, little_number}
-use Rattle.mctp_wire.specs.declared.layout.TheConstants.{MAX_PACKET}
+use Rattle.mctp_wire.specs.declared.layout.TheConstants.{HEAD_SIZE}
+use Rattle.mctp_wire.specs.declared.unit.Unit.{«Unit»}
+use Rattle.mctp_wire.specs.Units.{bytes_of}
 use Rattle.fw_edge.specs.declared.frame.FrameFault.{FrameFault}
 use Rattle.fw_edge.specs.declared.frame.FrameFault.TheVariants as faults
 
@@ -26,46 +28,57 @@ pub record BeginsOf (before now : Option (List ℕ)) (bytes : List ℕ) : Type 0
   pub count : ℕ
   pub written : Appends before now (take count bytes)
 
+-- the most bytes of a packet in a network with this transmission unit: a head and a body
+abbrev pub most_of : «Unit» → ℕ
+most_of u = HEAD_SIZE + bytes_of u
+
+-- a frame has so many bytes of a packet, 1 or more; and no frame has
+abbrev pub IsSize : «Unit» → ℕ → Type 0
+IsSize u size = (1 ≤ size) × (size ≤ most_of u)
+
+abbrev pub IsNoSize : «Unit» → ℕ → Type 0
+IsNoSize u size = (size ≡ 0) ⊎ (most_of u < size)
+
 -- fewer bytes were read than a frame has whose length, that of a packet, is in the first two of them
-abbrev pub IsCut : List ℕ → Type 0
-IsCut [] = Unit {0}
-IsCut (low ∷ []) = Unit {0}
-IsCut (low ∷ high ∷ rest) = (length rest < little_number 2 (low ∷ high ∷ [])) × (little_number 2 (low ∷ high ∷ []) ≤ MAX_PACKET)
+abbrev pub IsCut : «Unit» → List ℕ → Type 0
+IsCut u [] = Prim.Unit {0}
+IsCut u (low ∷ []) = Prim.Unit {0}
+IsCut u (low ∷ high ∷ rest) = (length rest < little_number 2 (low ∷ high ∷ [])) × (little_number 2 (low ∷ high ∷ []) ≤ most_of u)
 
 -- two bytes are no length of a packet
-abbrev pub IsNoLength : List ℕ → Type 0
-IsNoLength bytes = (length bytes ≡ 2) × ((little_number 2 bytes ≡ 0) ⊎ (MAX_PACKET < little_number 2 bytes))
+abbrev pub IsNoLength : «Unit» → List ℕ → Type 0
+IsNoLength u bytes = (length bytes ≡ 2) × IsNoSize u (little_number 2 bytes)
 
 -- the reader ended within a frame, after these bytes
-pub record ReadCut (before now : Option (List ℕ)) : Type 0 where
+pub record ReadCut (u : «Unit») (before now : Option (List ℕ)) : Type 0 where
   pub bytes : List ℕ
   pub some : 1 ≤ length bytes
-  pub cut : IsCut bytes
+  pub cut : IsCut u bytes
   pub read : Consumes before now bytes
   pub end : IsAtEnd now
 
 -- no length of a packet was read
-pub record ReadNoLength (before now : Option (List ℕ)) : Type 0 where
+pub record ReadNoLength (u : «Unit») (before now : Option (List ℕ)) : Type 0 where
   pub bytes : List ℕ
-  pub length : IsNoLength bytes
+  pub length : IsNoLength u bytes
   pub read : Consumes before now bytes
 
 -- a part of a frame was read
-pub record ReadPart (before now : Option (List ℕ)) : Type 0 where
+pub record ReadPart (u : «Unit») (before now : Option (List ℕ)) : Type 0 where
   pub bytes : List ℕ
-  pub cut : IsCut bytes
+  pub cut : IsCut u bytes
   pub read : Consumes before now bytes
 
 -- what a reader had, and has left, where no frame was read for this reason
-abbrev pub ReadStops : FrameFault → (before now : Option (List ℕ)) → Type 0
-ReadStops faults.End before now = Consumes before now [] × IsAtEnd now
-ReadStops faults.Cut before now = ReadCut before now
-ReadStops faults.Size before now = ReadNoLength before now
-ReadStops faults.Io before now = ReadPart before now
+abbrev pub ReadStops : «Unit» → FrameFault → (before now : Option (List ℕ)) → Type 0
+ReadStops u faults.End before now = Consumes before now [] × IsAtEnd now
+ReadStops u faults.Cut before now = ReadCut u before now
+ReadStops u faults.Size before now = ReadNoLength u before now
+ReadStops u faults.Io before now = ReadPart u before now
 
 -- what a writer holds where the frame of a packet was not written for this reason
-abbrev pub WriteStops : FrameFault → (before now : Option (List ℕ)) → List ℕ → Type 0
-WriteStops faults.End before now packet = ⊥
-WriteStops faults.Cut before now packet = ⊥
-WriteStops faults.Size before now packet = (packet ≡ []) × Keeps before now
-WriteStops faults.Io before now packet = BeginsOf before now (frame_of packet)
+abbrev pub WriteStops : «Unit» → FrameFault → (before now : Option (List ℕ)) → List ℕ → Type 0
+WriteStops u faults.End before now packet = ⊥
+WriteStops u faults.Cut before now packet = ⊥
+WriteStops u faults.Size before now packet = IsNoSize u (length packet) × Keeps before now
+WriteStops u faults.Io before now packet = BeginsOf before now (frame_of packet)

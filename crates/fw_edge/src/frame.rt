@@ -1,21 +1,21 @@
 //! Packets as frames in a stream of bytes.
 
-ghost use Rattle.std.specs.Prelude.{[], ◌≡◌, ◌≤◌, ◌∷◌, IfErr, IfOk, OnOk, length};
+ghost use Rattle.std.specs.Prelude.{[], ◌≡◌, ◌≤◌, ◌∷◌, IfErr, IfOk, OnOk, false, length, true};
 ghost use Rattle.std.specs.Io.KnownBytes.{Appends, Consumes};
 ghost use Rattle.byteorder.specs.Endian.{little_bytes};
-ghost use Rattle.fw_edge.specs.Frames.{ReadStops, WriteStops, frame_of, frames_of};
+ghost use Rattle.fw_edge.specs.Frames.{IsNoSize, IsSize, ReadStops, WriteStops, frame_of, frames_of};
 
 use crate::retries::{read_up_to, write_whole};
 use arrayvec::ArrayVec;
 use byteorder::{ByteOrder, LittleEndian};
-use mctp_wire::{MAX_PACKET, RawPacket};
+use mctp_wire::{HEAD_SIZE, MAX_PACKET, RawPacket, Unit};
 use std::io::{Read, Write};
 use thiserror::Error;
 
 /// The bytes of a frame's length.
 const LENGTH_SIZE: usize = 2;
 
-/// The most bytes of a frame: its length and a packet.
+/// The most bytes of a frame, whatever the transmission unit: its length and a packet.
 const MAX_FRAME: usize = LENGTH_SIZE + MAX_PACKET;
 
 /// The bytes of a frame.
@@ -30,7 +30,7 @@ pub enum FrameFault {
     /// The stream ends within a frame.
     #[error("Cut")]
     Cut,
-    /// A length that no packet has: 0, or more than `MAX_PACKET`.
+    /// A length that no packet of the network has: 0, or more than a head and its transmission unit.
     #[error("Size")]
     Size,
     /// The stream failed.
@@ -38,18 +38,28 @@ pub enum FrameFault {
     Io,
 }
 
-/// Reads a frame: the length of a packet in two bytes, the low byte first, and the packet, of 1 byte to `MAX_PACKET`. Reads
-/// that are interrupted are tried again.
+/// Whether a packet of a network with this transmission unit may have so many bytes: 1 to a head and the unit, 68 or 132
+/// (DSP0236, section 8.3).
+fn is_size(unit: Unit, size: usize) -> bool
+    ensures yes { result ≡ true → IsSize unit size }
+    ensures room { result ≡ true → size ≤ MAX_PACKET }
+    ensures no { result ≡ false → IsNoSize unit size }
+{
+    size != 0 && size <= HEAD_SIZE + unit.bytes()
+}
+
+/// Reads a frame of a network with this transmission unit: the length of a packet in two bytes, the low byte first, and the
+/// packet, of 1 byte to a head and the unit. Reads that are interrupted are tried again.
 ///
 /// # Errors
 /// - `End` where the reader is at its end, and nothing is read;
 /// - `Cut` where it ends before the frame does, and all that it had is read;
-/// - `Size` for a length of 0 or more than `MAX_PACKET`, which alone is read;
+/// - `Size` for a length of 0 or more than a head and the unit, 68 or 132 bytes, which alone is read;
 /// - `Io` where the reader fails, after a part of a frame.
-pub fn read_frame<R: Read>(reader: &mut R) -> Result<RawPacket, FrameFault>
+pub fn read_frame<R: Read>(unit: Unit, reader: &mut R) -> Result<RawPacket, FrameFault>
     ensures ok { IfOk result (λ p. Consumes (R.remaining reader.old) (R.remaining reader.new) (frames_of (p.items ∷ []))) }
-    ensures size { IfOk result (λ p. 1 ≤ length p.items) }
-    ensures fault { IfErr result (λ e. ReadStops e (R.remaining reader.old) (R.remaining reader.new)) }
+    ensures size { IfOk result (λ p. IsSize unit (length p.items)) }
+    ensures fault { IfErr result (λ e. ReadStops unit e (R.remaining reader.old) (R.remaining reader.new)) }
 {
     let head = match read_up_to(reader, LENGTH_SIZE) {
         Ok(head) => head,
@@ -62,7 +72,7 @@ pub fn read_frame<R: Read>(reader: &mut R) -> Result<RawPacket, FrameFault>
         return Err(FrameFault::Cut);
     }
     let size = usize::from(LittleEndian::read_u16(head.as_slice()));
-    if size == 0 || MAX_PACKET < size {
+    if !is_size(unit, size) {
         return Err(FrameFault::Size);
     }
     let packet = match read_up_to(reader, size) {
@@ -87,17 +97,21 @@ fn frame(packet: &RawPacket) -> Frame
     frame
 }
 
-/// Writes the frame of a packet. Writes that are interrupted are tried again.
+/// Writes the frame of a packet to a network with this transmission unit. Writes that are interrupted are tried again.
 ///
 /// # Errors
-/// - `Size` for a packet without a byte, of which nothing is written;
+/// - `Size` for a packet without a byte, or of more than a head and the unit, of which nothing is written;
 /// - `Io` where the writer fails, or takes no more bytes: a beginning of the frame may be written.
-pub fn write_frame<W: Write>(writer: &mut W, packet: &RawPacket) -> Result<(), FrameFault>
+pub fn write_frame<W: Write>(
+    unit: Unit,
+    writer: &mut W,
+    packet: &RawPacket,
+) -> Result<(), FrameFault>
     ensures ok { OnOk result (Appends (W.contents writer.old) (W.contents writer.new) (frames_of (packet.now.items ∷ []))) }
-    ensures size { OnOk result (1 ≤ length packet.now.items) }
-    ensures fault { IfErr result (λ e. WriteStops e (W.contents writer.old) (W.contents writer.new) packet.now.items) }
+    ensures size { OnOk result (IsSize unit (length packet.now.items)) }
+    ensures fault { IfErr result (λ e. WriteStops unit e (W.contents writer.old) (W.contents writer.new) packet.now.items) }
 {
-    if packet.is_empty() {
+    if !is_size(unit, packet.len()) {
         return Err(FrameFault::Size);
     }
     let frame = frame(packet);

@@ -8,13 +8,14 @@ use crate::frame::{FrameFault, read_frame, write_frame};
 use crate::link::Link;
 use crate::tally::Tally;
 use fw_world::Side;
-use mctp_wire::RawPacket;
+use mctp_wire::{RawPacket, Unit};
 use std::io::{Read, Write};
 
-/// A link whose ends are those of a byte stream, as of a socket: the frames that are written at one are read at the other. It
-/// reads only where a frame that it wrote is still to come, so it never waits for nothing.
+/// A link of a network with a transmission unit, whose ends are those of a byte stream, as of a socket: the frames that are
+/// written at one are read at the other. It reads only where a frame that it wrote is still to come, so it never waits for nothing.
 #[derive(Drop)]
 pub struct StreamLink<S: Read + Write + Drop> {
+    unit: Unit,
     agent: S,
     device: S,
     /// Frames on the way to the agent.
@@ -25,8 +26,9 @@ pub struct StreamLink<S: Read + Write + Drop> {
 }
 
 impl<S: Read + Write + Drop> StreamLink<S> {
-    /// The link between these two ends, on which nothing was sent.
-    pub fn new(agent: S, device: S) -> StreamLink<S>
+    /// The link between these two ends, on which nothing was sent, in a network with this transmission unit.
+    pub fn new(unit: Unit, agent: S, device: S) -> StreamLink<S>
+        ensures unit { result.unit ≡ unit }
         ensures agent { result.agent ≡ agent }
         ensures device { result.device ≡ device }
         ensures up { result.up ≡ 0 }
@@ -37,6 +39,7 @@ impl<S: Read + Write + Drop> StreamLink<S> {
         ensures given { result.tally.given ≡ 0 }
     {
         StreamLink {
+            unit,
             agent,
             device,
             up: 0,
@@ -48,20 +51,21 @@ impl<S: Read + Write + Drop> StreamLink<S> {
     /// Writes the frame of a packet at an end; it is then on the way to the other. The stream of that other end stays as it is.
     fn write(&mut self, side: Side, packet: &RawPacket) -> Result<(), FrameFault>
         ensures tally { self.new.tally ≡ self.old.tally }
+        ensures unit { self.new.unit ≡ self.old.unit }
         ensures agent { side ≡ Side.Agent → OnOk result (Writes (S.contents self.old.agent) (S.contents self.new.agent) self.old.down self.new.down packet.now.items) }
         ensures device { side ≡ Side.Device → OnOk result (Writes (S.contents self.old.device) (S.contents self.new.device) self.old.up self.new.up packet.now.items) }
-        ensures agent_fault { side ≡ Side.Agent → IfErr result (λ e. (self.new.down ≡ self.old.down) × WriteStops e (S.contents self.old.agent) (S.contents self.new.agent) packet.now.items) }
-        ensures device_fault { side ≡ Side.Device → IfErr result (λ e. (self.new.up ≡ self.old.up) × WriteStops e (S.contents self.old.device) (S.contents self.new.device) packet.now.items) }
+        ensures agent_fault { side ≡ Side.Agent → IfErr result (λ e. (self.new.down ≡ self.old.down) × WriteStops self.old.unit e (S.contents self.old.agent) (S.contents self.new.agent) packet.now.items) }
+        ensures device_fault { side ≡ Side.Device → IfErr result (λ e. (self.new.up ≡ self.old.up) × WriteStops self.old.unit e (S.contents self.old.device) (S.contents self.new.device) packet.now.items) }
         ensures not_device { side ≡ Side.Agent → (self.new.device ≡ self.old.device) × (self.new.up ≡ self.old.up) }
         ensures not_agent { side ≡ Side.Device → (self.new.agent ≡ self.old.agent) × (self.new.down ≡ self.old.down) }
     {
         match side {
             Side::Agent => {
-                write_frame(&mut self.agent, packet)?;
+                write_frame(self.unit, &mut self.agent, packet)?;
                 self.down = self.down.saturating_add(1);
             }
             Side::Device => {
-                write_frame(&mut self.device, packet)?;
+                write_frame(self.unit, &mut self.device, packet)?;
                 self.up = self.up.saturating_add(1);
             }
         }
@@ -72,14 +76,15 @@ impl<S: Read + Write + Drop> StreamLink<S> {
     /// stays as it is. A frame that can't be read is on the way no more.
     fn read(&mut self, side: Side) -> Result<Option<RawPacket>, FrameFault>
         ensures tally { self.new.tally ≡ self.old.tally }
+        ensures unit { self.new.unit ≡ self.old.unit }
         ensures no_up { side ≡ Side.Agent → self.old.up ≡ 0 → (result ≡ Ok None) × (self.new ≡ self.old) }
         ensures no_down { side ≡ Side.Device → self.old.down ≡ 0 → (result ≡ Ok None) × (self.new ≡ self.old) }
         ensures agent { side ≡ Side.Agent → IfOk result (λ p. IfSome p (λ q. Reads (S.remaining self.old.agent) (S.remaining self.new.agent) self.old.up self.new.up q.items)) }
         ensures device { side ≡ Side.Device → IfOk result (λ p. IfSome p (λ q. Reads (S.remaining self.old.device) (S.remaining self.new.device) self.old.down self.new.down q.items)) }
         ensures some_up { side ≡ Side.Agent → self.old.up ≢ 0 → result ≢ Ok None }
         ensures some_down { side ≡ Side.Device → self.old.down ≢ 0 → result ≢ Ok None }
-        ensures agent_fault { side ≡ Side.Agent → IfErr result (λ e. (self.old.up ≡ self.new.up + 1) × ReadStops e (S.remaining self.old.agent) (S.remaining self.new.agent)) }
-        ensures device_fault { side ≡ Side.Device → IfErr result (λ e. (self.old.down ≡ self.new.down + 1) × ReadStops e (S.remaining self.old.device) (S.remaining self.new.device)) }
+        ensures agent_fault { side ≡ Side.Agent → IfErr result (λ e. (self.old.up ≡ self.new.up + 1) × ReadStops self.old.unit e (S.remaining self.old.agent) (S.remaining self.new.agent)) }
+        ensures device_fault { side ≡ Side.Device → IfErr result (λ e. (self.old.down ≡ self.new.down + 1) × ReadStops self.old.unit e (S.remaining self.old.device) (S.remaining self.new.device)) }
         ensures not_device { side ≡ Side.Agent → (self.new.device ≡ self.old.device) × (self.new.down ≡ self.old.down) }
         ensures not_agent { side ≡ Side.Device → (self.new.agent ≡ self.old.agent) × (self.new.up ≡ self.old.up) }
     {
@@ -89,14 +94,14 @@ impl<S: Read + Write + Drop> StreamLink<S> {
                     return Ok(None);
                 };
                 self.up = left;
-                Ok(Some(read_frame(&mut self.agent)?))
+                Ok(Some(read_frame(self.unit, &mut self.agent)?))
             }
             Side::Device => {
                 let Some(left) = self.down.checked_sub(1) else {
                     return Ok(None);
                 };
                 self.down = left;
-                Ok(Some(read_frame(&mut self.device)?))
+                Ok(Some(read_frame(self.unit, &mut self.device)?))
             }
         }
     }
@@ -108,10 +113,11 @@ impl<S: Read + Write + Drop> Link for StreamLink<S> {
     fn send(&mut self, side: Side, packet: &RawPacket) -> Result<(), FrameFault>
         ensures ok { OnOk result (Sends self.old.tally self.new.tally) }
         ensures err { OnErr result (Fails self.old.tally self.new.tally) }
+        ensures unit { self.new.unit ≡ self.old.unit }
         ensures agent { side ≡ Side.Agent → OnOk result (Writes (S.contents self.old.agent) (S.contents self.new.agent) self.old.down self.new.down packet.now.items) }
         ensures device { side ≡ Side.Device → OnOk result (Writes (S.contents self.old.device) (S.contents self.new.device) self.old.up self.new.up packet.now.items) }
-        ensures agent_fault { side ≡ Side.Agent → IfErr result (λ e. (self.new.down ≡ self.old.down) × WriteStops e (S.contents self.old.agent) (S.contents self.new.agent) packet.now.items) }
-        ensures device_fault { side ≡ Side.Device → IfErr result (λ e. (self.new.up ≡ self.old.up) × WriteStops e (S.contents self.old.device) (S.contents self.new.device) packet.now.items) }
+        ensures agent_fault { side ≡ Side.Agent → IfErr result (λ e. (self.new.down ≡ self.old.down) × WriteStops self.old.unit e (S.contents self.old.agent) (S.contents self.new.agent) packet.now.items) }
+        ensures device_fault { side ≡ Side.Device → IfErr result (λ e. (self.new.up ≡ self.old.up) × WriteStops self.old.unit e (S.contents self.old.device) (S.contents self.new.device) packet.now.items) }
         ensures not_device { side ≡ Side.Agent → (self.new.device ≡ self.old.device) × (self.new.up ≡ self.old.up) }
         ensures not_agent { side ≡ Side.Device → (self.new.agent ≡ self.old.agent) × (self.new.down ≡ self.old.down) }
     {
@@ -130,14 +136,15 @@ impl<S: Read + Write + Drop> Link for StreamLink<S> {
     fn receive(&mut self, side: Side) -> Result<Option<RawPacket>, FrameFault>
         ensures ok { IfOk result (λ p. Asks (is_some p) self.old.tally self.new.tally) }
         ensures err { OnErr result (Fails self.old.tally self.new.tally) }
+        ensures unit { self.new.unit ≡ self.old.unit }
         ensures no_up { side ≡ Side.Agent → self.old.up ≡ 0 → (result ≡ Ok None) × (self.new.agent ≡ self.old.agent) × (self.new.up ≡ self.old.up) }
         ensures no_down { side ≡ Side.Device → self.old.down ≡ 0 → (result ≡ Ok None) × (self.new.device ≡ self.old.device) × (self.new.down ≡ self.old.down) }
         ensures agent { side ≡ Side.Agent → IfOk result (λ p. IfSome p (λ q. Reads (S.remaining self.old.agent) (S.remaining self.new.agent) self.old.up self.new.up q.items)) }
         ensures device { side ≡ Side.Device → IfOk result (λ p. IfSome p (λ q. Reads (S.remaining self.old.device) (S.remaining self.new.device) self.old.down self.new.down q.items)) }
         ensures some_up { side ≡ Side.Agent → self.old.up ≢ 0 → result ≢ Ok None }
         ensures some_down { side ≡ Side.Device → self.old.down ≢ 0 → result ≢ Ok None }
-        ensures agent_fault { side ≡ Side.Agent → IfErr result (λ e. (self.old.up ≡ self.new.up + 1) × ReadStops e (S.remaining self.old.agent) (S.remaining self.new.agent)) }
-        ensures device_fault { side ≡ Side.Device → IfErr result (λ e. (self.old.down ≡ self.new.down + 1) × ReadStops e (S.remaining self.old.device) (S.remaining self.new.device)) }
+        ensures agent_fault { side ≡ Side.Agent → IfErr result (λ e. (self.old.up ≡ self.new.up + 1) × ReadStops self.old.unit e (S.remaining self.old.agent) (S.remaining self.new.agent)) }
+        ensures device_fault { side ≡ Side.Device → IfErr result (λ e. (self.old.down ≡ self.new.down + 1) × ReadStops self.old.unit e (S.remaining self.old.device) (S.remaining self.new.device)) }
         ensures not_device { side ≡ Side.Agent → (self.new.device ≡ self.old.device) × (self.new.down ≡ self.old.down) }
         ensures not_agent { side ≡ Side.Device → (self.new.agent ≡ self.old.agent) × (self.new.up ≡ self.old.up) }
     {

@@ -1,4 +1,5 @@
 -- The value of what an update would come to nests seven deep.
+use Rattle.mctp_wire.specs.declared.unit.Unit.TheVariants.{U64}
 use Rattle.std.proofs.Common.{◌≤◌, ◌+◌, ℕ, codes, List, Option, Some, None, Result, Ok, Err, map, arith}
 use Rattle.json.specs.Json.{Json, Items, max_depth, no_items, null}
 use Rattle.json.specs.Tree.{depth, items_depth}
@@ -61,7 +62,7 @@ found_shallow eid p v (Some chosen) = planned_shallow eid chosen p v.rows (plan_
 
 configured_shallow : (p : PackageText) (x : DeviceConfigOf) → depth (configured_value p x) ≤ 4
 configured_shallow p x =
-    found_shallow x.endpoint.eid p (device_made x).device (record_number p (map told_descriptor (device_made x).device.descriptors))
+    found_shallow x.endpoint.eid p (device_made U64 x).device (record_number p (map told_descriptor (device_made U64 x).device.descriptors))
 
 pub plan_shallow : (number : ℕ) (p : PackageText) (devices : List DeviceConfigOf) → depth (plan_value number p devices) ≤ max_depth
 plan_shallow number p devices =

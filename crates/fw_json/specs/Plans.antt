@@ -1,6 +1,7 @@
 -- The value that `fwupd plan --json` writes of what an update would come to: for each device the record that is for it, or why none
 -- is, and what becomes of each component. What a key names is what the text of `fwupd plan` has in its place; keys are only ever
 -- added.
+use Rattle.mctp_wire.specs.declared.unit.Unit.TheVariants.{U64}
 use Rattle.std.specs.Prelude.{ℕ, ◌+◌, List, [], ◌∷◌, Option, None, Some, Result, Ok, Err, codes, length, map}
 use Rattle.json.specs.Json.{Json, array, null, string, Items, no_items}
 use Rattle.fd_core.specs.Images.{RowOf, row_of}
@@ -60,10 +61,10 @@ abbrev pub found_value : (eid : ℕ) → PackageText → DeviceState → Option 
 found_value eid p v None = unmet_value eid p (map told_descriptor v.descriptors)
 found_value eid p v (Some chosen) = planned_value eid chosen p v.rows (plan_of p chosen)
 
--- a device of a configuration
+-- a device of a configuration: its descriptors and images alone, so that any unit does
 abbrev pub configured_value : PackageText → DeviceConfigOf → Json
 configured_value p x =
-    found_value x.endpoint.eid p (device_made x).device (record_number p (map told_descriptor (device_made x).device.descriptors))
+    found_value x.endpoint.eid p (device_made U64 x).device (record_number p (map told_descriptor (device_made U64 x).device.descriptors))
 
 -- what is written of a configuration's devices, for the package of this number
 abbrev pub plan_value : (number : ℕ) → PackageText → List DeviceConfigOf → Json

@@ -12,11 +12,12 @@ use Rattle.fw_message.specs.Pairs.{PairRun, StepOf, message_along}
 abbrev pub IsUnapplied : RowOf → Type 0
 IsUnapplied row = row.applied ≡ None
 
--- how a pair begins: the device is idle and has nothing applied, its session is new, nothing was asked and nothing happened
+-- how a pair begins: the device is idle and has nothing applied, its session is new and has the device's unit, nothing was
+-- asked and nothing happened
 pub record IsOpening (r : PairRun) : Type 0 where
   pub idle : r.pair.device.phase ≡ Phase.Idle
   pub unapplied : All IsUnapplied r.pair.device.rows
-  pub session : r.pair.session ≡ new_session.session
+  pub session : r.pair.session ≡ (new_session r.pair.device.unit).session
   pub down : r.pair.down ≡ None
   pub up : r.pair.up ≡ None
   pub entries : r.entries ≡ []

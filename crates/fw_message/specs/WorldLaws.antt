@@ -25,12 +25,12 @@ pub record IsOpeningWorld (w : WorldOf) : Type 0 where
   pub nodes : All IsOpeningNode w.nodes
   pub history : w.history ≡ []
 
--- a device that starts now, with a new session and nothing asked
+-- a device that starts now, with a new session of its unit and nothing asked
 abbrev pub new_node : ℕ → DeviceState → NodeOf
 new_node eid device =
     record {
       eid = eid;
-      pair = record { device = device_restart device; session = new_session.session; down = None; up = None };
+      pair = record { device = device_restart device; session = (new_session device.unit).session; down = None; up = None };
     }
 
 -- each device that was there is there, and its history is safe, and tied with the images that ran on it first

@@ -55,7 +55,7 @@ impl<'a, B: Bank> Model for Pair<'a, B> {
 }
 
 impl<'a, B: Bank> Pair<'a, B> {
-    /// A device that starts now, and a new session.
+    /// A device that starts now, and a new session of its transmission unit.
     #[tactic(auto, using(fd_core::proofs::Components::restart_components))]
     pub fn new(alloc: Global, eid: u8, device: Device<B>) -> Pair<'a, B>
         requires { HasComponents device.device }
@@ -63,11 +63,12 @@ impl<'a, B: Bank> Pair<'a, B> {
         ensures faults { result.faults ≡ device.faults }
     {
         let mut device = device;
+        let unit = device.unit();
         device.restart();
         Pair {
             eid,
             device,
-            session: Session::new(alloc),
+            session: Session::new(alloc, unit),
             down: None,
             up: None,
         }

@@ -123,10 +123,10 @@ ticks_halves packages now deaf d l ps = elim (cases_lt 1 deaf) [
 ]
 
 pub ticked_sent : (packages : List PackageText) (deaf : ℕ) (p : Half TimedOf) → deaf ≤ 1
-    → all_packets (half_ticks (session_core packages) true (half_in deaf p)).sent ≡ again_packets (half_in deaf p) ++ ended_packets packages (grown packages (half_in deaf p))
+    → all_packets p.ends.asking.unit (half_ticks (session_core packages) true (half_in deaf p)).sent ≡ again_packets (half_in deaf p) ++ ended_packets packages (grown packages (half_in deaf p))
 ticked_sent packages deaf p few =
-    ap (λ t. all_packets t.sent) (hearing_tick (session_core packages) (half_in deaf p) few few)
-    ∙ packets_behind (sent_by (caller_tick p.ends.asking.caller).1) (half_waits (session_core packages) (half_grows (session_core packages) (half_in deaf p))).sent
+    ap (λ t. all_packets p.ends.asking.unit t.sent) (hearing_tick (session_core packages) (half_in deaf p) few few)
+    ∙ packets_behind p.ends.asking.unit (sent_by (caller_tick p.ends.asking.caller).1) (half_waits (session_core packages) (half_grows (session_core packages) (half_in deaf p))).sent
 
 -- what is sent doesn't depend on how long the agent was deaf
 pub addressed_any : (packages : List PackageText) (deaf : ℕ) (ps : List (Half TimedOf)) → deaf ≤ 1 → AllByRecursion (IsAddressed packages) (map (half_in 0) ps)

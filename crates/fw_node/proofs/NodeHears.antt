@@ -10,6 +10,7 @@ use Rattle.pldm_exch.specs.Ends.{AnsweringOf, taker_of}
 use Rattle.pldm_exch.specs.Sides.{AskerRow, TakerRow, answering_row, asking_after, asking_row, taker_packet, taker_row}
 use Rattle.fw_node.specs.BothEnds.{EndsOf}
 use Rattle.fw_node.specs.Halves.{CoreOf, HalfOf, IncomingOf, answering_after, half_brings, half_hears, half_hears_by, incoming, read_by, takes_if, takes_read}
+use Rattle.mctp_wire.specs.declared.unit.Unit.{«Unit»}
 use Rattle.fw_node.specs.Nodes.{half_of}
 
 -- the ends after a packet of these rows
@@ -37,29 +38,30 @@ rows_bring core works deaf c e (AskerRow.Ignores replies) (TakerRow.TakesUp requ
 rows_bring core works deaf c e (AskerRow.Ignores replies) (TakerRow.Strays requests m) = refl
 
 -- both ends have the same endpoints
-taker_is : (own peer : ℕ) (t : AnsweringOf) (bytes : List ℕ) → t.own ≡ own → t.peer ≡ peer → taker_row own peer (taker_of 0 t) bytes ≡ answering_row t bytes
-taker_is own peer t bytes o p =
-    sym (ap (λ n. taker_packet (taker_of 0 t) (packet_for n t.peer true bytes)) o ∙ ap (λ n. taker_packet (taker_of 0 t) (packet_for own n true bytes)) p)
+taker_is : (u : «Unit») (own peer : ℕ) (t : AnsweringOf) (bytes : List ℕ) → t.unit ≡ u → t.own ≡ own → t.peer ≡ peer → taker_row u own peer (taker_of 0 t) bytes ≡ answering_row t bytes
+taker_is u own peer t bytes v o p =
+    sym (ap (λ n. taker_packet n (taker_of 0 t) (packet_for n t.own t.peer true bytes)) v ∙ ap (λ n. taker_packet u (taker_of 0 t) (packet_for u n t.peer true bytes)) o
+    ∙ ap (λ n. taker_packet u (taker_of 0 t) (packet_for u own n true bytes)) p)
 
 -- a half that hears
-pub hearing_brings : {C : Type 0} (core : CoreOf C) (works : Bool) (c : C) (e : EndsOf) (bytes : List ℕ) → e.answering.own ≡ e.asking.own → e.answering.peer ≡ e.asking.peer
+pub hearing_brings : {C : Type 0} (core : CoreOf C) (works : Bool) (c : C) (e : EndsOf) (bytes : List ℕ) → e.answering.unit ≡ e.asking.unit → e.answering.own ≡ e.asking.own → e.answering.peer ≡ e.asking.peer
     → half_hears core works (half_of 0 c e) bytes
     ≡ half_brings core works (half_of 0 c (ends_after e (asking_row e.asking bytes) (answering_row e.answering bytes))) (incoming (asking_row e.asking bytes) (answering_row e.answering bytes))
-hearing_brings core works c e bytes own peer =
-    ap (half_hears_by core works (half_of 0 c e) (asking_row e.asking bytes)) (taker_is e.asking.own e.asking.peer e.answering bytes own peer)
+hearing_brings core works c e bytes unit own peer =
+    ap (half_hears_by core works (half_of 0 c e) (asking_row e.asking bytes)) (taker_is e.asking.unit e.asking.own e.asking.peer e.answering bytes unit own peer)
     ∙ rows_bring core works 0 c e (asking_row e.asking bytes) (answering_row e.answering bytes)
 
 -- the same, by what its ends say
 pub hears_brings : {C : Type 0} (core : CoreOf C) (works : Bool) (c : C) (e new : EndsOf) (bytes : List ℕ) (i : IncomingOf)
-    → e.answering.own ≡ e.asking.own → e.answering.peer ≡ e.asking.peer
+    → e.answering.unit ≡ e.asking.unit → e.answering.own ≡ e.asking.own → e.answering.peer ≡ e.asking.peer
     → i ≡ incoming (asking_row e.asking bytes) (answering_row e.answering bytes)
     → new.asking ≡ asking_after e.asking (asking_row e.asking bytes)
     → new.answering ≡ answering_after (asking_row e.asking bytes) e.answering (answering_row e.answering bytes)
     → half_hears core works (half_of 0 c e) bytes ≡ half_brings core works (half_of 0 c new) i
-hears_brings core works c e new bytes i own peer brings asking answering =
+hears_brings core works c e new bytes i unit own peer brings asking answering =
     let arow = asking_row e.asking bytes in
     let trow = answering_row e.answering bytes in
-    hearing_brings core works c e bytes own peer
+    hearing_brings core works c e bytes unit own peer
     ∙ ap (λ x. half_brings core works (half_of 0 c (record { asking = x; answering = answering_after arow e.answering trow })) (incoming arow trow)) (sym asking)
     ∙ ap (λ y. half_brings core works (half_of 0 c (record { asking = new.asking; answering = y })) (incoming arow trow)) (sym answering)
     ∙ ap (half_brings core works (half_of 0 c new)) (sym brings)

@@ -10,6 +10,7 @@ use Rattle.pldm_exch.specs.declared.caller.CallTick.TheVariants as ticks
 use Rattle.fwup_wire.specs.Values.{CommandOf}
 use Rattle.pldm_exch.specs.Sides.{asker_called}
 use Rattle.fw_node.specs.Halves.{CoreOf, HalfOf, Ticked, aged, begins_if, begins_wish, called, half_grows, half_ticks, half_waits, idled, last_part, silenced, unwished_abandoned, with_caller}
+use Rattle.mctp_wire.specs.declared.unit.Unit.{«Unit»}
 use Rattle.fw_node.specs.Packets.{all_packets, packets_of, sent_by}
 
 -- what was sent before stands before what is sent at last
@@ -39,7 +40,7 @@ hearing_tick core h ask take =
     rw (le-leb h.asker.deaf 1 ask, le-leb h.taker.deaf 1 take) (by_call core h (caller_tick h.asker.caller).1)
     ∙ last_behind core (idled core (half_grows core h)) (sent_by (caller_tick h.asker.caller).1)
 
-pub packets_behind : (ms ns : List MessageOf) → all_packets (ms ++ ns) ≡ all_packets ms ++ all_packets ns
-packets_behind ms ns = flat_map-append packets_of ms ns
+pub packets_behind : (u : «Unit») (ms ns : List MessageOf) → all_packets u (ms ++ ns) ≡ all_packets u ms ++ all_packets u ns
+packets_behind u ms ns = flat_map-append (packets_of u) ms ns
 
 pub ruleset node_ticks = (hearing_tick, packets_behind)

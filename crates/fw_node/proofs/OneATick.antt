@@ -49,12 +49,12 @@ fed_is a replies (outcomes.Whole m) h = learnt_is a replies (answer_heard a.call
 fed_is a replies outcomes.Open h = h
 fed_is a replies (outcomes.Dropped cause) h = h
 
-packet_is : {peer : ℕ} (a : AskingOf) (p : Option PacketOf) → IsAsking peer a.caller → IsAsking peer (asking_after a (asker_packet (asker_of 0 a) p)).caller
+packet_is : {peer : ℕ} (a : AskingOf) (p : Option PacketOf) → IsAsking peer a.caller → IsAsking peer (asking_after a (asker_packet a.unit (asker_of 0 a) p)).caller
 packet_is a None h = h
-packet_is a (Some p) h = fed_is a (held_with a.replies p) (fed_at a.replies p) h
+packet_is a (Some p) h = fed_is a (held_with a.unit a.replies p) (fed_at a.unit a.replies p) h
 
 pub hears_is : {peer : ℕ} (a : AskingOf) (bytes : List ℕ) → IsAsking peer a.caller → IsAsking peer (asking_after a (asking_row a bytes)).caller
-hears_is a bytes h = packet_is a (packet_for a.own a.peer false bytes) h
+hears_is a bytes h = packet_is a (packet_for a.unit a.own a.peer false bytes) h
 
 kept_is : {peer : ℕ} (b : Bool) (c : CallerState) → IsAsking peer c → IsAsking peer (kept_if b c)
 kept_is true c h = h

@@ -22,8 +22,8 @@ pub keeps_else : (asker : AskerRow) (t : AnsweringOf) (taker : TakerRow) → Non
 keeps_else (AskerRow.Ignores replies) t taker e = refl
 keeps_else (AskerRow.Learns replies caller h) t taker e = absurd (cc)
 
-pub asking_stays : (a : AskingOf) (row : AskerRow) → ((asking_after a row).own ≡ a.own) × ((asking_after a row).peer ≡ a.peer)
-asking_stays a (AskerRow.Ignores replies) = (refl, refl)
-asking_stays a (AskerRow.Learns replies caller heard) = (refl, refl)
+pub asking_stays : (a : AskingOf) (row : AskerRow) → ((asking_after a row).unit ≡ a.unit) × ((asking_after a row).own ≡ a.own) × ((asking_after a row).peer ≡ a.peer)
+asking_stays a (AskerRow.Ignores replies) = (refl, refl, refl)
+asking_stays a (AskerRow.Learns replies caller heard) = (refl, refl, refl)
 
 pub ruleset rows = (asking_stays, brings_learnt, keeps_learnt, brings_else, keeps_else)

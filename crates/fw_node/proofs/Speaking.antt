@@ -4,11 +4,10 @@ use Rattle.std.specs.List.{AllByRecursion}
 use Rattle.std.specs.Option.{option_map}
 use Rattle.std.proofs.lemmas.Bool.{ne_eqb}
 use Rattle.std.proofs.lemmas.List.{append-nil, drop_all, map-append, take_all, take_more}
-use Rattle.mctp_wire.specs.Packet as wire
 use Rattle.fw_package.specs.Package.{PackageText}
 use Rattle.sel_core.specs.Log.{LogOf}
 use Rattle.ua_core.specs.Session.{TimedOf}
-use Rattle.fw_node.specs.Agents.{HalfMaySpeak, SpeaksHearing, half_at, half_for, hearer, place_heard, place_of}
+use Rattle.fw_node.specs.Agents.{HalfMaySpeak, SpeaksHearing, any_packet, half_at, half_for, hearer, place_heard, place_of}
 use Rattle.fw_node.specs.AgentViews.{agent_of, half_in, half_restarted}
 use Rattle.fw_node.specs.Cores.{session_core}
 use Rattle.fw_node.specs.Halves.{HalfOf, half_hears}
@@ -28,7 +27,7 @@ all_at deaf P ps None all = tt
 all_at deaf P ps (Some i) all = all_there deaf P ps i all
 
 -- a deaf half makes nothing of a packet
-deaf_told : (packages : List PackageText) (deaf : ℕ) (bytes : List ℕ) (p : Half TimedOf) → 0 < deaf → IsTold (half_hears (session_core packages) true (half_in deaf p) bytes)
+deaf_told : (packages : List PackageText) (deaf : ℕ) (bytes : List ℕ) (p : Half TimedOf) → 0 < deaf → IsTold p.core.session.unit (half_hears (session_core packages) true (half_in deaf p) bytes)
 deaf_told packages deaf bytes p more = rw (ne_eqb deaf 0 (λ e. absurd (omega (arith, e, more)))) tt
 
 deaf_speaks : (packages : List PackageText) (deaf : ℕ) (d : Identity) (l : LogOf) (ps : List (Half TimedOf)) (bytes : List ℕ) (p : Half TimedOf) → 0 < deaf
@@ -36,18 +35,18 @@ deaf_speaks : (packages : List PackageText) (deaf : ℕ) (d : Identity) (l : Log
 deaf_speaks packages deaf d l ps bytes p more = rw (ne_eqb deaf 0 (λ e. absurd (omega (arith, e, more)))) (inl refl)
 
 pub told_deaf : (packages : List PackageText) (deaf : ℕ) (d : Identity) (l : LogOf) (ps : List (Half TimedOf)) (bytes : List ℕ) → 0 < deaf
-    → IfSome (hearer (agent_of deaf d l ps) bytes) (λ h. IsTold (half_hears (session_core packages) true h bytes))
+    → IfSome (hearer (agent_of deaf d l ps) bytes) (λ h. IsTold h.core.session.unit (half_hears (session_core packages) true h bytes))
 told_deaf packages deaf d l ps bytes more =
-    all_at deaf (λ h. IsTold (half_hears (session_core packages) true h bytes)) ps (place_heard (map (half_in deaf) ps) (wire.packet_of bytes)) (λ p. deaf_told packages deaf bytes p more)
+    all_at deaf (λ h. IsTold h.core.session.unit (half_hears (session_core packages) true h bytes)) ps (place_heard (map (half_in deaf) ps) (any_packet bytes)) (λ p. deaf_told packages deaf bytes p more)
 
 pub speaks_deaf : (packages : List PackageText) (deaf : ℕ) (d : Identity) (l : LogOf) (ps : List (Half TimedOf)) (bytes : List ℕ) → 0 < deaf
     → IfSome (hearer (agent_of deaf d l ps) bytes) (SpeaksHearing packages (agent_of deaf d l ps) bytes)
 speaks_deaf packages deaf d l ps bytes more =
-    all_at deaf (SpeaksHearing packages (agent_of deaf d l ps) bytes) ps (place_heard (map (half_in deaf) ps) (wire.packet_of bytes)) (λ p. deaf_speaks packages deaf d l ps bytes p more)
+    all_at deaf (SpeaksHearing packages (agent_of deaf d l ps) bytes) ps (place_heard (map (half_in deaf) ps) (any_packet bytes)) (λ p. deaf_speaks packages deaf d l ps bytes p more)
 
 -- the half that hears, by its place
 pub hearer_there : (d : Identity) (l : LogOf) (ps : List (Half TimedOf)) (bytes : List ℕ) (o : Option ℕ) (P : HalfOf TimedOf → Type 0)
-    → o ≡ place_heard (map (half_in 0) ps) (wire.packet_of bytes) → IfSome (half_at (map (half_in 0) ps) o) P → IfSome (hearer (agent_of 0 d l ps) bytes) P
+    → o ≡ place_heard (map (half_in 0) ps) (any_packet bytes) → IfSome (half_at (map (half_in 0) ps) o) P → IfSome (hearer (agent_of 0 d l ps) bytes) P
 hearer_there d l ps bytes o P is h = subst (λ x. IfSome (half_at (map (half_in 0) ps) x) P) is h
 
 -- the half for a device, by its part

@@ -40,7 +40,7 @@ half_recast packages p s = half_settled packages (record p { core = s })
 abbrev pub half_restarted : Half TimedOf → Half TimedOf
 half_restarted p =
     record {
-      ends = ends_new p.ends.asking.own p.ends.asking.peer;
+      ends = ends_new p.ends.asking.unit p.ends.asking.own p.ends.asking.peer;
       core = record { session = agent_restart p.core.session; idle = 0 };
     }
 

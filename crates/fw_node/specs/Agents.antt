@@ -3,6 +3,8 @@ use Rattle.std.specs.Prelude.{ℕ, ◌≡◌, ◌-◌, ◌+◌, ◌==◌, nat_le
 use Rattle.std.specs.List.{AllByRecursion}
 use Rattle.mctp_ctl.specs.declared.answers.Endpoint.{Endpoint}
 use Rattle.mctp_reasm.specs.Pieces.{MessageOf}
+use Rattle.mctp_wire.specs.declared.unit.Unit.{«Unit»}
+use Rattle.mctp_wire.specs.declared.unit.Unit.TheVariants.{U128}
 use Rattle.mctp_wire.specs.Packet as wire
 use Rattle.mctp_wire.specs.declared.fault.WireFault.{WireFault}
 use Rattle.mctp_wire.specs.declared.layout.Head.{Head}
@@ -33,13 +35,13 @@ pub record IsDeafFor (deaf : ℕ) (h : HalfOf TimedOf) : Type 0 where
   pub asker : h.asker.deaf ≡ deaf
   pub taker : h.taker.deaf ≡ deaf
 
--- an agent as it is made, for the devices with these endpoint identifiers
-abbrev pub new_half : (own device : ℕ) → HalfOf TimedOf
-new_half own device = half_of 0 new_session (ends_new own device)
+-- an agent as it is made, for the devices with these endpoint identifiers, in a network with this transmission unit
+abbrev pub new_half : «Unit» → (own device : ℕ) → HalfOf TimedOf
+new_half u own device = half_of 0 (new_session u) (ends_new u own device)
 
-abbrev pub new_agent : Endpoint → List ℕ → AgentOf
-new_agent endpoint devices =
-    record { endpoint = endpoint; tid = 0; deaf = 0; halves = map (new_half endpoint.eid) devices; log = new_log }
+abbrev pub new_agent : «Unit» → Endpoint → List ℕ → AgentOf
+new_agent u endpoint devices =
+    record { endpoint = endpoint; tid = 0; deaf = 0; halves = map (new_half u endpoint.eid) devices; log = new_log }
 
 -- the place of a device among the agent's halves, counted from a number on
 abbrev pub place_from : ℕ → List (HalfOf TimedOf) → ℕ → Option ℕ
@@ -63,17 +65,17 @@ abbrev pub half_becomes : AgentOf → (now place : ℕ) → (before after : Half
 half_becomes n now place before after =
     record n { halves = slice_set n.halves place after; log = noted n.log now before.peer before.core after.core }
 
--- an agent after a call, and the messages that it sends
+-- an agent after a call, and the packets that it sends
 pub record AgentHeard : Type 0 where
   pub agent : AgentOf
-  pub sent : List MessageOf
+  pub sent : List (List ℕ)
 
 abbrev pub agent_unmoved : AgentOf → AgentHeard
 agent_unmoved n = record { agent = n; sent = [] }
 
 abbrev pub half_heard : AgentOf → (now place : ℕ) → HalfOf TimedOf → NodeHeard TimedOf → AgentHeard
 half_heard n now place h heard =
-    record { agent = record (half_becomes n now place h heard.half) { tid = heard.tid }; sent = heard.sent }
+    record { agent = record (half_becomes n now place h heard.half) { tid = heard.tid }; sent = all_packets h.unit heard.sent }
 
 abbrev pub hears_at : List PackageText → AgentOf → List ℕ → (now : ℕ) → Option ℕ → Option (HalfOf TimedOf) → AgentHeard
 hears_at packages n bytes now (Some place) (Some h) =
@@ -92,6 +94,10 @@ SpeaksHearing packages n bytes h =
     h.core
     (finished roles.Agent n.endpoint n.tid (half_hears (session_core packages) true h bytes)).half.core
 
+-- a packet of either transmission unit: who sent it can be read of both, and the half for that device drops what is too long
+abbrev pub any_packet : List ℕ → Result (Head × List ℕ) WireFault
+any_packet bytes = wire.packet_of U128 bytes
+
 -- the place of the half that hears a packet: that of the device that sent it
 abbrev pub place_heard : List (HalfOf TimedOf) → Result (Head × List ℕ) WireFault → Option ℕ
 place_heard hs (Ok p) = place_of hs p.0.source
@@ -99,13 +105,13 @@ place_heard hs (Err fault) = None
 
 -- that half
 abbrev pub hearer : AgentOf → List ℕ → Option (HalfOf TimedOf)
-hearer n bytes = half_at n.halves (place_heard n.halves (wire.packet_of bytes))
+hearer n bytes = half_at n.halves (place_heard n.halves (any_packet bytes))
 
 -- What a packet is for the agent: the half of the device that sent it hears it; a deaf agent drops every packet.
 abbrev pub agent_hears : List PackageText → AgentOf → List ℕ → (now : ℕ) → AgentHeard
 agent_hears packages n bytes now =
     if n.deaf == 0 then
-    hears_at packages n bytes now (place_heard n.halves (wire.packet_of bytes)) (half_at n.halves (place_heard n.halves (wire.packet_of bytes)))
+    hears_at packages n bytes now (place_heard n.halves (any_packet bytes)) (half_at n.halves (place_heard n.halves (any_packet bytes)))
     else agent_unmoved n
 
 -- The parts of a tick of one of its halves, each in the general words of a half.
@@ -123,10 +129,10 @@ ended packages h = (half_waits (session_core packages) h).half
 
 -- the packets of each part
 abbrev pub again_packets : HalfOf TimedOf → List (List ℕ)
-again_packets h = all_packets (sent_by (caller_tick h.asker.caller).1)
+again_packets h = all_packets h.unit (sent_by (caller_tick h.asker.caller).1)
 
 abbrev pub ended_packets : List PackageText → HalfOf TimedOf → List (List ℕ)
-ended_packets packages h = all_packets (half_waits (session_core packages) h).sent
+ended_packets packages h = all_packets h.unit (half_waits (session_core packages) h).sent
 
 -- a packet is for this endpoint
 abbrev pub IsFor : ℕ → List ℕ → Type 0
@@ -134,7 +140,7 @@ IsFor eid packet = slice_get packet 1 ≡ Some eid
 
 -- what a half sends in a tick: the packets of both parts, which go to its peer
 pub record IsAddressed (packages : List PackageText) (h : HalfOf TimedOf) : Type 0 where
-  pub sent : all_packets (half_ticks (session_core packages) true h).sent ≡ again_packets h ++ ended_packets packages (grown packages h)
+  pub sent : all_packets h.unit (half_ticks (session_core packages) true h).sent ≡ again_packets h ++ ended_packets packages (grown packages h)
   pub again : AllByRecursion (IsFor h.peer) (again_packets h)
   pub begun : AllByRecursion (IsFor h.peer) (ended_packets packages (grown packages h))
 

@@ -1,4 +1,5 @@
 -- Both ends of a node for one peer, as the code has them.
+use Rattle.mctp_wire.specs.declared.unit.Unit.{«Unit»}
 use Rattle.pldm_exch.specs.Ends.{AnsweringOf, AskingOf, answering_new, answering_older, asking_new, asking_older}
 use Rattle.pldm_exch.specs.Caller.{CallerState, last_tag}
 use Rattle.std.specs.Prelude.{ℕ, ◌≡◌, IfSome, false, length}
@@ -9,8 +10,8 @@ pub record EndsOf : Type 0 where
   pub answering : AnsweringOf
 
 -- before the first request and the first answer
-abbrev pub ends_new : (own peer : ℕ) → EndsOf
-ends_new own peer = record { asking = asking_new own peer; answering = answering_new own peer }
+abbrev pub ends_new : «Unit» → (own peer : ℕ) → EndsOf
+ends_new u own peer = record { asking = asking_new u own peer; answering = answering_new u own peer }
 
 -- after a tick
 abbrev pub ends_older : EndsOf → EndsOf

@@ -1,5 +1,6 @@
 -- The two kinds of core: the agent's session with a device, which is lent the package of its number, and a device.
 use Rattle.std.specs.Prelude.{ℕ, not, List, Option, Some, None, Result, Ok, Err}
+use Rattle.mctp_wire.specs.declared.unit.Unit.TheVariants.{U64}
 use Rattle.fwup_wire.specs.Commands.{is_asked_of_agent}
 use Rattle.fwup_wire.specs.Values.{AnswerOf}
 use Rattle.fwup_wire.specs.declared.answer.Malformed.{Malformed}
@@ -30,9 +31,10 @@ abbrev pub answer_or : Result AnswerOf Malformed → Option AnswerOf
 answer_or (Ok a) = Some a
 answer_or (Err e) = None
 
--- A device: it answers what isn't asked of an agent, and a request that is given up changes nothing.
+-- A device: its answers fit each transmission unit, it answers what isn't asked of an agent, and a request that is given up changes nothing.
 abbrev pub device_core : CoreOf TimedDevice
 device_core = record {
+  unit = λ d. U64;
   wish = λ d. device_wish d.device;
   serves = λ command. not (is_asked_of_agent command);
   take = λ d c quiet works. record {
@@ -55,6 +57,7 @@ package_of packages s = package_at packages s.number
 -- A session: it answers what is asked of an agent, whether it is quiet says nothing to it, and it has no bank.
 abbrev pub session_core : List PackageText → CoreOf TimedOf
 session_core packages = record {
+  unit = λ s. s.session.unit;
   wish = λ s. agent_wish (package_of packages s.session) s.session;
   serves = is_asked_of_agent;
   take = λ s c quiet works. record {

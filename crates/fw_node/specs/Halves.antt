@@ -1,6 +1,7 @@
 -- One half of a pair: what a node has for one peer. That is a core, which is the agent's session with a device or the device
 -- itself, what it asks of the peer, and what it answers the peer. What a half does is the same for both kinds of core.
 use Rattle.std.specs.Prelude.{ℕ, ◌==◌, Bool, true, false, if◌then◌else◌, List, [], ◌∷◌, ◌++◌, drop, map, Option, Some, None, Result, Ok, Err}
+use Rattle.mctp_wire.specs.declared.unit.Unit.{«Unit»}
 use Rattle.mctp_reasm.specs.Held.{Held, held_tick}
 use Rattle.mctp_reasm.specs.Pieces.{MessageOf}
 use Rattle.pldm_base.specs.Codes.{unsupported_command}
@@ -23,10 +24,11 @@ pub record TakenBy (C : Type 0) : Type 0 where
   pub core : C
   pub answer : AnswerOf
 
--- What a core does: the command that it wishes to ask; whether commands of a code are its to answer; what it makes of one,
+-- What a core does: the transmission unit that its answers fit; the command that it wishes to ask; whether commands of a code are its to answer; what it makes of one,
 -- where a device is told whether it is quiet, and `works` says whether the one call of its bank succeeds; what it learns
 -- from an answer, or from a malformed one; that its request was given up; its idle tick; and a restart.
 pub record CoreOf (C : Type 0) : Type 0 where
+  pub unit : C → «Unit»
   pub wish : C → Option CommandOf
   pub serves : ℕ → Bool
   pub take : C → CommandOf → (quiet works : Bool) → TakenBy C
@@ -35,8 +37,9 @@ pub record CoreOf (C : Type 0) : Type 0 where
   pub ticked : C → C
   pub restarted : C → C
 
--- a half: the node's own endpoint and the peer's, the core, and both ends
+-- a half: the network's transmission unit, the node's own endpoint and the peer's, the core, and both ends
 pub record HalfOf (C : Type 0) : Type 0 where
+  pub unit : «Unit»
   pub own : ℕ
   pub peer : ℕ
   pub core : C
@@ -194,7 +197,7 @@ half_hears_by core works h (AskerRow.Learns replies caller heard) row =
     []
 
 abbrev pub half_hears : {C : Type 0} → CoreOf C → (works : Bool) → HalfOf C → List ℕ → HalfHeard C
-half_hears core works h bytes = half_hears_by core works h (asker_row h.own h.peer h.asker bytes) (taker_row h.own h.peer h.taker bytes)
+half_hears core works h bytes = half_hears_by core works h (asker_row h.unit h.own h.peer h.asker bytes) (taker_row h.unit h.own h.peer h.taker bytes)
 
 -- A local call leaves this core; a request that is no longer wished is given up.
 abbrev pub recast : {C : Type 0} → CoreOf C → HalfOf C → C → HalfOf C

@@ -3,6 +3,8 @@
 use Rattle.std.specs.Prelude.{ℕ, ◌≡◌, ◌⊎◌, IfSome, ◌≤◌, ◌==◌, Bool, false, true, if◌then◌else◌, List, [], ◌∷◌, is_some, length, Option, Some, None, Result, Ok, Err}
 use Rattle.mctp_ctl.specs.Control.{answer_of}
 use Rattle.mctp_ctl.specs.declared.answers.Endpoint.{Endpoint}
+use Rattle.mctp_wire.specs.declared.unit.Unit.{«Unit»}
+use Rattle.mctp_wire.specs.declared.unit.Unit.TheVariants.{U64}
 use Rattle.mctp_reasm.specs.Pieces.{MessageOf}
 use Rattle.pldm_base.specs.Base.{base_reply, tid_after}
 use Rattle.pldm_base.specs.Codes.{invalid_pldm_type}
@@ -28,7 +30,7 @@ use Rattle.fw_node.specs.Halves.{CoreOf, HalfHeard, HalfOf, half_hears, half_res
 -- a half of a node that is deaf for so long
 abbrev pub half_of : {C : Type 0} → (deaf : ℕ) → C → EndsOf → HalfOf C
 half_of deaf core e =
-    record { own = e.asking.own; peer = e.asking.peer; core = core; asker = asker_of deaf e.asking; taker = taker_of deaf e.answering }
+    record { unit = e.asking.unit; own = e.asking.own; peer = e.asking.peer; core = core; asker = asker_of deaf e.asking; taker = taker_of deaf e.answering }
 
 -- a half after a packet, the node's terminus identifier, and the messages that are sent
 pub record NodeHeard (C : Type 0) : Type 0 where
@@ -71,20 +73,20 @@ finished role endpoint tid (HalfHeard.Asks half m head body) =
 finished role endpoint tid (HalfHeard.Strayed half m) =
     record { half = half; tid = tid; sent = control_sent m (answer_of endpoint m.bytes) }
 
--- an answer to a command can be read again, and fits a message
-pub record IsHeardAgain (command : CommandOf) (answer : AnswerOf) : Type 0 where
+-- an answer to a command can be read again, and fits a message of this transmission unit
+pub record IsHeardAgain (u : «Unit») (command : CommandOf) (answer : AnswerOf) : Type 0 where
   pub reads : answer_in (command_code command) (answer_bytes answer) ≡ Some answer
-  pub fits : length (answer_bytes answer) ≤ reply_limit
+  pub fits : length (answer_bytes answer) ≤ reply_limit u
 
 -- The answer of a core that took a command is such a one.
-abbrev pub IsTold : {C : Type 0} → HalfHeard C → Type 0
-IsTold (HalfHeard.Took half sent command answer) = IsHeardAgain command answer
-IsTold heard = Unit {0}
+abbrev pub IsTold : {C : Type 0} → «Unit» → HalfHeard C → Type 0
+IsTold u (HalfHeard.Took half sent command answer) = IsHeardAgain u command answer
+IsTold u heard = Prim.Unit {0}
 
 -- the same of what a core makes of what was read
 abbrev pub IsAnswered : {C : Type 0} → CoreOf C → (quiet works : Bool) → C → Result CommandOf ℕ → Type 0
-IsAnswered core quiet works c (Ok command) = IsHeardAgain command (core.take c command quiet works).answer
-IsAnswered core quiet works c (Err code) = Unit {0}
+IsAnswered core quiet works c (Ok command) = IsHeardAgain (core.unit c) command (core.take c command quiet works).answer
+IsAnswered core quiet works c (Err code) = Prim.Unit {0}
 
 -- what a core wishes to ask, if it wishes anything, can be said
 abbrev pub MaySpeak : {C : Type 0} → CoreOf C → C → Type 0
@@ -117,7 +119,7 @@ device_restarts n = record n { tid = 0; half = half_restarts device_core n.half 
 -- a device node as it is made
 abbrev pub new_device_node : Endpoint → (agent : ℕ) → DeviceOf → DeviceNodeOf
 new_device_node endpoint agent d =
-    record { endpoint = endpoint; tid = 0; half = half_of 0 (timed d) (ends_new endpoint.eid agent); faults = d.faults }
+    record { endpoint = endpoint; tid = 0; half = half_of 0 (timed d) (ends_new d.device.unit endpoint.eid agent); faults = d.faults }
 
 -- What a packet makes of a device node, and what is sent: `works` says whether its bank's one call succeeded, and a call
 -- fails only where its bank's count of failures tells so.
@@ -125,10 +127,10 @@ pub record HearsIt (old : DeviceNodeOf) (bytes : List ℕ) (new : DeviceNodeOf) 
   pub works : Bool
   pub half : new.half ≡ (device_hears works old bytes).half
   pub tid : new.tid ≡ (device_hears works old bytes).tid
-  pub packets : sent ≡ all_packets (device_hears works old bytes).sent
+  pub packets : sent ≡ all_packets old.half.unit (device_hears works old bytes).sent
   pub worked : works ≡ true → new.faults ≡ old.faults
   pub failed : works ≡ false → Rose old.faults new.faults
-  pub told : IsTold (half_hears device_core works old.half bytes)
+  pub told : IsTold U64 (half_hears device_core works old.half bytes)
 
 -- What a verdict that counts makes of a device node.
 pub record JudgesIt (old : DeviceNodeOf) (verdict : Verdict) (new : DeviceNodeOf) : Type 0 where

@@ -1,11 +1,10 @@
 //! The node of the update agent.
 
 ghost use Rattle.std.specs.Prelude.{◌≡◌, ◌≤◌, ◌<◌, ◌↔◌, ◌*◌, ◌+◌, ◌++◌, ◌==◌, [], ℕ, IfErr, IfOk, IfSome, List, None, OnErr, OnOk, Some, false, flat_map, is_ok, is_some, length, map, not, option_map, slice_get, true};
-ghost use Rattle.mctp_wire.specs.Packet.{packet_of as packet_read};
 ghost use Rattle.fw_package.specs.Package.{PackageText};
 ghost use Rattle.sel_core.specs.Log.{sel_after, sel_reply};
 ghost use Rattle.ua_core.specs.Calls.{agent_activated, is_free};
-ghost use Rattle.fw_node.specs.Agents.{AgentOf, HalfMaySpeak, IsAddressed, IsDeafFor, SpeaksHearing, activates, free_for, hearer, ready_for, again_packets, agent_becomes, agent_hears, agent_restarts, agent_tick_sends, agent_ticks, becomes_at, begins, cancels, ended, ended_packets, grown, half_at, half_for, hears_at, new_agent, new_half, notes, place_from, place_heard, place_of, starts, waited};
+ghost use Rattle.fw_node.specs.Agents.{AgentOf, any_packet, HalfMaySpeak, IsAddressed, IsDeafFor, SpeaksHearing, activates, free_for, hearer, ready_for, again_packets, agent_becomes, agent_hears, agent_restarts, agent_tick_sends, agent_ticks, becomes_at, begins, cancels, ended, ended_packets, grown, half_at, half_for, hears_at, new_agent, new_half, notes, place_from, place_heard, place_of, starts, waited};
 ghost use Rattle.fw_node.specs.AgentViews.{agent_of, half_in, half_activated, half_cancelled, half_free, half_ready, half_restarted, half_started, halves_called, halves_noted};
 ghost use Rattle.fw_node.specs.Cores.{session_core};
 ghost use Rattle.fw_node.specs.Halves.{half_hears, half_restarts, half_ticks};
@@ -19,6 +18,7 @@ use crate::noting::{activate, cancel, grow, hear, start, wait};
 use crate::outbox::Outbox;
 use fw_package::Package;
 use mctp_ctl::Endpoint;
+use mctp_wire::Unit;
 use pldm_base::Tid;
 use pldm_exch::DEAF;
 use sel_core::{Sel, SelReply};
@@ -54,18 +54,24 @@ impl Model for AgentNode {
 }
 
 impl AgentNode {
-    /// The agent of the devices with these endpoint identifiers, at most 16, before its first packet.
+    /// The agent of the devices with these endpoint identifiers, at most 16, in a network with this transmission unit, before
+    /// its first packet.
     ///
     /// # Errors
     /// `AllocError` where memory for them or for the log is refused.
-    pub fn new(alloc: Global, endpoint: Endpoint, devices: &[u8]) -> Result<AgentNode, AllocError>
+    pub fn new(
+        alloc: Global,
+        unit: Unit,
+        endpoint: Endpoint,
+        devices: &[u8],
+    ) -> Result<AgentNode, AllocError>
         requires { length devices.now ≤ 16 }
-        ensures { IfOk result (λ n. n ≡ new_agent endpoint devices.now) }
+        ensures { IfOk result (λ n. n ≡ new_agent unit endpoint devices.now) }
     {
         let Ok(log) = Sel::new(alloc) else {
             return Err(AllocError);
         };
-        let halves = halves_for(alloc, endpoint.eid, devices)?;
+        let halves = halves_for(alloc, unit, endpoint.eid, devices)?;
         let identity = Identity {
             endpoint,
             tid: Tid::unassigned(),
@@ -121,8 +127,8 @@ impl AgentNode {
     )
         requires { outbox.old ≡ [] }
         ensures after { self.new ≡ (agent_hears packages.now self.old bytes.now now).agent }
-        ensures sent { outbox.new ≡ all_packets (agent_hears packages.now self.old bytes.now now).sent }
-        ensures told { IfSome (hearer self.old bytes.now) (λ h. IsTold (half_hears (session_core packages.now) true h bytes.now)) }
+        ensures sent { outbox.new ≡ (agent_hears packages.now self.old bytes.now now).sent }
+        ensures told { IfSome (hearer self.old bytes.now) (λ h. IsTold h.core.session.unit (half_hears (session_core packages.now) true h bytes.now)) }
         ensures spoken { IfSome (hearer self.old bytes.now) (SpeaksHearing packages.now self.old bytes.now) }
     {
         if self.deaf > 0 {
@@ -283,12 +289,17 @@ impl AgentNode {
 }
 
 /// The halves for devices with these endpoint identifiers.
-fn halves_for(alloc: Global, own: u8, devices: &[u8]) -> Result<Vec<Half<Session>>, AllocError>
-    ensures { IfOk result (λ halves. map (half_in 0) halves.items ≡ map (new_half own) devices.now) }
+fn halves_for(
+    alloc: Global,
+    unit: Unit,
+    own: u8,
+    devices: &[u8],
+) -> Result<Vec<Half<Session>>, AllocError>
+    ensures { IfOk result (λ halves. map (half_in 0) halves.items ≡ map (new_half unit own) devices.now) }
 {
     let mut halves = Vec::new(alloc);
     for device in devices {
-        halves.push(Half::new(own, *device, Session::new(alloc)))?;
+        halves.push(Half::new(unit, own, *device, Session::new(alloc, unit)))?;
     }
     Ok(halves)
 }
@@ -319,10 +330,10 @@ fn session_in(halves: &[Half<Session>], eid: u8) -> Option<&Session>
 
 /// The place of the half for the sender of a packet.
 fn sender_of(halves: &[Half<Session>], bytes: &[u8]) -> Option<usize>
-    ensures place { result ≡ place_heard (map (half_in 0) halves.now) (packet_read bytes.now) }
+    ensures place { result ≡ place_heard (map (half_in 0) halves.now) (any_packet bytes.now) }
     ensures within { IfSome result (λ place. place < length halves.now) }
 {
-    let Ok(packet) = mctp_wire::decode(bytes) else {
+    let Ok(packet) = mctp_wire::decode(Unit::U128, bytes) else {
         return None;
     };
     place_of(halves, packet.head.source)
@@ -343,8 +354,8 @@ fn hear_at<'p>(
     requires place { place < length halves.old }
     requires outbox { outbox.old ≡ [] }
     ensures after { agent_of 0 identity.new log.new halves.new ≡ (hears_at packages.now (agent_of 0 identity.old log.old halves.old) bytes.now now (Some place) (slice_get (map (half_in 0) halves.old) place)).agent }
-    ensures sent { outbox.new ≡ all_packets (hears_at packages.now (agent_of 0 identity.old log.old halves.old) bytes.now now (Some place) (slice_get (map (half_in 0) halves.old) place)).sent }
-    ensures told { IfSome (slice_get (map (half_in 0) halves.old) place) (λ h. IsTold (half_hears (session_core packages.now) true h bytes.now)) }
+    ensures sent { outbox.new ≡ (hears_at packages.now (agent_of 0 identity.old log.old halves.old) bytes.now now (Some place) (slice_get (map (half_in 0) halves.old) place)).sent }
+    ensures told { IfSome (slice_get (map (half_in 0) halves.old) place) (λ h. IsTold h.core.session.unit (half_hears (session_core packages.now) true h bytes.now)) }
     ensures spoken { IfSome (slice_get (map (half_in 0) halves.old) place) (SpeaksHearing packages.now (agent_of 0 identity.old log.old halves.old) bytes.now) }
     ensures count { length halves.new ≡ length halves.old }
 {

@@ -49,7 +49,7 @@ pub(crate) trait Core<'p> {
     fn take(&mut self, given: Self::Given, command: &Command<'_>, quiet: bool) -> (Reply, bool)
         ensures core { seen self.new ≡ ((does given).take (seen self.old) (command_of command.now) quiet result.1).core }
         ensures reply { result.0.items ≡ answer_bytes ((does given).take (seen self.old) (command_of command.now) quiet result.1).answer }
-        ensures told { IsHeardAgain (command_of command.now) ((does given).take (seen self.old) (command_of command.now) quiet result.1).answer }
+        ensures told { IsHeardAgain ((does given).unit (seen self.old)) (command_of command.now) ((does given).take (seen self.old) (command_of command.now) quiet result.1).answer }
         ensures worked { result.1 ≡ true → faults self.new ≡ faults self.old }
         ensures failed { result.1 ≡ false → Rose (faults self.old) (faults self.new) };
 

@@ -1,6 +1,7 @@
 //! The node of a firmware device.
 
 ghost use Rattle.std.specs.Prelude.{◌≡◌, ◌≤◌, ◌==◌, [], Bool, IfNone, IfSome, None, OnErr, OnOk, false, is_some, not, true};
+ghost use Rattle.mctp_wire.specs.declared.unit.Unit.TheVariants.{U64};
 ghost use Rattle.fd_core.specs.Banks.{Rose};
 ghost use Rattle.fd_core.specs.Steps.{device_verdict, verdict_after};
 ghost use Rattle.fw_node.specs.Cores.{device_core, timed};
@@ -14,6 +15,7 @@ use crate::identity::Identity;
 use crate::outbox::Outbox;
 use fd_core::{Bank, Device, NotNow, Verdict};
 use mctp_ctl::Endpoint;
+use mctp_wire::Unit;
 use pldm_base::{Role, Tid};
 use pldm_exch::DEAF;
 use std::marker::Model;
@@ -47,11 +49,12 @@ impl<B: Bank> Model for DeviceNode<B> {
 }
 
 impl<B: Bank> DeviceNode<B> {
-    /// The node of a device whose agent has the endpoint identifier `agent`, before its first packet.
+    /// The node of a device whose agent has the endpoint identifier `agent`, before its first packet. Its network has the
+    /// device's transmission unit.
     pub fn new(endpoint: Endpoint, agent: u8, device: Device<B>) -> DeviceNode<B>
         ensures { result ≡ new_device_node endpoint agent device }
     {
-        let half = Half::new(endpoint.eid, agent, device);
+        let half = Half::new(device.unit(), endpoint.eid, agent, device);
         let identity = Identity {
             endpoint,
             tid: Tid::unassigned(),
@@ -69,6 +72,13 @@ impl<B: Bank> DeviceNode<B> {
         ensures own { result ≡ self.now.half.own }
     {
         self.identity.endpoint.eid
+    }
+
+    /// The transmission unit of its network.
+    pub fn unit(&self) -> Unit
+        ensures { result ≡ self.now.half.unit }
+    {
+        self.half.unit()
     }
 
     /// Its agent's endpoint identifier.
@@ -110,7 +120,7 @@ impl<B: Bank> DeviceNode<B> {
     pub fn on_tick(&mut self, outbox: &mut Outbox)
         requires { outbox.old ≡ [] }
         ensures after { self.new ≡ record self.old { half = (half_ticks device_core true self.old.half).half } }
-        ensures sent { outbox.new ≡ all_packets (half_ticks device_core true self.old.half).sent }
+        ensures sent { outbox.new ≡ all_packets self.old.half.unit (half_ticks device_core true self.old.half).sent }
         ensures spoken { self.old.half.asker.deaf ≤ 1 → MaySpeak device_core self.new.half.core }
     {
         if self.deaf > 1 {
@@ -174,10 +184,10 @@ impl<B: Bank> DeviceNode<B> {
         requires { outbox.old ≡ [] }
         ensures half { self.new.half ≡ (device_hears result self.old bytes.now).half }
         ensures tid { self.new.tid ≡ (device_hears result self.old bytes.now).tid }
-        ensures packets { outbox.new ≡ all_packets (device_hears result self.old bytes.now).sent }
+        ensures packets { outbox.new ≡ all_packets self.old.half.unit (device_hears result self.old bytes.now).sent }
         ensures worked { result ≡ true → self.new.faults ≡ self.old.faults }
         ensures failed { result ≡ false → Rose self.old.faults self.new.faults }
-        ensures told { IsTold (half_hears device_core result self.old.half bytes.now) }
+        ensures told { IsTold U64 (half_hears device_core result self.old.half bytes.now) }
         ensures endpoint { self.new.endpoint ≡ self.old.endpoint }
         ensures spoken { SpeaksAfter device_core self.old.half.core self.new.half.core }
     {

@@ -13,6 +13,7 @@ ghost use Rattle.fw_node.specs.Brings.{incoming_of};
 use crate::incoming::Incoming;
 use fwup_wire::Command;
 use mctp_reasm::Message;
+use mctp_wire::Unit;
 use pldm_base::MAX_REPLY;
 use pldm_exch::{Asker, Brought, CallTick, Request, Taker};
 use std::marker::Model;
@@ -32,19 +33,27 @@ impl Model for Ends {
 
     ghost view = { λ e. record { asking = e.asker; answering = e.taker } };
 
-    ghost invariant = { λ e. (e.taker.own ≡ e.asker.own) × (e.taker.peer ≡ e.asker.peer) × IsAsking e.asker.peer e.asker.caller };
+    ghost invariant = { λ e. (e.taker.unit ≡ e.asker.unit) × (e.taker.own ≡ e.asker.own) × (e.taker.peer ≡ e.asker.peer) × IsAsking e.asker.peer e.asker.caller };
 }
 
 impl Ends {
-    /// The ends of the node `own` for the node `peer`, before the first request and the first answer.
+    /// The ends of the node `own` for the node `peer` in a network with this transmission unit, before the first request and
+    /// the first answer.
     #[tactic(auto, using(crate::proofs::OneATick::callers_stay))]
-    pub(crate) fn new(own: u8, peer: u8) -> Ends
-        ensures { result ≡ ends_new own peer }
+    pub(crate) fn new(unit: Unit, own: u8, peer: u8) -> Ends
+        ensures { result ≡ ends_new unit own peer }
     {
         Ends {
-            asker: Asker::new(own, peer),
-            taker: Taker::new(own, peer),
+            asker: Asker::new(unit, own, peer),
+            taker: Taker::new(unit, own, peer),
         }
+    }
+
+    /// The network's transmission unit.
+    pub(crate) fn unit(&self) -> Unit
+        ensures { result ≡ self.now.asking.unit }
+    {
+        self.asker.unit()
     }
 
     /// The node's own endpoint identifier.
@@ -115,8 +124,8 @@ impl Ends {
     pub(crate) fn hear(&mut self, bytes: &[u8]) -> Incoming
         ensures incoming { incoming_of result ≡ incoming (asking_row self.old.asking bytes.now) (answering_row self.old.answering bytes.now) }
         ensures asking { self.new.asking ≡ asking_after self.old.asking (asking_row self.old.asking bytes.now) }
-        ensures stays { (self.new.asking.own ≡ self.old.asking.own) × (self.new.asking.peer ≡ self.old.asking.peer) }
-        ensures lawful { (self.old.answering.own ≡ self.old.asking.own) × (self.old.answering.peer ≡ self.old.asking.peer) }
+        ensures stays { (self.new.asking.unit ≡ self.old.asking.unit) × (self.new.asking.own ≡ self.old.asking.own) × (self.new.asking.peer ≡ self.old.asking.peer) }
+        ensures lawful { (self.old.answering.unit ≡ self.old.asking.unit) × (self.old.answering.own ≡ self.old.asking.own) × (self.old.answering.peer ≡ self.old.asking.peer) }
         ensures answering { self.new.answering ≡ answering_after (asking_row self.old.asking bytes.now) self.old.answering (answering_row self.old.answering bytes.now) }
     {
         if let Some(heard) = self.asker.hear(bytes) {

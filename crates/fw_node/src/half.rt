@@ -20,6 +20,7 @@ use crate::identity::Identity;
 use crate::incoming::Incoming;
 use crate::outbox::Outbox;
 use crate::sending::{code_alone, reply_to_other, send_again, send_control};
+use mctp_wire::Unit;
 use pldm_base::completion::ERROR_UNSUPPORTED_PLDM_CMD;
 use pldm_base::{MAX_REPLY, Reply, Role, TYPE_FIRMWARE_UPDATE};
 use pldm_exch::{CallTick, ReplyIn, Request};
@@ -32,15 +33,22 @@ pub(crate) struct Half<C> {
 }
 
 impl<'p, C: Core<'p>> Half<C> {
-    /// The half of the node `own` for the node `peer`, before its first packet.
-    pub(crate) fn new(own: u8, peer: u8, core: C) -> Half<C>
-        ensures ends { result.ends ≡ ends_new own peer }
+    /// The half of the node `own` for the node `peer` in a network with this transmission unit, before its first packet.
+    pub(crate) fn new(unit: Unit, own: u8, peer: u8, core: C) -> Half<C>
+        ensures ends { result.ends ≡ ends_new unit own peer }
         ensures core { result.core ≡ core }
     {
         Half {
-            ends: Ends::new(own, peer),
+            ends: Ends::new(unit, own, peer),
             core,
         }
+    }
+
+    /// The network's transmission unit.
+    pub(crate) fn unit(&self) -> Unit
+        ensures { result ≡ self.now.ends.asking.unit }
+    {
+        self.ends.unit()
     }
 
     /// The peer's endpoint identifier.
@@ -71,24 +79,25 @@ impl<'p, C: Core<'p>> Half<C> {
         requires { outbox.old ≡ [] }
         ensures half { half_of 0 (C.seen self.new.core) self.new.ends ≡ (finished role identity.old.endpoint identity.old.tid (half_hears (C.does given) result (half_of 0 (C.seen self.old.core) self.old.ends) bytes.now)).half }
         ensures tid { identity.new.tid ≡ (finished role identity.old.endpoint identity.old.tid (half_hears (C.does given) result (half_of 0 (C.seen self.old.core) self.old.ends) bytes.now)).tid }
-        ensures packets { outbox.new ≡ all_packets (finished role identity.old.endpoint identity.old.tid (half_hears (C.does given) result (half_of 0 (C.seen self.old.core) self.old.ends) bytes.now)).sent }
-        ensures told { IsTold (half_hears (C.does given) result (half_of 0 (C.seen self.old.core) self.old.ends) bytes.now) }
+        ensures packets { outbox.new ≡ all_packets self.old.ends.asking.unit (finished role identity.old.endpoint identity.old.tid (half_hears (C.does given) result (half_of 0 (C.seen self.old.core) self.old.ends) bytes.now)).sent }
+        ensures told { IsTold ((C.does given).unit (C.seen self.old.core)) (half_hears (C.does given) result (half_of 0 (C.seen self.old.core) self.old.ends) bytes.now) }
         ensures spoken { SpeaksAfter (C.does given) (C.seen self.old.core) (C.seen self.new.core) }
         ensures worked { result ≡ true → C.faults self.new.core ≡ C.faults self.old.core }
         ensures failed { result ≡ false → Rose (C.faults self.old.core) (C.faults self.new.core) }
         ensures endpoint { identity.new.endpoint ≡ identity.old.endpoint }
         ensures own { self.new.ends.asking.own ≡ self.old.ends.asking.own }
+        ensures unit { self.new.ends.asking.unit ≡ self.old.ends.asking.unit }
     {
         match self.incoming(bytes) {
             Incoming::Nothing => true,
             Incoming::Learnt(heard) => self.learn(given, &heard),
             Incoming::Again(answer) => {
-                outbox.send(&answer);
+                outbox.send(self.ends.unit(), &answer);
                 true
             }
             Incoming::New(request) => self.serve(identity, role, given, &request, outbox),
             Incoming::Strays(message) => {
-                send_control(&identity.endpoint, &message, outbox);
+                send_control(self.ends.unit(), &identity.endpoint, &message, outbox);
                 true
             }
         }
@@ -99,6 +108,7 @@ impl<'p, C: Core<'p>> Half<C> {
         ensures brings { (given : C.Given) (works : Bool) → half_hears (C.does given) works (half_of 0 (C.seen self.old.core) self.old.ends) bytes.now ≡ half_brings (C.does given) works (half_of 0 (C.seen self.new.core) self.new.ends) (incoming_of result) }
         ensures core { self.new.core ≡ self.old.core }
         ensures own { self.new.ends.asking.own ≡ self.old.ends.asking.own }
+        ensures unit { self.new.ends.asking.unit ≡ self.old.ends.asking.unit }
     {
         self.ends.hear(bytes)
     }
@@ -110,6 +120,7 @@ impl<'p, C: Core<'p>> Half<C> {
         ensures worked { result ≡ true → C.faults self.new.core ≡ C.faults self.old.core }
         ensures failed { result ≡ false → Rose (C.faults self.old.core) (C.faults self.new.core) }
         ensures own { self.new.ends.asking.own ≡ self.old.ends.asking.own }
+        ensures unit { self.new.ends.asking.unit ≡ self.old.ends.asking.unit }
     {
         let works = self.learn_answer(given, heard);
         self.settle(given);
@@ -142,13 +153,14 @@ impl<'p, C: Core<'p>> Half<C> {
         requires { outbox.old ≡ [] }
         ensures half { half_of 0 (C.seen self.new.core) self.new.ends ≡ (finished role identity.old.endpoint identity.old.tid (half_brings (C.does given) result (half_of 0 (C.seen self.old.core) self.old.ends) (IncomingOf.New request.now))).half }
         ensures tid { identity.new.tid ≡ (finished role identity.old.endpoint identity.old.tid (half_brings (C.does given) result (half_of 0 (C.seen self.old.core) self.old.ends) (IncomingOf.New request.now))).tid }
-        ensures packets { outbox.new ≡ all_packets (finished role identity.old.endpoint identity.old.tid (half_brings (C.does given) result (half_of 0 (C.seen self.old.core) self.old.ends) (IncomingOf.New request.now))).sent }
-        ensures told { IsTold (half_brings (C.does given) result (half_of 0 (C.seen self.old.core) self.old.ends) (IncomingOf.New request.now)) }
+        ensures packets { outbox.new ≡ all_packets self.old.ends.asking.unit (finished role identity.old.endpoint identity.old.tid (half_brings (C.does given) result (half_of 0 (C.seen self.old.core) self.old.ends) (IncomingOf.New request.now))).sent }
+        ensures told { IsTold ((C.does given).unit (C.seen self.old.core)) (half_brings (C.does given) result (half_of 0 (C.seen self.old.core) self.old.ends) (IncomingOf.New request.now)) }
         ensures spoken { SpeaksAfter (C.does given) (C.seen self.old.core) (C.seen self.new.core) }
         ensures worked { result ≡ true → C.faults self.new.core ≡ C.faults self.old.core }
         ensures failed { result ≡ false → Rose (C.faults self.old.core) (C.faults self.new.core) }
         ensures endpoint { identity.new.endpoint ≡ identity.old.endpoint }
         ensures own { self.new.ends.asking.own ≡ self.old.ends.asking.own }
+        ensures unit { self.new.ends.asking.unit ≡ self.old.ends.asking.unit }
     {
         if request.head().pldm_type == TYPE_FIRMWARE_UPDATE {
             return self.take(given, request, outbox);
@@ -163,22 +175,23 @@ impl<'p, C: Core<'p>> Half<C> {
         requires reply { length reply.now ≤ MAX_REPLY }
         requires outbox { outbox.old ≡ [] }
         ensures after { self.new ≡ record self.old { ends = record self.old.ends { answering = answered_with self.old.ends.answering request.now reply.now } } }
-        ensures packets { outbox.new ≡ all_packets (reply_message request.now.message request.now.head reply.now ∷ []) }
+        ensures packets { outbox.new ≡ all_packets self.old.ends.asking.unit (reply_message request.now.message request.now.head reply.now ∷ []) }
     {
         let answer = self.ends.answer(request, reply);
-        outbox.send(&answer);
+        outbox.send(self.ends.unit(), &answer);
     }
 
     /// Takes a firmware update command, and answers it. Whether the core's bank worked.
     fn take(&mut self, given: C::Given, request: &Request, outbox: &mut Outbox) -> bool
         requires { outbox.old ≡ [] }
         ensures half { half_of 0 (C.seen self.new.core) self.new.ends ≡ settled (C.does given) (replied (half_of 0 (reply_read (C.does given) (is_quiet self.old.ends.asking.caller) result (C.seen self.old.core) (read_by (C.does given) request.now.head.command request.now.body)).core self.old.ends) (reply_message request.now.message request.now.head (reply_read (C.does given) (is_quiet self.old.ends.asking.caller) result (C.seen self.old.core) (read_by (C.does given) request.now.head.command request.now.body)).reply)) }
-        ensures packets { outbox.new ≡ all_packets (reply_message request.now.message request.now.head (reply_read (C.does given) (is_quiet self.old.ends.asking.caller) result (C.seen self.old.core) (read_by (C.does given) request.now.head.command request.now.body)).reply ∷ []) }
+        ensures packets { outbox.new ≡ all_packets self.old.ends.asking.unit (reply_message request.now.message request.now.head (reply_read (C.does given) (is_quiet self.old.ends.asking.caller) result (C.seen self.old.core) (read_by (C.does given) request.now.head.command request.now.body)).reply ∷ []) }
         ensures told { IsAnswered (C.does given) (is_quiet self.old.ends.asking.caller) result (C.seen self.old.core) (read_by (C.does given) request.now.head.command request.now.body) }
         ensures spoken { MaySpeak (C.does given) (C.seen self.new.core) }
         ensures worked { result ≡ true → C.faults self.new.core ≡ C.faults self.old.core }
         ensures failed { result ≡ false → Rose (C.faults self.old.core) (C.faults self.new.core) }
         ensures own { self.new.ends.asking.own ≡ self.old.ends.asking.own }
+        ensures unit { self.new.ends.asking.unit ≡ self.old.ends.asking.unit }
     {
         let (reply, works) = self.reply_to(given, request);
         self.answer(request, reply.as_slice(), outbox);
@@ -211,14 +224,15 @@ impl<'p, C: Core<'p>> Half<C> {
     pub(crate) fn grow(&mut self, given: C::Given, outbox: &mut Outbox)
         requires { length outbox.old ≤ 60 }
         ensures half { half_of 0 (C.seen self.new.core) self.new.ends ≡ half_grows (C.does given) (half_of 0 (C.seen self.old.core) self.old.ends) }
-        ensures packets { outbox.new ≡ outbox.old ++ all_packets (sent_by (caller_tick self.old.ends.asking.caller).1) }
+        ensures packets { outbox.new ≡ outbox.old ++ all_packets self.old.ends.asking.unit (sent_by (caller_tick self.old.ends.asking.caller).1) }
         ensures few { length outbox.new ≤ length outbox.old + 4 * length (sent_by (caller_tick self.old.ends.asking.caller).1) }
         ensures lawful { IsAsking self.old.ends.asking.peer self.old.ends.asking.caller }
         ensures faults { C.faults self.new.core ≡ C.faults self.old.core }
         ensures own { self.new.ends.asking.own ≡ self.old.ends.asking.own }
+        ensures unit { self.new.ends.asking.unit ≡ self.old.ends.asking.unit }
     {
         let call = self.ends.tick();
-        send_again(outbox, &call);
+        send_again(self.ends.unit(), outbox, &call);
         if let CallTick::GaveUp = call {
             self.core.silent(given);
         }
@@ -228,12 +242,13 @@ impl<'p, C: Core<'p>> Half<C> {
     pub(crate) fn wait(&mut self, given: C::Given, outbox: &mut Outbox)
         requires { length outbox.old + 4 * length (half_waits (C.does given) (half_of 0 (C.seen self.old.core) self.old.ends)).sent ≤ 64 }
         ensures half { half_of 0 (C.seen self.new.core) self.new.ends ≡ (half_waits (C.does given) (half_of 0 (C.seen self.old.core) self.old.ends)).half }
-        ensures packets { outbox.new ≡ outbox.old ++ all_packets (half_waits (C.does given) (half_of 0 (C.seen self.old.core) self.old.ends)).sent }
+        ensures packets { outbox.new ≡ outbox.old ++ all_packets self.old.ends.asking.unit (half_waits (C.does given) (half_of 0 (C.seen self.old.core) self.old.ends)).sent }
         ensures few { length outbox.new ≤ length outbox.old + 4 * length (half_waits (C.does given) (half_of 0 (C.seen self.old.core) self.old.ends)).sent }
         ensures core { C.seen self.new.core ≡ (C.does given).ticked (C.seen self.old.core) }
         ensures spoken { MaySpeak (C.does given) (C.seen self.new.core) }
         ensures faults { C.faults self.new.core ≡ C.faults self.old.core }
         ensures own { self.new.ends.asking.own ≡ self.old.ends.asking.own }
+        ensures unit { self.new.ends.asking.unit ≡ self.old.ends.asking.unit }
     {
         self.core.tick(given);
         self.ask(given, outbox);
@@ -243,11 +258,12 @@ impl<'p, C: Core<'p>> Half<C> {
     fn ask(&mut self, given: C::Given, outbox: &mut Outbox)
         requires { length outbox.old + 4 * length (last_part (C.does given) (half_of 0 (C.seen self.old.core) self.old.ends) []).sent ≤ 64 }
         ensures half { half_of 0 (C.seen self.new.core) self.new.ends ≡ (last_part (C.does given) (half_of 0 (C.seen self.old.core) self.old.ends) []).half }
-        ensures packets { outbox.new ≡ outbox.old ++ all_packets (last_part (C.does given) (half_of 0 (C.seen self.old.core) self.old.ends) []).sent }
+        ensures packets { outbox.new ≡ outbox.old ++ all_packets self.old.ends.asking.unit (last_part (C.does given) (half_of 0 (C.seen self.old.core) self.old.ends) []).sent }
         ensures few { length outbox.new ≤ length outbox.old + 4 * length (last_part (C.does given) (half_of 0 (C.seen self.old.core) self.old.ends) []).sent }
         ensures core { self.new.core ≡ self.old.core }
         ensures spoken { MaySpeak (C.does given) (C.seen self.new.core) }
         ensures own { self.new.ends.asking.own ≡ self.old.ends.asking.own }
+        ensures unit { self.new.ends.asking.unit ≡ self.old.ends.asking.unit }
     {
         let wish = self.core.wish(given);
         self.ends.abandon_unless(&wish);
@@ -258,16 +274,16 @@ impl<'p, C: Core<'p>> Half<C> {
             return;
         }
         let message = self.ends.begin(&command);
-        outbox.send(&message);
+        outbox.send(self.ends.unit(), &message);
     }
 
     /// Starts anew.
     pub(crate) fn restart(&mut self)
         ensures core { (given : C.Given) → C.seen self.new.core ≡ (C.does given).restarted (C.seen self.old.core) }
-        ensures ends { self.new.ends ≡ ends_new self.old.ends.asking.own self.old.ends.asking.peer }
+        ensures ends { self.new.ends ≡ ends_new self.old.ends.asking.unit self.old.ends.asking.own self.old.ends.asking.peer }
         ensures faults { C.faults self.new.core ≡ C.faults self.old.core }
     {
         self.core.restart();
-        self.ends = Ends::new(self.ends.own(), self.ends.peer());
+        self.ends = Ends::new(self.ends.unit(), self.ends.own(), self.ends.peer());
     }
 }

@@ -5,7 +5,7 @@ ghost use Rattle.fw_node.specs.Packets.{packets_of};
 
 use circular_buffer::HeapCircularBuffer;
 use mctp_reasm::{Message, split};
-use mctp_wire::RawPacket;
+use mctp_wire::{RawPacket, Unit};
 use std::alloc::{AllocError, Global};
 use std::marker::Model;
 
@@ -65,13 +65,13 @@ impl Outbox {
         self.packets.pop_front()
     }
 
-    /// Puts the packets of a message behind those that are there.
-    pub fn send(&mut self, message: &Message)
+    /// Puts the packets of a message behind those that are there, cut at this transmission unit.
+    pub fn send(&mut self, unit: Unit, message: &Message)
         requires { length self.old ≤ 60 }
-        ensures packets { self.new ≡ self.old ++ packets_of message.now }
+        ensures packets { self.new ≡ self.old ++ packets_of unit message.now }
         ensures few { length self.new ≤ length self.old + 4 }
     {
-        let packets = split(message);
+        let packets = split(unit, message);
         push_all(&mut self.packets, packets.as_slice());
     }
 }

@@ -8,6 +8,7 @@ ghost use Rattle.fw_node.specs.Packets.{all_packets, sent_by};
 use crate::outbox::Outbox;
 use mctp_ctl::Endpoint;
 use mctp_reasm::Message;
+use mctp_wire::Unit;
 use pldm_base::completion::ERROR_INVALID_PLDM_TYPE;
 use pldm_base::{Reply, Role, TYPE_BASE, Tid};
 use pldm_exch::{CallTick, Request};
@@ -34,27 +35,28 @@ pub(crate) fn reply_to_other(tid: &mut Tid, role: Role, request: &Request) -> Re
 }
 
 /// Sends what a tick asks to be sent again.
-pub(crate) fn send_again(outbox: &mut Outbox, call: &CallTick)
+pub(crate) fn send_again(unit: Unit, outbox: &mut Outbox, call: &CallTick)
     requires { length outbox.old ≤ 60 }
-    ensures sent { outbox.new ≡ outbox.old ++ all_packets (sent_by call.now) }
+    ensures sent { outbox.new ≡ outbox.old ++ all_packets unit (sent_by call.now) }
     ensures few { length outbox.new ≤ length outbox.old + 4 }
     ensures each { length outbox.new ≤ length outbox.old + 4 * length (sent_by call.now) }
 {
     if let CallTick::Send(message) = call {
-        outbox.send(message);
+        outbox.send(unit, message);
     }
 }
 
 /// Sends the answer to a control message, if one is due.
 #[tactic(auto, using(crate::proofs::Controls::controls))]
-pub(crate) fn send_control(endpoint: &Endpoint, message: &Message, outbox: &mut Outbox)
+pub(crate) fn send_control(unit: Unit, endpoint: &Endpoint, message: &Message, outbox: &mut Outbox)
     requires { outbox.old ≡ [] }
-    ensures { outbox.new ≡ all_packets (control_sent message.now (answer_of endpoint.now message.now.bytes)) }
+    ensures { outbox.new ≡ all_packets unit (control_sent message.now (answer_of endpoint.now message.now.bytes)) }
 {
     let Some(bytes) = mctp_ctl::answer(endpoint, message.bytes()) else {
         return;
     };
     let Ok(answer) = Message::new(
+        unit,
         message.source(),
         message.dest(),
         false,
@@ -63,5 +65,5 @@ pub(crate) fn send_control(endpoint: &Endpoint, message: &Message, outbox: &mut 
     ) else {
         return;
     };
-    outbox.send(&answer);
+    outbox.send(unit, &answer);
 }

@@ -6,6 +6,7 @@ use Rattle.std.specs.Str.Parse.{digits_value}
 use Rattle.std.proofs.lemmas.Bool.{leb-true}
 use Rattle.std.proofs.lemmas.List.{map-append, length-append}
 use Rattle.std.proofs.lemmas.List.Elements.{All-from_recursion, recursion_from_All}
+use Rattle.mctp_wire.specs.declared.unit.Unit.{«Unit»}
 use Rattle.mctp_ctl.specs.declared.answers.Endpoint.{Endpoint}
 use Rattle.exch_lane.specs.Lanes.{IsEid}
 use Rattle.fd_core.specs.Banks.{has_key}
@@ -124,6 +125,22 @@ agent_whole d d2 (eid ∷ uuid ∷ []) h e = agent_if d d2 (is_some d.agent) (co
 agent_whole d d2 [] h e = absurd (cc)
 agent_whole d d2 (eid ∷ []) h e = absurd (cc)
 agent_whole d d2 (eid ∷ uuid ∷ more ∷ fields) h e = absurd (cc)
+
+-- the unit's line
+unit_made : (d d2 : DraftOf) (r : Result «Unit» ScriptCause) → IsDraft d → configs.with_unit d r ≡ Ok d2 → IsDraft d2
+unit_made d d2 (Ok u) h e =
+    subst IsDraft {x = record d { unit = Some u }} {y = d2} (cc) (record { agent = h.agent; each = h.each; few = h.few; apart = h.apart; alone = h.alone })
+unit_made d d2 (Err cause) h e = absurd (cc)
+
+unit_if : (d d2 : DraftOf) (b : Bool) (r : Result «Unit» ScriptCause) → IsDraft d → (if b then configs.with_unit d r else Err causes.Order) ≡ Ok d2
+    → IsDraft d2
+unit_if d d2 true r h e = unit_made d d2 r h e
+unit_if d d2 false r h e = absurd (cc)
+
+unit_whole : (d d2 : DraftOf) (fields : List (List ℕ)) → IsDraft d → configs.unit_line d fields ≡ Ok d2 → IsDraft d2
+unit_whole d d2 (bytes ∷ []) h e = unit_if d d2 (configs.may_choose d) (configs.unit_of bytes) h e
+unit_whole d d2 [] h e = absurd (cc)
+unit_whole d d2 (bytes ∷ more ∷ fields) h e = absurd (cc)
 
 -- a device's line
 not_same : (a b : ℕ) → (a == b) ≡ false → a ≡ b → ⊥
@@ -323,6 +340,7 @@ package_whole d d2 (path ∷ more ∷ fields) h e = absurd (cc)
 -- any line
 said_whole : (d d2 : DraftOf) (directive : Directive) (fields : List (List ℕ)) → IsDraft d → configs.line_said d directive fields ≡ Ok d2 → IsDraft d2
 said_whole d d2 directives.Agent fields h e = agent_whole d d2 fields h e
+said_whole d d2 directives.Unit fields h e = unit_whole d d2 fields h e
 said_whole d d2 directives.Device fields h e = device_whole d d2 fields h e
 said_whole d d2 directives.Descriptor fields h e = descriptor_whole d d2 fields h e
 said_whole d d2 directives.Component fields h e = component_whole d d2 fields h e
@@ -350,12 +368,12 @@ some_device : (xs : List DeviceConfigOf) → configs.has_missing xs ≡ false �
 some_device [] e = absurd (cc)
 some_device (x ∷ xs) e = omega (arith)
 
-config_if : (d : DraftOf) (a : Endpoint) (b : Bool) (c : ConfigOf) → IsDraft d → d.agent ≡ Some a → configs.has_missing (configs.devices_of d) ≡ b
-    → (if b then Err causes.Missing else Ok (record { agent = a; devices = configs.devices_of d; packages = d.packages })) ≡ Ok c
+config_if : (d : DraftOf) (a : Endpoint) (u : «Unit») (b : Bool) (c : ConfigOf) → IsDraft d → d.agent ≡ Some a → configs.has_missing (configs.devices_of d) ≡ b
+    → (if b then Err causes.Missing else Ok (record { agent = a; unit = u; devices = configs.devices_of d; packages = d.packages })) ≡ Ok c
     → AreWhole c.agent.eid c.devices
-config_if d a true c h agent some e = absurd (cc)
-config_if d a false c h agent some e =
-    subst (λ (x : ConfigOf). AreWhole x.agent.eid x.devices) {x = record { agent = a; devices = configs.devices_of d; packages = d.packages }} {y = c} (cc) (record {
+config_if d a u true c h agent some e = absurd (cc)
+config_if d a u false c h agent some e =
+    subst (λ (x : ConfigOf). AreWhole x.agent.eid x.devices) {x = record { agent = a; unit = u; devices = configs.devices_of d; packages = d.packages }} {y = c} (cc) (record {
       agent_eid = subst (λ o. IfSome o (λ x. IsEid x.eid)) agent h.agent;
       some = some_device (configs.devices_of d) some;
       few = h.few;
@@ -363,10 +381,10 @@ config_if d a false c h agent some e =
       apart = subst (λ o. AreDifferent (map (λ x. x.eid) (option_to_list o) ++ eids_of (configs.devices_of d))) agent h.apart;
     })
 
-config_made : (d : DraftOf) (o : Option Endpoint) (c : ConfigOf) → IsDraft d → d.agent ≡ o → configs.config_said o (configs.devices_of d) d.packages ≡ Ok c
+config_made : (d : DraftOf) (o : Option Endpoint) (u : «Unit») (c : ConfigOf) → IsDraft d → d.agent ≡ o → configs.config_said o u (configs.devices_of d) d.packages ≡ Ok c
     → AreWhole c.agent.eid c.devices
-config_made d None c h agent e = absurd (cc)
-config_made d (Some a) c h agent e = config_if d a (configs.has_missing (configs.devices_of d)) c h agent refl e
+config_made d None u c h agent e = absurd (cc)
+config_made d (Some a) u c h agent e = config_if d a u (configs.has_missing (configs.devices_of d)) c h agent refl e
 
 finished_at : (number : ℕ) (d : DraftOf) (r : Result ConfigOf ScriptCause) (c : ConfigOf)
     → ((x : ConfigOf) → r ≡ Ok x → AreWhole x.agent.eid x.devices) → configs.at_line number Ok r ≡ Ok c → AreWhole c.agent.eid c.devices
@@ -375,7 +393,7 @@ finished_at number d (Err cause) c known e = absurd (cc)
 
 finished_known : (d : DraftOf) → IsDraft d → (c : ConfigOf) → configs.finished d ≡ Ok c → AreWhole c.agent.eid c.devices
 unfolding configs.finished
-finished_known d h c e = config_made d d.agent c h refl e
+finished_known d h c e = config_made d d.agent (configs.unit_or d.unit) c h refl e
 
 next_at : (lines : List (List ℕ)) (number : ℕ) (r : Result DraftOf ScriptCause) (c : ConfigOf) → ((d : DraftOf) → r ≡ Ok d → IsDraft d)
     → ((d : DraftOf) → IsDraft d → configs.config_from lines (number + 1) d ≡ Ok c → AreWhole c.agent.eid c.devices)

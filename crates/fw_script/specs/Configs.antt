@@ -1,7 +1,9 @@
 -- The text of a configuration: which agent, devices and packages it is of.
-use Rattle.std.specs.Prelude.{ℕ, ◌+◌, ◌==◌, ◌&&◌, ◌||◌, nat_lt, Bool, true, false, List, [], ◌∷◌, ◌++◌, Option, None, Some, Result, Ok, Err, codes, if◌then◌else◌, is_some, length, option_to_list}
+use Rattle.std.specs.Prelude.{ℕ, ◌+◌, ◌==◌, ◌&&◌, ◌||◌, not, nat_lt, Bool, true, false, List, [], ◌∷◌, ◌++◌, Option, None, Some, Result, Ok, Err, codes, if◌then◌else◌, is_some, length, option_to_list}
 use Rattle.std.specs.List.{list_any}
 use Rattle.std.specs.Str.{bytes_eq, is_utf8}
+use Rattle.mctp_wire.specs.declared.unit.Unit.{«Unit»}
+use Rattle.mctp_wire.specs.declared.unit.Unit.TheVariants.{U64, U128}
 use Rattle.mctp_ctl.specs.declared.answers.Endpoint.{Endpoint}
 use Rattle.fwup_wire.specs.Descriptors.{descriptor_size, descriptors_bytes}
 use Rattle.fwup_wire.specs.Values.{DescriptorOf}
@@ -31,21 +33,23 @@ pub record DeviceConfigOf : Type 0 where
   pub descriptors : List DescriptorOf
   pub components : List ComponentConfigOf
 
--- the agent, its devices, and the paths of its packages
+-- the agent, the transmission unit of its network, its devices, and the paths of its packages
 pub record ConfigOf : Type 0 where
   pub agent : Endpoint
+  pub unit : «Unit»
   pub devices : List DeviceConfigOf
   pub packages : List (List ℕ)
 
 -- What lines have said so far: the devices before the last, and the last, which the lines that follow it describe.
 pub record DraftOf : Type 0 where
   pub agent : Option Endpoint
+  pub unit : Option «Unit»
   pub done : List DeviceConfigOf
   pub last : Option DeviceConfigOf
   pub packages : List (List ℕ)
 
 abbrev pub nothing_said : DraftOf
-nothing_said = record { agent = None; done = []; last = None; packages = [] }
+nothing_said = record { agent = None; unit = None; done = []; last = None; packages = [] }
 
 abbrev pub devices_of : DraftOf → List DeviceConfigOf
 devices_of d = d.done ++ option_to_list d.last
@@ -54,6 +58,7 @@ devices_of d = d.done ++ option_to_list d.last
 unfoldable pub directive_of : List ℕ → Option Directive
 directive_of word =
     if bytes_eq word (codes "agent") then Some directives.Agent
+    else if bytes_eq word (codes "unit") then Some directives.Unit
     else if bytes_eq word (codes "device") then Some directives.Device
     else if bytes_eq word (codes "descriptor") then Some directives.Descriptor
     else if bytes_eq word (codes "component") then Some directives.Component
@@ -80,11 +85,31 @@ abbrev pub agent_line : DraftOf → List (List ℕ) → Result DraftOf ScriptCau
 agent_line d (eid ∷ uuid ∷ []) = if is_some d.agent then Err causes.Order else with_agent d (node_of eid uuid)
 agent_line d fields = Err causes.Fields
 
--- a device's line follows the agent's, and no package's
+-- a transmission unit: 64 or 128 bytes
+abbrev pub unit_among : Result ℕ ScriptCause → Result «Unit» ScriptCause
+unit_among (Ok bytes) = if bytes == 64 then Ok U64 else if bytes == 128 then Ok U128 else Err causes.Range
+unit_among (Err cause) = Err cause
+
+abbrev pub unit_of : List ℕ → Result «Unit» ScriptCause
+unit_of word = unit_among (number_in 64 128 word)
+
+-- the unit's line follows the agent's, once, and no other line
 abbrev pub has_none : List (List ℕ) → Bool
 has_none [] = true
 has_none (path ∷ paths) = false
 
+abbrev pub may_choose : DraftOf → Bool
+may_choose d = is_some d.agent && (not (is_some d.unit) && (length (devices_of d) == 0 && has_none d.packages))
+
+abbrev pub with_unit : DraftOf → Result «Unit» ScriptCause → Result DraftOf ScriptCause
+with_unit d (Ok u) = Ok (record d { unit = Some u })
+with_unit d (Err cause) = Err cause
+
+abbrev pub unit_line : DraftOf → List (List ℕ) → Result DraftOf ScriptCause
+unit_line d (bytes ∷ []) = if may_choose d then with_unit d (unit_of bytes) else Err causes.Order
+unit_line d fields = Err causes.Fields
+
+-- a device's line follows the agent's, and no package's
 abbrev pub may_begin : DraftOf → Bool
 may_begin d = is_some d.agent && has_none d.packages
 
@@ -206,6 +231,7 @@ package_line d fields = Err causes.Fields
 -- what a line says
 abbrev pub line_said : DraftOf → Directive → List (List ℕ) → Result DraftOf ScriptCause
 line_said d directives.Agent fields = agent_line d fields
+line_said d directives.Unit fields = unit_line d fields
 line_said d directives.Device fields = device_line d fields
 line_said d directives.Descriptor fields = descriptor_line d fields
 line_said d directives.Component fields = component_line d fields
@@ -232,13 +258,18 @@ abbrev pub has_missing : List DeviceConfigOf → Bool
 has_missing [] = true
 has_missing (x ∷ xs) = list_any is_bare (x ∷ xs)
 
-abbrev pub config_said : Option Endpoint → List DeviceConfigOf → List (List ℕ) → Result ConfigOf ScriptCause
-config_said None devices packages = Err causes.Missing
-config_said (Some agent) devices packages =
-    if has_missing devices then Err causes.Missing else Ok (record { agent = agent; devices = devices; packages = packages })
+-- the unit that a line has chosen, or the baseline
+abbrev pub unit_or : Option «Unit» → «Unit»
+unit_or None = U64
+unit_or (Some u) = u
+
+abbrev pub config_said : Option Endpoint → «Unit» → List DeviceConfigOf → List (List ℕ) → Result ConfigOf ScriptCause
+config_said None u devices packages = Err causes.Missing
+config_said (Some agent) u devices packages =
+    if has_missing devices then Err causes.Missing else Ok (record { agent = agent; unit = u; devices = devices; packages = packages })
 
 unfoldable pub finished : DraftOf → Result ConfigOf ScriptCause
-finished d = config_said d.agent (devices_of d) d.packages
+finished d = config_said d.agent (unit_or d.unit) (devices_of d) d.packages
 
 -- a fault of the line with this number
 abbrev pub at_line : {A B : Type 0} → ℕ → (A → Result B ScriptFault) → Result A ScriptCause → Result B ScriptFault

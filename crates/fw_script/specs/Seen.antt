@@ -15,7 +15,7 @@ abbrev pub device_of : DeviceConfig → DeviceConfigOf
 device_of d = record { endpoint = d.endpoint; descriptors = d.descriptors; components = map component_of d.components.items }
 
 abbrev pub config_seen : Config → ConfigOf
-config_seen c = record { agent = c.agent; devices = map device_of c.devices.items; packages = map (λ p. string_bytes p) c.packages.items }
+config_seen c = record { agent = c.agent; unit = c.unit; devices = map device_of c.devices.items; packages = map (λ p. string_bytes p) c.packages.items }
 
 -- the identifiers of a line, or its fault
 abbrev pub seen_eids : Result (ArrayVec ℕ 17 (Unit {0})) ScriptCause → Result (List ℕ) ScriptCause

@@ -5,15 +5,16 @@ ghost use Rattle.std.specs.Result.{result_map_both};
 ghost use Rattle.fd_core.specs.Images.{label_of as label_made};
 ghost use Rattle.fw_script.specs.Faults.{Answers, both as both_of};
 ghost use Rattle.fw_script.specs.Values.{bytes_of, text_of};
-ghost use Rattle.fw_script.specs.Configs.{added, described, extended, has_key as has_component, key_of, new_device, numbers_of, told, with_component};
+ghost use Rattle.fw_script.specs.Configs.{added, described, extended, has_key as has_component, key_of, new_device, numbers_of, told, unit_of, with_component};
 ghost use Rattle.fw_script.specs.Seen.{component_of, device_of};
 
 use crate::faults::{ScriptCause, both};
-use crate::values::{kind, number_u8, number_u16, number_u32, text, with_bytes};
+use crate::values::{kind, number_in, number_u8, number_u16, number_u32, text, with_bytes};
 use fd_core::{Component, Label, MAX_COMPONENTS, MAX_IMAGE};
 use fwup_wire::code::text_type;
 use fwup_wire::{Descriptor, DescriptorList, Key, Text, Version};
 use mctp_ctl::Endpoint;
+use mctp_wire::Unit;
 use std::alloc::Global;
 
 /// A configuration.
@@ -21,6 +22,8 @@ use std::alloc::Global;
 pub struct Config {
     /// The agent's end of the links.
     pub agent: Endpoint,
+    /// The transmission unit of its network, 64 or 128 bytes a packet's body, which all nodes share (DSP0236, section 8.3).
+    pub unit: Unit,
     /// Its devices, 1 to 16.
     pub devices: Vec<DeviceConfig>,
     /// The paths of the packages that updates may start with; the first has number 1.
@@ -54,6 +57,18 @@ pub struct ComponentConfig {
 pub(crate) struct Numbers {
     pub component: Component,
     pub stamp: u32,
+}
+
+/// A transmission unit.
+pub(crate) fn read_unit(word: &[u8]) -> Result<Unit, ScriptCause>
+    ensures { result ≡ unit_of word.now }
+{
+    match number_in(word, 64, 128) {
+        Ok(64) => Ok(Unit::U64),
+        Ok(128) => Ok(Unit::U128),
+        Ok(_) => Err(ScriptCause::Range),
+        Err(cause) => Err(cause),
+    }
 }
 
 /// A component's key.

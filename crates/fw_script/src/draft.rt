@@ -3,15 +3,16 @@
 ghost use Rattle.std.specs.Prelude.{◌≡◌, IfErr, IfOk, OnOk, length, map, string_bytes};
 ghost use Rattle.std.specs.List.{list_any};
 ghost use Rattle.fw_script.specs.Faults.{Answers, ReadsAs};
-ghost use Rattle.fw_script.specs.Configs.{after_line, agent_line, begun, component_line, config_of, descriptor_line, device_line, directive_of as directive_named, devices_of, extended, finished, in_device, is_bare, is_device as has_device, line_said, node_of, nothing_said, package_line, path_of, uses_eid};
+ghost use Rattle.fw_script.specs.Configs.{after_line, agent_line, begun, component_line, config_of, descriptor_line, device_line, directive_of as directive_named, devices_of, extended, finished, in_device, is_bare, is_device as has_device, line_said, may_choose, node_of, nothing_said, package_line, path_of, unit_line, unit_or, uses_eid};
 ghost use Rattle.fw_script.specs.Seen.{config_seen, device_of};
 ghost use Rattle.fw_script.specs.Whole.{AreWhole};
 
-use crate::config::{Config, DeviceConfig, Numbers, read_numbers};
+use crate::config::{Config, DeviceConfig, Numbers, read_numbers, read_unit};
 use crate::faults::{ScriptCause, ScriptFault, both};
 use crate::lines::{MAX_FIELDS, fields_after, first_line, first_word, is_skipped};
 use crate::values::{eid, uuid};
 use mctp_ctl::Endpoint;
+use mctp_wire::Unit;
 use std::alloc::Global;
 use std::marker::Model;
 
@@ -22,6 +23,7 @@ const MAX_DEVICES: usize = 16;
 #[derive(Clone, Copy, PartialEq, Eq)]
 enum Directive {
     Agent,
+    Unit,
     Device,
     Descriptor,
     Component,
@@ -35,6 +37,8 @@ fn directive_of(word: &[u8]) -> Option<Directive>
 {
     if word == b"agent".as_slice() {
         Some(Directive::Agent)
+    } else if word == b"unit".as_slice() {
+        Some(Directive::Unit)
     } else if word == b"device".as_slice() {
         Some(Directive::Device)
     } else if word == b"descriptor".as_slice() {
@@ -95,10 +99,21 @@ fn is_any_bare(devices: &[DeviceConfig]) -> bool
     false
 }
 
+/// The unit that a line has chosen, or the baseline (DSP0236, section 8.3).
+fn chosen(unit: Option<Unit>) -> Unit
+    ensures { result ≡ unit_or unit }
+{
+    match unit {
+        Some(unit) => unit,
+        None => Unit::U64,
+    }
+}
+
 /// What lines have said so far.
 #[derive(Drop)]
 struct Draft {
     agent: Option<Endpoint>,
+    unit: Option<Unit>,
     /// The devices before the last.
     done: Vec<DeviceConfig>,
     /// The last device, which the lines that follow it describe.
@@ -115,6 +130,7 @@ impl Model for Draft {
 
     ghost view = { λ d. record {
       agent = d.agent;
+      unit = d.unit;
       done = map device_of d.done.items;
       last = option_map device_of d.last;
       packages = map (λ p. string_bytes p) d.packages.items;
@@ -128,6 +144,7 @@ impl Draft {
     {
         Draft {
             agent: None,
+            unit: None,
             done: Vec::new(alloc),
             last: None,
             packages: Vec::new(alloc),
@@ -174,6 +191,35 @@ impl Draft {
         match read_node(eid, uuid) {
             Ok(agent) => {
                 self.agent = Some(agent);
+                Ok(())
+            }
+            Err(cause) => Err(cause),
+        }
+    }
+
+    /// Whether the unit's line may stand here.
+    fn may_choose(&self) -> bool
+        ensures { result ≡ may_choose self.now }
+    {
+        self.agent.is_some()
+            && self.unit.is_none()
+            && self.device_count() == 0
+            && self.packages.is_empty()
+    }
+
+    /// Takes the unit's line.
+    fn set_unit(&mut self, fields: &[&[u8]]) -> Result<(), ScriptCause>
+        ensures { Answers (λ _. self.new) result (unit_line self.old (map (λ f. f.now) fields.now)) }
+    {
+        let [bytes] = fields else {
+            return Err(ScriptCause::Fields);
+        };
+        if !self.may_choose() {
+            return Err(ScriptCause::Order);
+        }
+        match read_unit(bytes) {
+            Ok(unit) => {
+                self.unit = Some(unit);
                 Ok(())
             }
             Err(cause) => Err(cause),
@@ -294,6 +340,7 @@ impl Draft {
     {
         match directive {
             Directive::Agent => self.set_agent(fields),
+            Directive::Unit => self.set_unit(fields),
             Directive::Device => self.add_device(alloc, fields),
             Directive::Descriptor => self.add_descriptor(alloc, fields),
             Directive::Component => self.add_component(alloc, fields),
@@ -326,6 +373,7 @@ impl Draft {
     {
         let Draft {
             agent,
+            unit,
             done,
             last,
             packages,
@@ -344,6 +392,7 @@ impl Draft {
         }
         Ok(Config {
             agent,
+            unit: chosen(unit),
             devices,
             packages,
         })

@@ -1,4 +1,5 @@
 -- The nodes that are made of a configuration.
+use Rattle.mctp_wire.specs.declared.unit.Unit.{«Unit»}
 use Rattle.std.proofs.Common.{◌≡◌, ◌≤◌, ◌<◌, ◌∙◌, ◌++◌, ℕ, List, [], ◌∷◌, length, map, append_assoc, arith, ap, sym, subst, refl}
 use Rattle.std.specs.List.{AllByRecursion, remove, slice_index_or}
 use Rattle.std.proofs.lemmas.List.Elements.{All-from_recursion}
@@ -14,7 +15,7 @@ use Rattle.fw_script.specs.Configs.{ComponentConfigOf, DeviceConfigOf}
 use Rattle.fw_script.specs.Whole.{AreNew, AreWhole, IsDevice, eids_of, keys_of}
 use Rattle.fw_script.specs.Seen.{component_of}
 use Rattle.fw_script.specs.declared.config.ComponentConfig.{ComponentConfig}
-use Rattle.fw_world.specs.Headline.{AreDifferent, AreNewNodes, IsNewNode}
+use Rattle.fw_world.specs.Headline.{AreDifferent, AreNewNodes, IsNewNode, unit_of}
 use Rattle.fw_setup.specs.Nodes.{device_made, node_made, nodes_made, row_made}
 
 pub keys_made : (cs : List ComponentConfigOf) → map key_of (map row_made cs) ≡ map (λ c. c.key) (map (λ c. c.component) cs)
@@ -25,29 +26,35 @@ unapplied : (cs : List ComponentConfigOf) → AllByRecursion IsUnapplied (map ro
 unapplied [] = tt
 unapplied (c ∷ cs) = (refl, unapplied cs)
 
-pub new_made : (agent : ℕ) (x : DeviceConfigOf) → IsDevice x → HasComponents (device_made x).device → IsNewNode agent (node_made agent x)
-new_made agent x h components = record {
-  device = device_made x;
+pub new_made : (u : «Unit») (agent : ℕ) (x : DeviceConfigOf) → IsDevice x → HasComponents (device_made u x).device → IsNewNode u agent (node_made u agent x)
+new_made u agent x h components = record {
+  device = device_made u x;
   is = refl;
+  unit = refl;
   idle = refl;
   unapplied = All-from_recursion IsUnapplied (map row_made x.components) (unapplied x.components);
   components = components;
   eid = h.eid;
 }
 
-eids_made : (agent : ℕ) (xs : List DeviceConfigOf) → map (λ n. n.endpoint.eid) (nodes_made agent xs) ≡ eids_of xs
-eids_made agent [] = refl
-eids_made agent (x ∷ xs) = ap (λ es. x.endpoint.eid ∷ es) (eids_made agent xs)
+eids_made : (u : «Unit») (agent : ℕ) (xs : List DeviceConfigOf) → map (λ n. n.endpoint.eid) (nodes_made u agent xs) ≡ eids_of xs
+eids_made u agent [] = refl
+eids_made u agent (x ∷ xs) = ap (λ es. x.endpoint.eid ∷ es) (eids_made u agent xs)
+
+-- the first node has the transmission unit of all
+first_unit : (u : «Unit») (agent : ℕ) (ns : List DeviceNodeOf) → 1 ≤ length ns → AllByRecursion (IsNewNode u agent) ns → unit_of ns ≡ u
+first_unit u agent [] some new = absurd (omega (arith, some))
+first_unit u agent (n ∷ ns) some new = ap (λ (m : DeviceNodeOf). m.half.unit) new.0.is ∙ new.0.unit
 
 -- the nodes of a whole configuration are a world's
-pub nodes_new : (agent : ℕ) (xs : List DeviceConfigOf) (ns : List DeviceNodeOf) → AreWhole agent xs → ns ≡ nodes_made agent xs
-    → AllByRecursion (IsNewNode agent) ns → AreNewNodes agent ns
-nodes_new agent xs ns h is new = record {
-  some = subst (λ n. 1 ≤ n) (sym (ap length is ∙ length-map xs (node_made agent))) h.some;
-  few = subst (λ n. n ≤ 16) (sym (ap length is ∙ length-map xs (node_made agent))) h.few;
+pub nodes_new : (u : «Unit») (agent : ℕ) (xs : List DeviceConfigOf) (ns : List DeviceNodeOf) → AreWhole agent xs → ns ≡ nodes_made u agent xs
+    → AllByRecursion (IsNewNode u agent) ns → AreNewNodes agent ns
+nodes_new u agent xs ns h is new = record {
+  some = subst (λ n. 1 ≤ n) (sym (ap length is ∙ length-map xs (node_made u agent))) h.some;
+  few = subst (λ n. n ≤ 16) (sym (ap length is ∙ length-map xs (node_made u agent))) h.few;
   agent_eid = h.agent_eid;
-  new = new;
-  apart = subst (λ es. AreDifferent (agent ∷ es)) (sym (ap (map (λ n. n.endpoint.eid)) is ∙ eids_made agent xs)) h.apart;
+  new = subst (λ v. AllByRecursion (IsNewNode v agent) ns) (sym (first_unit u agent ns (subst (λ n. 1 ≤ n) (sym (ap length is ∙ length-map xs (node_made u agent))) h.some) new)) new;
+  apart = subst (λ es. AreDifferent (agent ∷ es)) (sym (ap (map (λ n. n.endpoint.eid)) is ∙ eids_made u agent xs)) h.apart;
 }
 
 -- one more row leaves the keys behind it new

@@ -2,6 +2,7 @@
 -- answer to each component, and where that would lead the session. Each word is that of the session and of the device.
 use Rattle.std.specs.Prelude.{ℕ, ◌+◌, ◌==◌, Bool, if◌then◌else◌, List, [], ◌∷◌, ◌++◌, Option, None, Some, Result, Ok, Err, codes, length, map}
 use Rattle.std.specs.List.{flat_map, list_any}
+use Rattle.mctp_wire.specs.declared.unit.Unit.TheVariants.{U64}
 use Rattle.fd_core.specs.Codes.{no_restriction, stamp_identical, stamp_lower}
 use Rattle.fd_core.specs.Commands.{restriction}
 use Rattle.fd_core.specs.Images.{RowOf, row_of}
@@ -108,9 +109,9 @@ found_text number eid p v (Some chosen) = planned_text number eid chosen p v.row
 abbrev pub device_text : (number eid : ℕ) → PackageText → DeviceState → List ℕ
 device_text number eid p v = found_text number eid p v (record_number p (map told_descriptor v.descriptors))
 
--- what is printed of a configuration's devices, in their order
+-- what is printed of a configuration's devices, in their order: of a device its descriptors and images alone, so that any unit does
 abbrev pub configured_text : (number : ℕ) → PackageText → DeviceConfigOf → List ℕ
-configured_text number p x = device_text number x.endpoint.eid p (device_made x).device
+configured_text number p x = device_text number x.endpoint.eid p (device_made U64 x).device
 
 abbrev pub forecast_of : (number : ℕ) → PackageText → List DeviceConfigOf → List ℕ
 forecast_of number p devices = flat_map (configured_text number p) devices

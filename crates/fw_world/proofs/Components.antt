@@ -96,7 +96,7 @@ ends role endpoint tid (HalfHeard.Strayed half m) k = k
 pub heard_components : (works : Bool) (n : DeviceNodeOf) (bytes : List ℕ) → HasAll n.half → HasAll (device_hears works n bytes).half
 heard_components works n bytes k =
     ends roles.Device n.endpoint n.tid (half_hears device_core works n.half bytes)
-    (by_rows works n.half (asker_row n.half.own n.half.peer n.half.asker bytes) (taker_row n.half.own n.half.peer n.half.taker bytes) k)
+    (by_rows works n.half (asker_row n.half.unit n.half.own n.half.peer n.half.asker bytes) (taker_row n.half.unit n.half.own n.half.peer n.half.taker bytes) k)
 
 -- after a verdict, and after a restart
 pub judged_components : (works : Bool) (n : DeviceNodeOf) (verdict : Verdict) → HasAll n.half → HasAll (device_judges works n verdict)

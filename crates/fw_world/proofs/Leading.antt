@@ -106,7 +106,7 @@ it_is_told works w node (Some p) bytes e told = let same : p.bytes ≡ bytes = c
 
 pub agent_leads : (w v : WorldOf) (device number node : ℕ) (bytes : List ℕ) → may_step w (steps.Deliver device number node) ≡ None
     → option_map (λ s. s.bytes) (numbered (packets_of w device) number) ≡ Some bytes → (node == w.agent.endpoint.eid) ≡ true → v ≡ at_agent w bytes
-    → IfSome (hearer w.agent bytes) (λ h. IsTold (half_hears (session_core w.packages) true h bytes)) → Leads w (steps.Deliver device number node) v
+    → IfSome (hearer w.agent bytes) (λ h. IsTold h.core.session.unit (half_hears (session_core w.packages) true h bytes)) → Leads w (steps.Deliver device number node) v
 agent_leads w v device number node bytes may there is after told =
     leads w v (steps.Deliver device number node) may
     (after ∙ sym (it_comes true (faults_before w (steps.Deliver device number node)) w node (numbered (packets_of w device) number) bytes there ∙ rw is refl))
@@ -126,13 +126,13 @@ comes_there w v node bytes k =
     becomes w v
     (slice_set w.sites k.place (record k.heard.site {
       node = node_becomes k.heard.site.node k.heard.became.node.faults (device_hears h.works k.heard.site.node bytes).tid (device_hears h.works k.heard.site.node bytes).half;
-      packets = k.heard.site.packets ++ sent_now w.now (all_packets (device_hears h.works k.heard.site.node bytes).sent);
+      packets = k.heard.site.packets ++ sent_now w.now (all_packets k.heard.site.node.half.unit (device_hears h.works k.heard.site.node bytes).sent);
     }))
     (w.history ++ map (λ p. noted_of k.heard.site.node.endpoint.eid (EntryOf.Activated p)) (activated_at h.works k.heard.site.node bytes))
     k.rest
     (k.heard.put ∙ ap (λ n. slice_set w.sites k.place (record { node = n; since_miss = k.heard.became.since_miss; packets = k.heard.became.packets })) h.node
     ∙ ap (λ ps. slice_set w.sites k.place (record { node = node_becomes k.heard.site.node k.heard.became.node.faults (device_hears h.works k.heard.site.node bytes).tid (device_hears h.works k.heard.site.node bytes).half; since_miss = k.heard.became.since_miss; packets = ps })) h.packets
-    ∙ ap (λ n. slice_set w.sites k.place (record { node = node_becomes k.heard.site.node k.heard.became.node.faults (device_hears h.works k.heard.site.node bytes).tid (device_hears h.works k.heard.site.node bytes).half; since_miss = n; packets = k.heard.site.packets ++ sent_now w.now (all_packets (device_hears h.works k.heard.site.node bytes).sent) })) h.since_miss)
+    ∙ ap (λ n. slice_set w.sites k.place (record { node = node_becomes k.heard.site.node k.heard.became.node.faults (device_hears h.works k.heard.site.node bytes).tid (device_hears h.works k.heard.site.node bytes).half; since_miss = n; packets = k.heard.site.packets ++ sent_now w.now (all_packets k.heard.site.node.half.unit (device_hears h.works k.heard.site.node bytes).sent) })) h.since_miss)
     k.heard.heard.history
     ∙ sym (ap (at_device h.works k.heard.became.node.faults w bytes (place_of w.sites node)) (site_there w node k.place k.heard.site k.at k.heard.there)
     ∙ ap (λ p. at_device h.works k.heard.became.node.faults w bytes p (Some k.heard.site)) k.at)

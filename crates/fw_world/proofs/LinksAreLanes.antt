@@ -5,6 +5,7 @@
 -- - `Following`: a lane that is explained goes on by steps that may be taken, and its cell goes along.
 -- - `Routes`: a packet of one of a link's lanes isn't for the ends of the other.
 -- - `Sorted`: what is sent goes into its own lane, and no other; and a packet's number in its lane.
+-- - `Units`: a session keeps its transmission unit, whatever a half does with it.
 -- - `Ways`: both ways between two halves, whichever of them is the agent's.
 -- - `Hears`: a packet at a half, in the lane in which it asks and in the lane in which it answers.
 -- - `Comings`: a packet comes to a half, on both ways between it and the other.
@@ -62,5 +63,6 @@ pub mod Routes
 pub mod Sendings
 pub mod Sorted
 pub mod Ticks
+pub mod Units
 pub mod Ways
 pub mod WorldSteps

@@ -3,6 +3,7 @@ use Rattle.std.proofs.Common.{◌≡◌, ◌∙◌, ℕ, List, [], ◌∷◌, ap
 use Rattle.std.specs.List.{AllByRecursion}
 use Rattle.std.proofs.lemmas.List.{length-map}
 use Rattle.std.proofs.lemmas.List.Elements.{All-from_recursion}
+use Rattle.mctp_wire.specs.declared.unit.Unit.{«Unit»}
 use Rattle.mctp_ctl.specs.declared.answers.Endpoint.{Endpoint}
 use Rattle.exch_lane.specs.Lanes.{IsEid}
 use Rattle.fd_core.specs.States.{DeviceOf, Phase}
@@ -14,17 +15,17 @@ use Rattle.fw_world.specs.Headline.{AreNewNodes, IsNewNode, IsOpeningWorld, new_
 use Rattle.fw_world.specs.Sites.{RoomyOf, sites_of}
 use Rattle.fw_world.specs.Worlds.{WorldOf}
 
-new_components : (agent : ℕ) (n : DeviceNodeOf) → IsNewNode agent n → HasComponents n.half.core.device
-new_components agent n k = subst (λ (m : DeviceNodeOf). HasComponents m.half.core.device) (sym k.is) k.components
+new_components : (u : «Unit») (agent : ℕ) (n : DeviceNodeOf) → IsNewNode u agent n → HasComponents n.half.core.device
+new_components u agent n k = subst (λ (m : DeviceNodeOf). HasComponents m.half.core.device) (sym k.is) k.components
 
-pub have_components : (agent : ℕ) (ns : List DeviceNodeOf) → AllByRecursion (IsNewNode agent) ns → AllByRecursion (λ n. HasComponents n.half.core.device) ns
-have_components agent [] h = tt
-have_components agent (n ∷ ns) h = (new_components agent n h.0, have_components agent ns h.1)
+pub have_components : (u : «Unit») (agent : ℕ) (ns : List DeviceNodeOf) → AllByRecursion (IsNewNode u agent) ns → AllByRecursion (λ n. HasComponents n.half.core.device) ns
+have_components u agent [] h = tt
+have_components u agent (n ∷ ns) h = (new_components u agent n h.0, have_components u agent ns h.1)
 
-pub new_node : (endpoint : Endpoint) (agent : ℕ) (d : DeviceOf) → HasComponents d.device → d.device.phase ≡ Phase.Idle → AllByRecursion IsUnapplied d.device.rows → IsEid endpoint.eid
-    → IsNewNode agent (new_device_node endpoint agent d)
-new_node endpoint agent d components idle unapplied eid =
-    record { device = d; is = refl; idle = idle; unapplied = All-from_recursion IsUnapplied d.device.rows unapplied; components = components; eid = eid }
+pub new_node : (u : «Unit») (endpoint : Endpoint) (agent : ℕ) (d : DeviceOf) → d.device.unit ≡ u → HasComponents d.device → d.device.phase ≡ Phase.Idle → AllByRecursion IsUnapplied d.device.rows → IsEid endpoint.eid
+    → IsNewNode u agent (new_device_node endpoint agent d)
+new_node u endpoint agent d unit components idle unapplied eid =
+    record { device = d; is = refl; unit = unit; idle = idle; unapplied = All-from_recursion IsUnapplied d.device.rows unapplied; components = components; eid = eid }
 
 -- there are as many of them as there are nodes
 pub as_many : (ss : List RoomyOf) (nodes : List DeviceNodeOf) → sites_of ss ≡ map new_site nodes → length ss ≡ length nodes

@@ -12,7 +12,7 @@
 -- 4. `fw_message`, `Laws`: `IsSafeAndTied`, both; and `IsUnapplied`, a component without an applied image. `Pairs`: `PairOf`,
 --    a device and the agent's session for it, and `PairRun`, the same with what happened. `WorldLaws`: `history_of`, what
 --    happened to one device, in order.
--- 5. `exch_lane`, `Lanes`: `Sent`, a packet as it was sent, with its date; `lives_until`, 8 units later; `numbered`, what a
+-- 5. `mctp_wire`, `Units`: `Unit`, how much a packet carries, which all nodes share. `exch_lane`, `Lanes`: `Sent`, a packet as it was sent, with its date; `lives_until`, 8 units later; `numbered`, what a
 --    list has at a number from 1 on; `IsEid`, 8 to 254. `Clocks`: `may_beat`, a node misses a tick only after eight that it
 --    counted.
 -- 6. `fd_core`, `States`: `DeviceOf`, a device, and `Phase`, where it is in an update. `Components`: `HasComponents`, its bank
@@ -54,14 +54,17 @@ use Rattle.fw_world.specs.declared.step.Refusal.TheVariants as refusals
 use Rattle.fw_world.specs.declared.step.Step.{Step}
 use Rattle.fw_world.specs.declared.step.Step.TheVariants as steps
 use Rattle.fw_world.specs.declared.step.StepFault.{StepFault}
+use Rattle.mctp_wire.specs.declared.unit.Unit.{«Unit»}
+use Rattle.mctp_wire.specs.declared.unit.Unit.TheVariants.{U64}
 use Rattle.fw_world.specs.declared.step.StepFault.TheVariants as faults
 
 -- THE WORLD AS IT IS MADE
 
--- A device's node as it is made: idle, with its bank's components, and nothing applied.
-pub record IsNewNode (agent : ℕ) (n : DeviceNodeOf) : Type 0 where
+-- A device's node as it is made: of the network's transmission unit, idle, with its bank's components, and nothing applied.
+pub record IsNewNode (u : «Unit») (agent : ℕ) (n : DeviceNodeOf) : Type 0 where
   pub device : DeviceOf
   pub is : n ≡ new_device_node n.endpoint agent device
+  pub unit : device.device.unit ≡ u
   pub idle : device.device.phase ≡ Phase.Idle
   pub unapplied : All IsUnapplied device.device.rows
   pub components : HasComponents device.device
@@ -69,15 +72,20 @@ pub record IsNewNode (agent : ℕ) (n : DeviceNodeOf) : Type 0 where
 
 -- no identifier stands twice
 abbrev pub AreDifferent : List ℕ → Type 0
-AreDifferent [] = Unit {0}
+AreDifferent [] = Prim.Unit {0}
 AreDifferent (x ∷ xs) = All (λ y. x ≢ y) xs × AreDifferent xs
 
--- the nodes of 1 to 16 devices, as they are made, with endpoint identifiers of their own
+-- the network's transmission unit: that of the first device's node
+abbrev pub unit_of : List DeviceNodeOf → «Unit»
+unit_of [] = U64
+unit_of (n ∷ ns) = n.half.unit
+
+-- the nodes of 1 to 16 devices, as they are made, all of one transmission unit, with endpoint identifiers of their own
 pub record AreNewNodes (agent : ℕ) (nodes : List DeviceNodeOf) : Type 0 where
   pub some : 1 ≤ length nodes
   pub few : length nodes ≤ 16
   pub agent_eid : IsEid agent
-  pub new : AllByRecursion (IsNewNode agent) nodes
+  pub new : AllByRecursion (IsNewNode (unit_of nodes) agent) nodes
   pub apart : AreDifferent (agent ∷ map (λ n. n.endpoint.eid) nodes)
 
 -- a device's node to which nothing was sent
@@ -90,7 +98,7 @@ new_world agent nodes packages =
     record {
       packages = packages;
       now = 0;
-      agent = new_agent agent (map (λ n. n.endpoint.eid) nodes);
+      agent = new_agent (unit_of nodes) agent (map (λ n. n.endpoint.eid) nodes);
       since_miss = 8;
       sites = map new_site nodes;
       answer = None;

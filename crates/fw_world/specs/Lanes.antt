@@ -23,6 +23,7 @@ use Rattle.fw_message.specs.declared.side.Side.TheVariants as sides
 use Rattle.fw_node.specs.Agents.{activates, cancels, starts}
 use Rattle.fw_node.specs.Cores.{device_core, session_core}
 use Rattle.fw_node.specs.Halves.{CoreOf, HalfOf, RepliedBy, read_by, recast, reply_read, still_wished, unwished_abandoned}
+use Rattle.mctp_wire.specs.declared.unit.Unit.{«Unit»}
 use Rattle.fw_world.specs.Links.{LinkOf, LinkStep}
 
 -- the time, and how many ticks the half that asks and the other one counted since they last missed one
@@ -47,6 +48,7 @@ later t asker taker =
 abbrev pub lane_of : {A B : Type 0} → Times → HalfOf A → HalfOf B → List Sent → List EntryOf → LaneOf
 lane_of t a b packets entries =
     record {
+      unit = a.unit;
       asker_eid = a.own;
       taker_eid = a.peer;
       now = t.now;
@@ -59,18 +61,18 @@ lane_of t a b packets entries =
     }
 
 -- the packet goes between these: it is a request from the one, or a reply from the other
-abbrev pub is_of : (asker taker : ℕ) → Sent → Bool
-is_of asker taker s = in_lane asker taker s.bytes
+abbrev pub is_of : (u : «Unit») (asker taker : ℕ) → Sent → Bool
+is_of u asker taker s = in_lane u asker taker s.bytes
 
 abbrev pub is_down : LinkOf → Sent → Bool
-is_down l s = is_of l.agent.own l.device.own s
+is_down l s = is_of l.agent.unit l.agent.own l.device.own s
 
 abbrev pub is_up : LinkOf → Sent → Bool
-is_up l s = is_of l.device.own l.agent.own s
+is_up l s = is_of l.device.unit l.device.own l.agent.own s
 
 -- one way between two halves: the lane in which the first asks, with its packets among all
 abbrev pub way_of : {A B : Type 0} → Times → HalfOf A → HalfOf B → List Sent → List EntryOf → LaneOf
-way_of t a b packets entries = lane_of t a b (filter (is_of a.own b.own) packets) entries
+way_of t a b packets entries = lane_of t a b (filter (is_of a.unit a.own b.own) packets) entries
 
 -- the times of a link at this moment, in the lane in which the agent asks
 abbrev pub times_of : (now : ℕ) → LinkOf → Times
@@ -138,7 +140,7 @@ reply_in core works h row = []
 
 abbrev pub answer_steps : {C : Type 0} → CoreOf C → (works : Bool) → HalfOf C → (mine : Bool) → (number : ℕ) → List ℕ → List StepOf
 answer_steps core works h true number bytes =
-    StepOf.Deliver number ends.Taker (reply_in core works h (taker_row h.own h.peer h.taker bytes)) ∷ []
+    StepOf.Deliver number ends.Taker (reply_in core works h (taker_row h.unit h.own h.peer h.taker bytes)) ∷ []
 answer_steps core works h false number bytes = []
 
 -- A packet at a half, in the lane in which it asks: a reply, after which its core may wish something else; or nothing, but
@@ -155,8 +157,8 @@ take_steps core works h row = []
 
 abbrev pub ask_steps : {C : Type 0} → CoreOf C → (works : Bool) → HalfOf C → (mine : Bool) → (number : ℕ) → List ℕ → List StepOf
 ask_steps core works h true number bytes =
-    StepOf.Deliver number ends.Asker [] ∷ learn_steps core works h (asker_row h.own h.peer h.asker bytes)
-ask_steps core works h false number bytes = take_steps core works h (taker_row h.own h.peer h.taker bytes)
+    StepOf.Deliver number ends.Asker [] ∷ learn_steps core works h (asker_row h.unit h.own h.peer h.asker bytes)
+ask_steps core works h false number bytes = take_steps core works h (taker_row h.unit h.own h.peer h.taker bytes)
 
 -- A call that leaves a half so.
 abbrev pub call_steps : {C : Type 0} → CoreOf C → (before after : HalfOf C) → List StepOf
@@ -206,18 +208,21 @@ up_steps packages l (LinkStep.Restart sides.Device) = StepOf.Restart ends.Asker 
 up_steps packages l s = []
 
 -- A lane, whatever its history, is explained: steps from a new lane lead to it, and its cell's run is not stuck on them.
-pub record Explained (asker taker : ℕ) (lane : List EntryOf → LaneOf) : Type 0 where
+pub record Explained (u : «Unit») (asker taker : ℕ) (lane : List EntryOf → LaneOf) : Type 0 where
   pub steps : List StepOf
-  pub may : MayRun (lane_new asker taker) steps
+  pub may : MayRun (lane_new u asker taker) steps
   pub run : CellRun
-  pub along : cells_along (lane_new asker taker) steps (Some no_cell_yet) ≡ Some run
-  pub is : lane_run (lane_new asker taker) steps ≡ lane run.entries
+  pub along : cells_along (lane_new u asker taker) steps (Some no_cell_yet) ≡ Some run
+  pub is : lane_run (lane_new u asker taker) steps ≡ lane run.entries
 
--- A link is explained: both of its lanes are, and each packet that can still come is of one of them.
+-- A link is explained: both nodes have one transmission unit, which the agent's answers fit; both of its lanes are explained;
+-- and each packet that can still come is of one of them.
 pub record LinkExplained (now : ℕ) (l : LinkOf) : Type 0 where
+  pub unit : l.device.unit ≡ l.agent.unit
+  pub session_unit : l.agent.core.session.unit ≡ l.agent.unit
   pub ends : AreEnds l.agent.own l.device.own
   pub agent_peer : l.agent.peer ≡ l.device.own
   pub device_peer : l.device.peer ≡ l.agent.own
-  pub down : Explained l.agent.own l.device.own (down_lane now l)
-  pub up : Explained l.device.own l.agent.own (up_lane now l)
+  pub down : Explained l.agent.unit l.agent.own l.device.own (down_lane now l)
+  pub up : Explained l.device.unit l.device.own l.agent.own (up_lane now l)
   pub packets : AllByRecursion (λ s. Lives now s → (is_down l s ≡ true) ⊎ (is_up l s ≡ true)) l.packets

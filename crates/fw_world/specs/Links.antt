@@ -19,6 +19,7 @@ use Rattle.fw_message.specs.declared.side.Side.{Side}
 use Rattle.fw_message.specs.declared.side.Side.TheVariants as sides
 use Rattle.fw_node.specs.Agents.{activates, cancels, starts}
 use Rattle.fw_node.specs.Cores.{TimedDevice, device_core, package_of, session_core}
+use Rattle.mctp_wire.specs.declared.unit.Unit.{«Unit»}
 use Rattle.fw_node.specs.Halves.{HalfHeard, HalfOf, half_hears, half_restarts, half_ticks, recast}
 
 -- both halves, the packets, dated, in the order of sending, and how many ticks each node counted since it last missed one
@@ -45,10 +46,10 @@ pub record LinkStepped : Type 0 where
   pub after : LinkOf
   pub noted : List EntryOf
 
--- packets with those of these messages behind them
-abbrev pub posted : (now : ℕ) → List Sent → List MessageOf → List Sent
-posted now ps [] = ps
-posted now ps (m ∷ ms) = posted now (ps ++ sendings now m) ms
+-- packets with those of these messages behind them, cut at this transmission unit
+abbrev pub posted : «Unit» → (now : ℕ) → List Sent → List MessageOf → List Sent
+posted u now ps [] = ps
+posted u now ps (m ∷ ms) = posted u now (ps ++ sendings u now m) ms
 
 -- nothing happened to the device
 abbrev pub unnoted : LinkOf → LinkStepped
@@ -57,10 +58,10 @@ unnoted l = record { after = l; noted = [] }
 -- what the agent's half heard; a control message or one of another PLDM type isn't sent on a link
 abbrev pub agent_heard : (now : ℕ) → List PackageText → LinkOf → HalfHeard TimedOf → Option LinkStepped
 agent_heard now packages l (HalfHeard.Went half sent) =
-    Some (unnoted (record l { agent = half; packets = posted now l.packets sent }))
+    Some (unnoted (record l { agent = half; packets = posted l.agent.unit now l.packets sent }))
 agent_heard now packages l (HalfHeard.Took half sent command answer) =
     Some (record {
-      after = record l { agent = half; packets = posted now l.packets sent };
+      after = record l { agent = half; packets = posted l.agent.unit now l.packets sent };
       noted = map EntryOf.Recording (recorded_by (package_of packages l.agent.core.session) l.agent.core.session command);
     })
 agent_heard now packages l heard = None
@@ -68,10 +69,10 @@ agent_heard now packages l heard = None
 -- what the device's half heard
 abbrev pub device_heard : (now : ℕ) → Bool → LinkOf → HalfHeard TimedDevice → Option LinkStepped
 device_heard now works l (HalfHeard.Went half sent) =
-    Some (unnoted (record l { device = half; packets = posted now l.packets sent }))
+    Some (unnoted (record l { device = half; packets = posted l.device.unit now l.packets sent }))
 device_heard now works l (HalfHeard.Took half sent command answer) =
     Some (record {
-      after = record l { device = half; packets = posted now l.packets sent };
+      after = record l { device = half; packets = posted l.device.unit now l.packets sent };
       noted = map EntryOf.Activated (device_take l.device.core.device command (is_quiet l.device.asker.caller) works).activated;
     })
 device_heard now works l heard = None
@@ -93,8 +94,8 @@ link_ticks now packages l agent device =
     record {
       agent = (half_ticks (session_core packages) agent l.agent).half;
       device = (half_ticks device_core device l.device).half;
-      packets = posted (now + 1)
-          (posted (now + 1) l.packets (half_ticks (session_core packages) agent l.agent).sent)
+      packets = posted l.device.unit (now + 1)
+          (posted l.agent.unit (now + 1) l.packets (half_ticks (session_core packages) agent l.agent).sent)
           (half_ticks device_core device l.device).sent;
       agent_since_miss = since_after agent l.agent_since_miss;
       device_since_miss = since_after device l.device_since_miss;

@@ -1,4 +1,5 @@
 -- A link's step is steps of its two lanes, each of which may be taken, so that the cell of each lane goes along.
+use Rattle.mctp_wire.specs.declared.unit.Unit.TheVariants.{U64}
 use Rattle.std.specs.Prelude.{◌≡◌, ℕ, Bool, true, List, nat_le, Some, IfSome, IsSomeAnd, is_some}
 use Rattle.fwup_wire.specs.Commands.{IsSpoken}
 use Rattle.exch_lane.specs.Cells.{CellRun, cells_along}
@@ -23,8 +24,8 @@ MayHappen now packages l s = is_some (link_after now packages l s) ≡ true
 -- What is known of codecs: the answer that a core gives can be read again; and where a half hears after a tick, what its core
 -- wishes can be written.
 abbrev pub IsToldOn : List PackageText → LinkOf → Side → (works : Bool) → List ℕ → Type 0
-IsToldOn packages l sides.Agent works bytes = IsTold (half_hears (session_core packages) true l.agent bytes)
-IsToldOn packages l sides.Device works bytes = IsTold (half_hears device_core works l.device bytes)
+IsToldOn packages l sides.Agent works bytes = IsTold l.agent.core.session.unit (half_hears (session_core packages) true l.agent bytes)
+IsToldOn packages l sides.Device works bytes = IsTold U64 (half_hears device_core works l.device bytes)
 
 abbrev pub Speaks : {C : Type 0} → CoreOf C → HalfOf C → Type 0
 Speaks core h = nat_le h.asker.deaf 1 ≡ true → IfSome (core.wish (half_ticks core true h).half.core) IsSpoken
@@ -47,6 +48,8 @@ pub record GoesAlong (before after : List EntryOf → LaneOf) (steps : List Step
 pub record StepsInLanes (now : ℕ) (packages : List PackageText) (l : LinkOf) (s : LinkStep) (before : LinkExplained now l) : Type 0 where
   pub stepped : LinkStepped
   pub after : link_after now packages l s ≡ Some stepped
+  pub agent_unit : stepped.after.agent.unit ≡ l.agent.unit
+  pub device_unit : stepped.after.device.unit ≡ l.device.unit
   pub agent_own : stepped.after.agent.own ≡ l.agent.own
   pub device_own : stepped.after.device.own ≡ l.device.own
   pub explained : LinkExplained (time_after now s) stepped.after

@@ -1,6 +1,7 @@
 -- The premise of codecs in a run. A core answers a command, and the answer is read again from the bytes that its node sends; a
 -- core wishes a command, and its node writes it. `CanBeSaidBy` says of a step that these answers can be read again, and that
 -- these wishes can be written. `World::step` promises it of each step that it takes (`taken`, by `Leads`).
+use Rattle.mctp_wire.specs.declared.unit.Unit.TheVariants.{U64}
 use Rattle.std.specs.Prelude.{ℕ, ◌≡◌, ◌≤◌, ◌+◌, ◌==◌, Bool, true, false, IfSome, List, Option, Some, None}
 use Rattle.std.specs.List.{AllByRecursion}
 use Rattle.exch_lane.specs.Lanes.{Sent, numbered}
@@ -15,8 +16,8 @@ use Rattle.fw_world.specs.declared.step.Step.TheVariants as steps
 -- What is known of codecs: the answer that a node gives to a command can be read again, and what the cores of nodes that hear
 -- wish after a tick can be said.
 abbrev pub IsToldTo : (agent works : Bool) → WorldOf → (node : ℕ) → List ℕ → Type 0
-IsToldTo true works w node bytes = IfSome (hearer w.agent bytes) (λ h. IsTold (half_hears (session_core w.packages) true h bytes))
-IsToldTo false works w node bytes = IfSome (site_for w.sites node) (λ x. IsTold (half_hears device_core works x.node.half bytes))
+IsToldTo true works w node bytes = IfSome (hearer w.agent bytes) (λ h. IsTold h.core.session.unit (half_hears (session_core w.packages) true h bytes))
+IsToldTo false works w node bytes = IfSome (site_for w.sites node) (λ x. IsTold U64 (half_hears device_core works x.node.half bytes))
 
 abbrev pub IsToldBy : (works : Bool) → WorldOf → (node : ℕ) → Option Sent → Type 0
 IsToldBy works w node None = Unit {0}

@@ -1,4 +1,5 @@
 -- A device's node in the world, as the code has it.
+use Rattle.mctp_wire.specs.declared.unit.Unit.TheVariants.{U64}
 use Rattle.std.specs.Prelude.{ℕ, ◌≡◌, ◌≤◌, ◌<◌, ◌⊎◌, ◌++◌, [], ◌∷◌, Bool, false, true, IfSome, is_some, List, length, map, slice_get, slice_set, Option, Some, None}
 use Rattle.fd_core.specs.Banks.{Rose}
 use Rattle.fd_core.specs.States.{DeviceState, Phase}
@@ -25,10 +26,10 @@ pub record Hears (now : ℕ) (old : SiteOf) (bytes : List ℕ) (new : SiteOf) : 
   pub works : Bool
   pub node : new.node ≡ node_becomes old.node new.node.faults (device_hears works old.node bytes).tid (device_hears works old.node bytes).half
   pub since_miss : new.since_miss ≡ old.since_miss
-  pub packets : new.packets ≡ old.packets ++ sent_now now (all_packets (device_hears works old.node bytes).sent)
+  pub packets : new.packets ≡ old.packets ++ sent_now now (all_packets old.node.half.unit (device_hears works old.node bytes).sent)
   pub worked : works ≡ true → new.node.faults ≡ old.node.faults
   pub failed : works ≡ false → Rose old.node.faults new.node.faults
-  pub told : IsTold (half_hears device_core works old.node.half bytes)
+  pub told : IsTold U64 (half_hears device_core works old.node.half bytes)
 
 -- and of the history: what is activated is noted
 pub record HearsNoting (now : ℕ) (old : SiteOf) (bytes : List ℕ) (new : SiteOf) (before after : List NotedOf) : Type 0 where

@@ -2,7 +2,6 @@
 -- of it is what the step's node makes of it. A packet stays after it came, so that it may come again, later, or never.
 use Rattle.std.specs.Prelude.{ℕ, ◌+◌, ◌==◌, ◌∷◌, ◌++◌, [], Bool, true, false, not, if◌then◌else◌, List, length, map, option_to_list, slice_get, slice_set, Option, Some, None, Result, Ok, Err}
 use Rattle.std.specs.List.{list_any}
-use Rattle.mctp_wire.specs.Packet as wire
 use Rattle.mctp_wire.specs.declared.fault.WireFault.{WireFault}
 use Rattle.mctp_wire.specs.declared.layout.Head.{Head}
 use Rattle.exch_lane.specs.Clocks.{since_after}
@@ -21,7 +20,7 @@ use Rattle.ua_core.specs.declared.planned.Recorded.{Recorded}
 use Rattle.fw_message.specs.History.{EntryOf}
 use Rattle.fw_message.specs.Pairs.{PairOf}
 use Rattle.fw_message.specs.Worlds.{NotedOf, noted_of}
-use Rattle.fw_node.specs.Agents.{AgentOf, activates, agent_becomes, agent_hears, agent_restarts, agent_tick_sends, agent_ticks, half_for}
+use Rattle.fw_node.specs.Agents.{AgentOf, activates, agent_becomes, agent_hears, agent_restarts, any_packet, agent_tick_sends, agent_ticks, half_for}
 use Rattle.fw_node.specs.Cores.{TimedDevice, device_core}
 use Rattle.fw_node.specs.Halves.{HalfHeard, HalfOf, half_hears, half_ticks}
 use Rattle.fw_node.specs.Nodes.{DeviceNodeOf, device_hears, device_judges, device_restarts}
@@ -108,9 +107,9 @@ abbrev pub at_agent : WorldOf → List ℕ → WorldOf
 at_agent w bytes =
     record w {
       agent = (agent_hears w.packages w.agent bytes w.now).agent;
-      sites = posts w.now w.sites (all_packets (agent_hears w.packages w.agent bytes w.now).sent);
+      sites = posts w.now w.sites (agent_hears w.packages w.agent bytes w.now).sent;
       history = w.history
-          ++ recorded_from w.agent (agent_hears w.packages w.agent bytes w.now).agent (sender_of (wire.packet_of bytes));
+          ++ recorded_from w.agent (agent_hears w.packages w.agent bytes w.now).agent (sender_of (any_packet bytes));
     }
 
 -- what a device activates when its half hears: the images of a command that it takes
@@ -131,7 +130,7 @@ at_device works faults w bytes (Some place) (Some x) =
     record w {
       sites = slice_set w.sites place (record x {
         node = node_becomes x.node faults (device_hears works x.node bytes).tid (device_hears works x.node bytes).half;
-        packets = x.packets ++ sent_now w.now (all_packets (device_hears works x.node bytes).sent);
+        packets = x.packets ++ sent_now w.now (all_packets x.node.half.unit (device_hears works x.node bytes).sent);
       });
       history = w.history
           ++ map (λ p. noted_of x.node.endpoint.eid (EntryOf.Activated p)) (activated_at works x.node bytes);
@@ -170,7 +169,7 @@ site_ticks now x =
     record {
       node = record x.node { half = (half_ticks device_core true x.node.half).half };
       since_miss = since_after true x.since_miss;
-      packets = x.packets ++ sent_now now (all_packets (half_ticks device_core true x.node.half).sent);
+      packets = x.packets ++ sent_now now (all_packets x.node.half.unit (half_ticks device_core true x.node.half).sent);
     }
 
 abbrev pub site_passes : (counts : Bool) → (now : ℕ) → SiteOf → SiteOf

@@ -4,7 +4,7 @@ ghost use Rattle.std.specs.Prelude.{[], ◌≡◌, ◌≤◌, ◌<◌, ◌+◌, 
 ghost use Rattle.std.specs.List.{AllByRecursion, list_all};
 ghost use Rattle.fd_core.specs.Components.{HasComponents};
 ghost use Rattle.fw_message.specs.Entries.{entry_of};
-ghost use Rattle.fw_world.specs.Headline.{may_site_beat, new_site, verdict_fault};
+ghost use Rattle.fw_world.specs.Headline.{may_site_beat, new_site, unit_of, verdict_fault};
 ghost use Rattle.fw_world.specs.Replays.{adds_entry};
 ghost use Rattle.fw_world.specs.Sayable.{SiteSpeaksIn};
 ghost use Rattle.fw_world.specs.Sites.{HaveRoom, HeardAt, JudgedAt, LacksRoom, sites_of};
@@ -15,7 +15,7 @@ use crate::step::StepFault;
 use fd_core::{Bank, Verdict};
 use fw_message::Entry;
 use fw_node::{DeviceNode, Outbox};
-use mctp_wire::RawPacket;
+use mctp_wire::{RawPacket, Unit};
 use std::alloc::{AllocError, Global};
 
 /// The endpoint identifiers of these nodes, in their order.
@@ -30,6 +30,16 @@ pub(crate) fn eids_of<B: Bank>(
         eids.push(node.eid())?;
     }
     Ok(eids)
+}
+
+/// The transmission unit of the first of these nodes.
+pub(crate) fn unit_of<B: Bank>(nodes: &[DeviceNode<B>]) -> Unit
+    ensures { result ≡ unit_of nodes.now }
+{
+    match nodes {
+        [node, ..] => node.unit(),
+        [] => Unit::U64,
+    }
 }
 
 /// The nodes of devices to which nothing was sent.

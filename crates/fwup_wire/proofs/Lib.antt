@@ -1,6 +1,7 @@
 pub mod DescriptorLaws
 mod Found
 pub mod Items
+pub mod Limits
 pub mod ParameterLaws
 pub mod Parts
 pub mod SameCommands

@@ -2,6 +2,7 @@
 use Rattle.std.specs.Prelude.{[], ◌%◌, ◌++◌, ◌<◌, ◌==◌, ◌&&◌, ◌^◌, ◌∷◌, ◌≡◌, ◌≢◌, ◌≤◌, Bool, Err, List, None, Ok, Option, Result, Some, if◌then◌else◌, length, option_map, replicate, true, ℕ}
 use Rattle.std.specs.List.{list_any}
 use Rattle.byteorder.specs.Endian.{little_bytes}
+use Rattle.mctp_wire.specs.declared.unit.Unit.TheVariants.{U128}
 use Rattle.pldm_base.specs.Limits.{reply_limit}
 use Rattle.fwup_wire.specs.Fields.{bit, u16_of, u32_of}
 use Rattle.fwup_wire.specs.Descriptors.{HasDescriptorWidths, descriptors_bytes, descriptors_in}
@@ -212,10 +213,10 @@ success_bytes _ = []
 abbrev pub answer_bytes : AnswerOf → List ℕ
 answer_bytes a = answer_code a ∷ success_bytes a
 
--- an answer that fits a message, and no refusal with the code of success
+-- an answer that fits a message at the greatest unit, and no refusal with the code of success
 abbrev pub IsAnswerWritable : AnswerOf → Type 0
 IsAnswerWritable (AnswerOf.Refused code) = code ≢ 0
-IsAnswerWritable a = length (answer_bytes a) ≤ reply_limit
+IsAnswerWritable a = length (answer_bytes a) ≤ reply_limit U128
 
 -- each number fits its field
 abbrev pub HasAnswerWidths : AnswerOf → Type 0

@@ -2,6 +2,7 @@
 use Rattle.std.specs.Prelude.{[], ◌%◌, ◌++◌, ◌^◌, ◌<◌, ◌==◌, ◌∷◌, ◌≡◌, ◌≤◌, Err, List, None, Ok, Option, Result, Some, false, if◌then◌else◌, length, nat_le, true, ◌&&◌, Bool, ℕ}
 use Rattle.std.specs.Option.{option_map}
 use Rattle.byteorder.specs.Endian.{little_bytes}
+use Rattle.mctp_wire.specs.declared.unit.Unit.TheVariants.{U64}
 use Rattle.pldm_base.specs.Codes.{invalid_data, invalid_length, unsupported_command}
 use Rattle.pldm_base.specs.Limits.{reply_limit}
 use Rattle.fwup_wire.specs.Fields.{HasComponentWidths, IsText, bit, component_bytes, flag_byte, flag_of, last_text, text_bytes, u16_of, u32_of}
@@ -190,9 +191,13 @@ command_bytes CommandOf.GetStatus = []
 command_bytes CommandOf.CancelUpdateComponent = []
 command_bytes CommandOf.CancelUpdate = []
 
+-- the most bytes of request data: what a message holds at the smallest unit, so that a command goes over each network
+abbrev pub command_limit : ℕ
+command_limit = reply_limit U64
+
 -- a command whose text fits its length byte and a message
 abbrev pub IsWritable : CommandOf → Type 0
-IsWritable c = length (command_bytes c) ≤ reply_limit
+IsWritable c = length (command_bytes c) ≤ command_limit
 
 -- each number fits its field
 abbrev pub HasWidths : CommandOf → Type 0

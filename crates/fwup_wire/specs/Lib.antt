@@ -7,4 +7,5 @@ pub mod Laws
 pub mod Lent
 pub mod Parameters
 pub mod Same
+pub mod Transfers
 pub mod Values

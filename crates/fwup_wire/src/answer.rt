@@ -113,7 +113,8 @@ impl Answer<'_> {
         }
     }
 
-    /// Whether `write_answer` takes the answer: it fits a message, and it is no refusal with the code of success.
+    /// Whether `write_answer` takes the answer: it fits a message at the greatest transmission unit, and it is no refusal
+    /// with the code of success.
     pub fn is_writable(&self) -> bool
         ensures { IsTrue result ↔ IsAnswerWritable (answer_of self.now) }
     {

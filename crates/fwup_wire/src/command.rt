@@ -6,7 +6,10 @@ ghost use Rattle.fwup_wire.specs.Commands.{IsWritable, command_code, is_asked_of
 
 use crate::code::command;
 use crate::values::{Key, Text, TransferFlag, Version};
-use pldm_base::MAX_REPLY;
+
+/// The most bytes of request data: what a message holds at the smallest transmission unit, so that a command goes over each
+/// network (DSP0236, section 8.3).
+pub const MAX_FIELDS: usize = 252;
 
 /// The request data of RequestUpdate without its text's bytes.
 const REQUEST_SIZE: usize = 11;
@@ -133,19 +136,20 @@ impl Command<'_> {
         }
     }
 
-    /// Whether the request data fit a message, so that `write` takes the command. Only a long text keeps them from it.
+    /// Whether the request data fit a message of each network, so that `write` takes the command. Only a long text keeps
+    /// them from it.
     pub fn is_writable(&self) -> bool
         ensures { IsTrue result ↔ IsWritable (command_of self.now) }
     {
         match self {
             Command::RequestUpdate(request) => {
-                REQUEST_SIZE + request.image_set.bytes.len() <= MAX_REPLY
+                REQUEST_SIZE + request.image_set.bytes.len() <= MAX_FIELDS
             }
             Command::PassComponentTable(entry) => {
-                ENTRY_SIZE + entry.version.text.bytes.len() <= MAX_REPLY
+                ENTRY_SIZE + entry.version.text.bytes.len() <= MAX_FIELDS
             }
             Command::UpdateComponent(offer) => {
-                OFFER_SIZE + offer.version.text.bytes.len() <= MAX_REPLY
+                OFFER_SIZE + offer.version.text.bytes.len() <= MAX_FIELDS
             }
             _ => true,
         }

@@ -5,9 +5,9 @@ ghost use Rattle.fwup_wire.specs.Commands.{HasWidths, IsCommand, IsWritable, com
 ghost use Rattle.fwup_wire.specs.Lent.{command_of, entry_of, offer_of, request_of};
 ghost use Rattle.fwup_wire.specs.Values.{CommandOf};
 
-use crate::command::{Command, ComponentOffer, TableEntry, UpdateRequest};
+use crate::command::{Command, ComponentOffer, MAX_FIELDS, TableEntry, UpdateRequest};
 use crate::writer::{put_component, put_text, put_u16, put_u32};
-use pldm_base::{MAX_REPLY, Reply};
+use pldm_base::Reply;
 
 /// Writes the request data of a command (DSP0267 1.0), with its reserved bits 0. The command's byte is `Command::code`.
 #[tactic(auto, using(crate::proofs::Written::writes_member, crate::proofs::Written::writes_back))]
@@ -46,7 +46,7 @@ pub fn write(command: &Command<'_>) -> Reply
 }
 
 fn request_update(request: &UpdateRequest<'_>) -> Reply
-    requires { 11 + length request.now.image_set.bytes.now ≤ MAX_REPLY }
+    requires { 11 + length request.now.image_set.bytes.now ≤ MAX_FIELDS }
     ensures bytes { result.items ≡ command_bytes (CommandOf.RequestUpdate (request_of request.now)) }
     ensures widths { HasWidths (CommandOf.RequestUpdate (request_of request.now)) }
 {
@@ -60,7 +60,7 @@ fn request_update(request: &UpdateRequest<'_>) -> Reply
 }
 
 fn pass_component_table(entry: &TableEntry<'_>) -> Reply
-    requires { 12 + length entry.now.version.text.bytes.now ≤ MAX_REPLY }
+    requires { 12 + length entry.now.version.text.bytes.now ≤ MAX_FIELDS }
     ensures bytes { result.items ≡ command_bytes (CommandOf.PassComponentTable (entry_of entry.now)) }
     ensures widths { HasWidths (CommandOf.PassComponentTable (entry_of entry.now)) }
 {
@@ -72,7 +72,7 @@ fn pass_component_table(entry: &TableEntry<'_>) -> Reply
 }
 
 fn update_component(offer: &ComponentOffer<'_>) -> Reply
-    requires { 19 + length offer.now.version.text.bytes.now ≤ MAX_REPLY }
+    requires { 19 + length offer.now.version.text.bytes.now ≤ MAX_FIELDS }
     ensures bytes { result.items ≡ command_bytes (CommandOf.UpdateComponent (offer_of offer.now)) }
     ensures widths { HasWidths (CommandOf.UpdateComponent (offer_of offer.now)) }
 {

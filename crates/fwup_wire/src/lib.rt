@@ -34,5 +34,5 @@ pub use laws::{
 };
 pub use parameter_list::{MAX_PARAMETER_BYTES, ParameterList};
 pub use parameters::Parameters;
-pub use transfers::{MAX_TRANSFER, MIN_TRANSFER};
+pub use transfers::{MAX_TRANSFER, MIN_TRANSFER, transfer_size};
 pub use values::{ComponentParameters, Descriptor, Key, Text, TransferFlag, Version};

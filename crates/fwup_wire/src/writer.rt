@@ -45,7 +45,8 @@ pub fn put_component(out: &mut Reply, key: &Key, index: u8, stamp: u32)
 
 /// Appends a text: its type, its length and its bytes.
 pub fn put_text(out: &mut Reply, text: &Text<'_>)
-    requires { array_vec_len out.old + 2 + length text.now.bytes.now ≤ MAX_REPLY }
+    requires room { array_vec_len out.old + 2 + length text.now.bytes.now ≤ MAX_REPLY }
+    requires short { length text.now.bytes.now < 256 }
     ensures { out.new.items ≡ out.old.items ++ text_bytes (text_of text.now) }
 {
     out.push(text.text_type);

@@ -5,6 +5,7 @@ use Rattle.hex.specs.declared.error.FromHexError.{FromHexError}
 use Rattle.mctp_wire.specs.declared.layout.Head.{Head}
 use Rattle.mctp_wire.specs.declared.fault.WireFault.{WireFault}
 use Rattle.mctp_wire.specs.declared.fault.WireFault.TheVariants as faults
+use Rattle.mctp_wire.specs.declared.unit.Unit.TheVariants.{U64}
 use Rattle.mctp_wire.specs.Packet.{packet_of, packet_bytes}
 use Rattle.mctp_ctl.specs.declared.answers.Endpoint.{Endpoint}
 use Rattle.mctp_ctl.specs.Control.{answer_of}
@@ -100,7 +101,7 @@ wire_reply e tid (Ok packet) = packet_reply e tid packet.0 packet.1
 
 abbrev pub hex_reply : Endpoint → ℕ → Result (List ℕ) FromHexError → Outcome
 hex_reply e tid (Err _) = dropped tid drops.Hex
-hex_reply e tid (Ok bytes) = wire_reply e tid (packet_of bytes)
+hex_reply e tid (Ok bytes) = wire_reply e tid (packet_of U64 bytes)
 
 -- what comes of a line of hexadecimal digits
 abbrev pub outcome_of : Endpoint → ℕ → List ℕ → Outcome

@@ -3,17 +3,21 @@
 ghost use Rattle.std.specs.Prelude.{◌≡◌, ◌+◌, ◌<◌, ◌≤◌, [], ◌∷◌, length};
 ghost use Rattle.std.specs.Result.{result_map_both};
 ghost use Rattle.mctp_wire.specs.Packet.{packet_of};
+ghost use Rattle.mctp_wire.specs.Units.{bytes_of};
 ghost use Rattle.pldm_base.specs.declared.header.PldmHead.{PldmHead};
 ghost use Rattle.pldm_base.specs.Header.{pldm_of};
 ghost use Rattle.fwupd_base.specs.Answers.{answered, body_reply, completion_of, packet_reply, pldm_reply, tid_left, wire_reply};
 
 use crate::drops::DropCause;
 use mctp_ctl::{CONTROL, Endpoint};
-use mctp_wire::{Head, MAX_BODY, RawPacket};
+use mctp_wire::{Head, RawPacket, Unit};
 use pldm_base::{
     HEADER_SIZE, MESSAGE_TYPE, PldmHead, Reply, Role, TYPE_BASE, TYPE_FIRMWARE_UPDATE, Tid,
     answer_base, completion,
 };
+
+/// The transmission unit of the packets that are answered: the baseline (DSP0236, section 8.3).
+const UNIT: Unit = Unit::U64;
 
 /// An MCTP endpoint and PLDM terminus that holds no firmware device.
 #[derive(Clone, Copy)]
@@ -30,10 +34,10 @@ impl Responder {
     /// # Errors
     /// A packet that gets no answer is dropped for the first cause that holds; the terminus keeps its identifier.
     pub fn answer(&mut self, bytes: &[u8]) -> Result<RawPacket, DropCause>
-        ensures reply { result_map_both (λ p. p.items) (λ e. e) result ≡ (wire_reply self.old.endpoint self.old.tid (packet_of bytes.now)).reply }
-        ensures after { self.new ≡ record self.old { tid = (wire_reply self.old.endpoint self.old.tid (packet_of bytes.now)).tid } }
+        ensures reply { result_map_both (λ p. p.items) (λ e. e) result ≡ (wire_reply self.old.endpoint self.old.tid (packet_of UNIT bytes.now)).reply }
+        ensures after { self.new ≡ record self.old { tid = (wire_reply self.old.endpoint self.old.tid (packet_of UNIT bytes.now)).tid } }
     {
-        let packet = mctp_wire::decode(bytes).map_err(DropCause::Wire)?;
+        let packet = mctp_wire::decode(UNIT, bytes).map_err(DropCause::Wire)?;
         self.answer_packet(&packet.head, packet.body)
     }
 
@@ -98,7 +102,7 @@ impl Responder {
     /// The code and fields that answer a PLDM request.
     fn complete(&mut self, request: &PldmHead, fields: &[u8]) -> Reply
         ensures reply { result.items ≡ completion_of self.old.tid request.now fields.now }
-        ensures one_packet { length result.items + HEADER_SIZE ≤ MAX_BODY }
+        ensures one_packet { length result.items + HEADER_SIZE ≤ bytes_of UNIT }
         ensures after { self.new ≡ record self.old { tid = tid_left self.old.tid request.now fields.now } }
     {
         match request.pldm_type {
@@ -111,7 +115,7 @@ impl Responder {
     /// The packet that carries an answer to a packet with this head.
     fn packet(&self, head: &Head, answer: &[u8]) -> RawPacket
         requires head { head.now.tag < 8 }
-        requires answer { (1 ≤ length answer.now) × (length answer.now ≤ MAX_BODY) }
+        requires answer { (1 ≤ length answer.now) × (length answer.now ≤ bytes_of UNIT) }
         ensures { Ok result.items ≡ (answered self.now.endpoint head.now self.now.tid answer.now).reply }
     {
         let head = Head {

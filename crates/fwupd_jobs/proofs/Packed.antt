@@ -184,7 +184,7 @@ packed_slice files names contents slice h e =
 pub set_up : (files : List ℕ → FileOf) (path : List ℕ) (config : Config) (names : List (String Global)) (contents slice : List (Vec ℕ Global)) (ps packs : List PackageText)
     (nodes : List DeviceNodeOf) (w : WorldOf) → Says config_of (files path) (config_seen config) → names ≡ config.packages.items
     → ArePacked files (map (λ p. string_bytes p) names) (map (λ f. f.items) contents) → slice ≡ contents → map (λ p. Ok p) ps ≡ map (λ f. package_of f.items) slice
-    → nodes ≡ nodes_made config.agent.eid (map device_of config.devices.items) → packs ≡ ps → w ≡ new_world config.agent nodes packs → IsSetup files path w
+    → nodes ≡ nodes_made config.unit config.agent.eid (map device_of config.devices.items) → packs ≡ ps → w ≡ new_world config.agent nodes packs → IsSetup files path w
 set_up files path config names contents slice ps packs nodes w says named packed same read made lent is = record {
   config = config_seen config;
   packages = ps;
@@ -195,7 +195,7 @@ set_up files path config names contents slice ps packs nodes w says named packed
       (read ∙ ap (map (λ f. package_of f.items)) same ∙ through contents);
   world =
       is ∙ ap (λ n. new_world config.agent n packs) made
-      ∙ ap (λ q. new_world config.agent (nodes_made config.agent.eid (map device_of config.devices.items)) q) lent;
+      ∙ ap (λ q. new_world config.agent (nodes_made config.unit config.agent.eid (map device_of config.devices.items)) q) lent;
 }
 
 -- as many packages as there are files of them
@@ -221,7 +221,7 @@ named_up files path number config w s is counted there = record {
 pub set_up_named : (files : List ℕ → FileOf) (path : List ℕ) (number : ℕ) (config : Config) (names : List (String Global)) (contents slice : List (Vec ℕ Global)) (ps packs : List PackageText)
     (w : WorldOf) → Says config_of (files path) (config_seen config) → names ≡ config.packages.items
     → ArePacked files (map (λ p. string_bytes p) names) (map (λ f. f.items) contents) → slice ≡ contents → map (λ p. Ok p) ps ≡ map (λ f. package_of f.items) slice
-    → packs ≡ ps → w ≡ new_world config.agent (nodes_made config.agent.eid (map device_of config.devices.items)) packs → 1 ≤ number → number ≤ config.packages.len → IsNamed files path number w
+    → packs ≡ ps → w ≡ new_world config.agent (nodes_made config.unit config.agent.eid (map device_of config.devices.items)) packs → 1 ≤ number → number ≤ config.packages.len → IsNamed files path number w
 unfolding set_up
 set_up_named files path number config names contents slice ps packs w says named packed same read lent is counted there =
     named_up files path number config w (set_up files path config names contents slice ps packs _ w says named packed same read refl lent is) refl counted there
@@ -230,7 +230,7 @@ set_up_named files path number config names contents slice ps packs w says named
 pub watched_up : (files : List ℕ → FileOf) (path : List ℕ) (number : ℕ) (config : Config) (show : ShowOf) (names : List (String Global)) (contents slice : List (Vec ℕ Global)) (ps packs : List PackageText)
     (w : WorldOf) → Says config_of (files path) (config_seen config) → names ≡ config.packages.items
     → ArePacked files (map (λ p. string_bytes p) names) (map (λ f. f.items) contents) → slice ≡ contents → map (λ p. Ok p) ps ≡ map (λ f. package_of f.items) slice
-    → packs ≡ ps → w ≡ new_world config.agent (nodes_made config.agent.eid (map device_of config.devices.items)) packs → 1 ≤ number → number ≤ config.packages.len
+    → packs ≡ ps → w ≡ new_world config.agent (nodes_made config.unit config.agent.eid (map device_of config.devices.items)) packs → 1 ≤ number → number ≤ config.packages.len
     → (others : List (String Global)) → others ≡ config.packages.items → IsApart files show (path ∷ map (λ p. string_bytes p) others) → IsWatched files path number show w
 unfolding set_up_named set_up named_up
 watched_up files path number config show names contents slice ps packs w says named packed same read lent is counted there others are apart = record {
@@ -242,7 +242,7 @@ watched_up files path number config show names contents slice ps packs w says na
 pub barred_up : (files : List ℕ → FileOf) (path : List ℕ) (number : ℕ) (config : Config) (show : ShowOf) (refuses : List ℕ → Bool) (told : RunFault) (watched : WatchOf) (names : List (String Global))
     (contents slice : List (Vec ℕ Global)) (ps packs : List PackageText) (w : WorldOf) → Says config_of (files path) (config_seen config) → names ≡ config.packages.items
     → ArePacked files (map (λ p. string_bytes p) names) (map (λ f. f.items) contents) → slice ≡ contents → map (λ p. Ok p) ps ≡ map (λ f. package_of f.items) slice
-    → packs ≡ ps → w ≡ new_world config.agent (nodes_made config.agent.eid (map device_of config.devices.items)) packs → 1 ≤ number → number ≤ config.packages.len
+    → packs ≡ ps → w ≡ new_world config.agent (nodes_made config.unit config.agent.eid (map device_of config.devices.items)) packs → 1 ≤ number → number ≤ config.packages.len
     → (others : List (String Global)) → others ≡ config.packages.items
     → (told ≡ faults.Memory) ⊎ ((told ≡ faults.Trace) × IsBarred files refuses show (path ∷ map (λ p. string_bytes p) others) watched)
     → (told ≡ faults.Memory) ⊎ LacksTrace files path number show refuses told watched

@@ -35,7 +35,7 @@ undone_word None = codes "-"
 undone_word (Some (sessions.Failed cause)) = cause_name cause
 undone_word (Some state) = session_name state
 
--- It is told of this session.
+-- a run's fault names this device, and the word of its session
 abbrev pub TellsUndone : Undone → RunFault → Type 0
 TellsUndone u (faults.Session eid word) = (eid ≡ u.eid) × (word.now ≡ undone_word u.state)
 TellsUndone u fault = ⊥

@@ -166,7 +166,7 @@ pub record IsSetup (files : List ℕ → FileOf) (path : List ℕ) (w : WorldOf)
   pub packages : List PackageText
   pub says : Says config_of (files path) config
   pub are : ArePackages files config.packages packages
-  pub world : w ≡ new_world config.agent (nodes_made config.agent.eid config.devices) packages
+  pub world : w ≡ new_world config.agent (nodes_made config.unit config.agent.eid config.devices) packages
 
 -- why there is none
 pub record PackagesOfFail (files : List ℕ → FileOf) (path : List ℕ) (fault : RunFault) : Type 0 where

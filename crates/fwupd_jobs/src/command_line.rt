@@ -148,6 +148,8 @@ Example:
 CONFIG has these lines. Words stand one space apart; - is the empty text, or no bytes; empty lines,
 and lines that begin with #, are skipped:
   agent EID UUID           the update agent, first; an EID is 8 to 254
+  unit BYTES               the transmission unit of the network, 64 or 128: the most bytes of a
+                           packet's body. It follows the agent's line; without it the unit is 64
   device EID UUID          a device, at most 16; these lines follow it:
     descriptor TYPE HEX    four digits, and data; at most 246 bytes for a device
     component CLASS IDENT INDEX STAMP TEXT HEX

@@ -34,6 +34,7 @@ pub fn plan_file<F: Files, W: Write + Drop>(
 {
     let Config {
         agent: _,
+        unit: _,
         devices,
         packages: paths,
     } = match configuration(alloc, files, config) {

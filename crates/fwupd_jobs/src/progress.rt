@@ -4,6 +4,7 @@ ghost use Rattle.std.specs.Prelude.{◌≡◌, IfOk, OnOk, codes};
 ghost use Rattle.fw_text.specs.Printing.{Adds, numbered};
 ghost use Rattle.fwupd_jobs.specs.Progress.{end_asked, progress_line};
 ghost use Rattle.mctp_wire.specs.Packet.{packet_of};
+ghost use Rattle.mctp_wire.specs.declared.unit.Unit.TheVariants.{U128};
 
 use exch_lane::SentPacket;
 use fd_core::{Key, MemBank};
@@ -11,6 +12,7 @@ use fw_node::DeviceNode;
 use fw_text::{push_number, push_words};
 use fw_world::World;
 use fwup_wire::Command;
+use mctp_wire::Unit;
 use pldm_base::TYPE_FIRMWARE_UPDATE;
 use std::alloc::{AllocError, Global};
 use std::io::Print;
@@ -34,9 +36,9 @@ pub struct Progress<'a> {
 
 /// Where the bytes end that a packet asks for, if it is a device's request for bytes of its image.
 fn asked_by(packet: &SentPacket, device: u8) -> Option<u32>
-    ensures { result ≡ end_asked device (packet_of packet.now.bytes.items) }
+    ensures { result ≡ end_asked device (packet_of U128 packet.now.bytes.items) }
 {
-    let Ok(packet) = mctp_wire::decode(packet.bytes.as_slice()) else {
+    let Ok(packet) = mctp_wire::decode(Unit::U128, packet.bytes.as_slice()) else {
         return None;
     };
     let Ok((head, fields)) = pldm_base::decode(packet.body) else {

@@ -17,6 +17,7 @@ use fw_script::{Config, DeviceConfig};
 use fw_setup::opening_world;
 use fw_world::{Step, StepFault, packets_are_safe, replay};
 use mctp_ctl::Endpoint;
+use mctp_wire::Unit;
 use std::alloc::{AllocError, Global};
 use std::io::Write;
 
@@ -29,12 +30,13 @@ pub struct Outcome {
     pub fault: Option<(usize, StepFault)>,
 }
 
-/// Replays a schedule on the nodes of a configuration.
+/// Replays a schedule on the nodes of a configuration, in a network with its transmission unit.
 ///
 /// # Errors
 /// `AllocError` where memory for the nodes or the report is refused.
 pub fn replayed<'a>(
     alloc: Global,
+    unit: Unit,
     agent: Endpoint,
     devices: Vec<DeviceConfig>,
     packages: &'a [Package<'a>],
@@ -42,10 +44,10 @@ pub fn replayed<'a>(
     form: Form,
 ) -> Result<Outcome, AllocError>
     requires { AreWhole agent.eid (map device_of devices.items) }
-    ensures { IfOk result (λ r. IsReplayed (new_world agent (nodes_made agent.eid (map device_of devices.items)) packages.now) steps.now r.fault form r.report.items) }
+    ensures { IfOk result (λ r. IsReplayed (new_world agent (nodes_made unit agent.eid (map device_of devices.items)) packages.now) steps.now r.fault form r.report.items) }
 {
     packets_are_safe();
-    let mut world = opening_world(alloc, agent, devices, packages)?;
+    let mut world = opening_world(alloc, unit, agent, devices, packages)?;
     let fault = match replay(&mut world, steps) {
         Ok(()) => None,
         Err(fault) => Some(fault),
@@ -74,6 +76,7 @@ pub fn replay_files<F: Files, W: Write + Drop>(
 {
     let Config {
         agent,
+        unit,
         devices,
         packages: paths,
     } = match configuration(alloc, files, config) {
@@ -94,6 +97,7 @@ pub fn replay_files<F: Files, W: Write + Drop>(
     };
     let Ok(outcome) = replayed(
         alloc,
+        unit,
         agent,
         devices,
         packages.as_slice(),

@@ -5,6 +5,7 @@ ghost use Rattle.std.specs.Prelude.{true};
 use crate::faults::RunFault;
 use crate::updating::Wires;
 use fw_edge::StreamLink;
+use mctp_wire::Unit;
 use std::fs;
 use std::io::{self, IsTerminal};
 use std::os::unix::net::{UnixListener, UnixStream};
@@ -20,21 +21,22 @@ pub struct Sockets<'a> {
 /// Both ends of a connection of a socket to itself, as a link.
 fn connected(
     rt: &HostRuntime,
+    unit: Unit,
     listener: &UnixListener,
     path: &str,
 ) -> io::Result<StreamLink<UnixStream>> {
     let device = UnixStream::connect(rt, path)?;
     let (agent, _) = listener.accept()?;
-    Ok(StreamLink::new(agent, device))
+    Ok(StreamLink::new(unit, agent, device))
 }
 
 /// Makes a socket of this path, and a link over it to itself. The path's name is taken only meanwhile.
 ///
 /// # Errors
 /// The name is taken already, or the socket can't be made. Nothing is left of it then.
-fn socket_link(rt: &HostRuntime, path: &str) -> io::Result<StreamLink<UnixStream>> {
+fn socket_link(rt: &HostRuntime, unit: Unit, path: &str) -> io::Result<StreamLink<UnixStream>> {
     let listener = UnixListener::bind(rt, path)?;
-    let link = connected(rt, &listener, path);
+    let link = connected(rt, unit, &listener, path);
     let _ = fs::remove_file(rt, path);
     link
 }
@@ -65,11 +67,16 @@ impl<'a> Sockets<'a> {
 impl<'a> Wires<StreamLink<UnixStream>> for Sockets<'a> {
     ghost lacks = { λ s folder device. true };
 
-    fn open(&mut self, folder: &str, device: u8) -> Result<StreamLink<UnixStream>, RunFault> {
+    fn open(
+        &mut self,
+        unit: Unit,
+        folder: &str,
+        device: u8,
+    ) -> Result<StreamLink<UnixStream>, RunFault> {
         let Ok(path) = format!(in self.rt.alloc(); "{folder}/{device}.sock") else {
             return Err(RunFault::Memory);
         };
-        match socket_link(self.rt, &path) {
+        match socket_link(self.rt, unit, &path) {
             Ok(link) => Ok(link),
             Err(error) if error.kind() == io::ErrorKind::OutOfMemory => Err(RunFault::Memory),
             Err(error) => {

@@ -21,6 +21,7 @@ use fw_json::{Form, report_in};
 use fw_script::Config;
 use fw_setup::opening_world;
 use fw_world::{World, packets_are_safe};
+use mctp_wire::Unit;
 use std::alloc::Global;
 use std::io::Write;
 
@@ -28,11 +29,11 @@ use std::io::Write;
 pub trait Wires<L> {
     ghost lacks: { Self → List ℕ → ℕ → Bool };
 
-    /// Opens a link to a device in a folder.
+    /// Opens a link to a device in a folder, in a network with this transmission unit.
     ///
     /// # Errors
     /// `Socket` where it can't be made, and `Memory`.
-    fn open(&mut self, folder: &str, device: u8) -> Result<L, RunFault>
+    fn open(&mut self, unit: Unit, folder: &str, device: u8) -> Result<L, RunFault>
         ensures same { lacks self.new ≡ lacks self.old }
         ensures fault { IfErr result (λ e. (e ≡ RunFault.Memory) ⊎ ((e ≡ RunFault.Socket device) × (lacks self.old folder.now device ≡ true))) };
 }
@@ -52,7 +53,7 @@ fn open_all<L: Link + Drop, S: Wires<L>>(
         let Some(node) = world.device_at(place) else {
             return Err(RunFault::Memory);
         };
-        let link = match wires.open(folder, node.eid()) {
+        let link = match wires.open(node.unit(), folder, node.eid()) {
             Ok(link) => link,
             Err(fault) => return Err(fault),
         };
@@ -240,6 +241,7 @@ pub fn update_files<F: Files, L: Link + Drop, S: Wires<L>, V: Watch, W: Write + 
 {
     let Config {
         agent,
+        unit,
         devices,
         packages: paths,
     } = match configuration(alloc, files, config) {
@@ -257,7 +259,7 @@ pub fn update_files<F: Files, L: Link + Drop, S: Wires<L>, V: Watch, W: Write + 
         Ok(packages) => packages,
         Err(fault) => return Err(fault),
     };
-    let Ok(mut world) = opening_world(alloc, agent, devices, packages.as_slice()) else {
+    let Ok(mut world) = opening_world(alloc, unit, agent, devices, packages.as_slice()) else {
         return Err(RunFault::Memory);
     };
     packets_are_safe();

@@ -1,32 +1,33 @@
 -- Lemmas on what is held.
 use Rattle.std.proofs.Common.{◌≡◌, ◌≢◌, ◌+◌, ◌*◌, ◌==◌, ◌≤◌, ◌∙◌, ℕ, zero, suc, Bool, false, List, [], ◌∷◌, ◌++◌, Some, length, drop, refl, sym, ap, arith, append_assoc, append-nil}
+use Rattle.mctp_wire.specs.declared.unit.Unit.{«Unit»}
+use Rattle.mctp_wire.specs.Units.{bytes_of}
 use Rattle.std.proofs.lemmas.List.{length-drop, length-take-le, take-append-drop, take-append-le, drop-append-le, take_all}
 use Rattle.std.proofs.lemmas.Bool.{ne_eqb}
-use Rattle.mctp_wire.specs.declared.layout.TheConstants.{MAX_BODY}
 use Rattle.mctp_reasm.specs.declared.messages.TheConstants.{MAX_PACKETS}
 use Rattle.mctp_wire.specs.declared.layout.Head.{Head}
 use Rattle.mctp_reasm.specs.Pieces.{PacketOf, Route, bodies, piece, route_of}
 use Rattle.mctp_reasm.specs.Held.{AreFirst, AreOpen, IsHeld, IsOfSame, held_of, opened, packets_of}
 
 -- so many are held
-pub opened_count : (count : ℕ) (r : Route) (n : ℕ) (bytes : List ℕ) → length (opened count r n bytes) ≡ count
+pub opened_count : (u : «Unit») (count : ℕ) (r : Route) (n : ℕ) (bytes : List ℕ) → length (opened u count r n bytes) ≡ count
 unfolding opened
-opened_count zero r n bytes = refl
-opened_count (suc count) r n bytes = ap suc (opened_count count r (n + 1) (drop MAX_BODY bytes))
+opened_count u zero r n bytes = refl
+opened_count u (suc count) r n bytes = ap suc (opened_count u count r (n + 1) (drop (bytes_of u) bytes))
 
 empty_of : (xs : List ℕ) → length xs ≡ 0 → xs ≡ []
 empty_of [] e = refl
 empty_of (x ∷ xs) e = absurd (omega (arith, e))
 
 -- one more piece is held
-pub opened_push : (count : ℕ) (r : Route) (n : ℕ) (xs body : List ℕ) → length xs ≡ MAX_BODY * count → length body ≡ MAX_BODY → opened (suc count) r n (xs ++ body) ≡ opened count r n xs ++ piece r (n + count) false body ∷ []
+pub opened_push : (u : «Unit») (count : ℕ) (r : Route) (n : ℕ) (xs body : List ℕ) → length xs ≡ bytes_of u * count → length body ≡ bytes_of u → opened u (suc count) r n (xs ++ body) ≡ opened u count r n xs ++ piece r (n + count) false body ∷ []
 unfolding opened
-opened_push zero r n xs body e f = let same : n + 0 ≡ n = omega arith in rw (empty_of xs e, take_all MAX_BODY body (omega arith), same) refl
-opened_push (suc count) r n xs body e f =
-    let again : opened (suc count) r (n + 1) (drop MAX_BODY xs ++ body) ≡ opened count r (n + 1) (drop MAX_BODY xs) ++ piece r (n + 1 + count) false body ∷ []
-    = opened_push count r (n + 1) (drop MAX_BODY xs) body (length-drop MAX_BODY xs ∙ omega arith) f in
+opened_push u zero r n xs body e f = let same : n + 0 ≡ n = omega arith in rw (empty_of xs (omega (arith, e)), take_all (bytes_of u) body (omega arith), same) refl
+opened_push u (suc count) r n xs body e f =
+    let again : opened u (suc count) r (n + 1) (drop (bytes_of u) xs ++ body) ≡ opened u count r (n + 1) (drop (bytes_of u) xs) ++ piece r (n + 1 + count) false body ∷ []
+    = opened_push u count r (n + 1) (drop (bytes_of u) xs) body (length-drop (bytes_of u) xs ∙ omega arith) f in
     let sum : n + suc count ≡ n + 1 + count = omega arith in
-    rw (take-append-le MAX_BODY xs body (omega arith), drop-append-le MAX_BODY xs body (omega arith), again, sum) refl
+    rw (take-append-le (bytes_of u) xs body (omega arith), drop-append-le (bytes_of u) xs body (omega arith), again, sum) refl
 
 piece_from : (d o t n : ℕ) (to som eom last : Bool) (seq : ℕ) (body : List ℕ) → som ≡ (n == 0) → seq ≡ n → eom ≡ last
     → record { head = record { dest = d; source = o; som = som; eom = eom; seq = seq; to = to; tag = t }; body = body } ≡ piece (record { dest = d; source = o; to = to; tag = t }) n last body
@@ -36,80 +37,80 @@ pub piece_is : (p : PacketOf) (r : Route) (n : ℕ) (last : Bool) → r ≡ rout
 piece_is p r n last is s q e = rw is (piece_from p.head.dest p.head.source p.head.tag n p.head.to p.head.som p.head.eom last p.head.seq p.body s q e)
 
 -- what a buffer holds, as a list
-packets_held : (r : Route) (xs : List ℕ) (count age : ℕ) → packets_of (held_of r xs count age) ≡ opened count r 0 xs
+packets_held : (u : «Unit») (r : Route) (xs : List ℕ) (count age : ℕ) → packets_of (held_of u r xs count age) ≡ opened u count r 0 xs
 unfolding opened
-packets_held r xs zero age = refl
-packets_held r xs (suc count) age = rw (ne_eqb (suc count) 0 (λ e. absurd (omega (arith, e)))) refl
+packets_held u r xs zero age = refl
+packets_held u r xs (suc count) age = rw (ne_eqb (suc count) 0 (λ e. absurd (omega (arith, e)))) refl
 
 -- one more packet of the same message is held
-more : (r : Route) (xs : List ℕ) (count : ℕ) (p : PacketOf) → length xs ≡ MAX_BODY * count → length p.body ≡ MAX_BODY → p.head.som ≡ (count == 0) → p.head.seq ≡ count → p.head.eom ≡ false
-    → IsOfSame (opened count r 0 xs) p.head → opened (suc count) (route_of p.head) 0 (xs ++ p.body) ≡ opened count r 0 xs ++ p ∷ []
+more : (u : «Unit») (r : Route) (xs : List ℕ) (count : ℕ) (p : PacketOf) → length xs ≡ bytes_of u * count → length p.body ≡ bytes_of u → p.head.som ≡ (count == 0) → p.head.seq ≡ count → p.head.eom ≡ false
+    → IsOfSame (opened u count r 0 xs) p.head → opened u (suc count) (route_of p.head) 0 (xs ++ p.body) ≡ opened u count r 0 xs ++ p ∷ []
 unfolding opened
-more r xs zero p e f som seq eom same =
-    opened_push zero (route_of p.head) 0 xs p.body e f ∙ ap (λ q. q ∷ []) (sym (piece_is p (route_of p.head) 0 false refl som seq eom))
-more r xs (suc count) p e f som seq eom same =
+more u r xs zero p e f som seq eom same =
+    opened_push u zero (route_of p.head) 0 xs p.body e f ∙ ap (λ q. q ∷ []) (sym (piece_is p (route_of p.head) 0 false refl som seq eom))
+more u r xs (suc count) p e f som seq eom same =
     let is : r ≡ route_of p.head = same in
     let sum : 0 + suc count ≡ suc count = omega arith in
-    let pushed : opened (suc (suc count)) r 0 (xs ++ p.body) ≡ opened (suc count) r 0 xs ++ piece r (suc count) false p.body ∷ []
-    = rw sum at (opened_push (suc count) r 0 xs p.body e f) in
-    ap (λ s. opened (suc (suc count)) s 0 (xs ++ p.body)) (sym is) ∙ (pushed ∙ ap (λ q. opened (suc count) r 0 xs ++ q ∷ []) (sym (piece_is p r (suc count) false is som seq eom)))
+    let pushed : opened u (suc (suc count)) r 0 (xs ++ p.body) ≡ opened u (suc count) r 0 xs ++ piece r (suc count) false p.body ∷ []
+    = rw sum at (opened_push u (suc count) r 0 xs p.body e f) in
+    ap (λ s. opened u (suc (suc count)) s 0 (xs ++ p.body)) (sym is) ∙ (pushed ∙ ap (λ q. opened u (suc count) r 0 xs ++ q ∷ []) (sym (piece_is p r (suc count) false is som seq eom)))
 
-pub held_more : (r : Route) (xs : List ℕ) (count age : ℕ) (p : PacketOf) → length xs ≡ MAX_BODY * count → length p.body ≡ MAX_BODY → p.head.som ≡ (count == 0) → p.head.seq ≡ count → p.head.eom ≡ false
-    → IsOfSame (packets_of (held_of r xs count age)) p.head
-    → held_of (route_of p.head) (xs ++ p.body) (count + 1) 0 ≡ Some (record { packets = packets_of (held_of r xs count age) ++ p ∷ []; age = 0 })
-held_more r xs count age p e f som seq eom same =
+pub held_more : (u : «Unit») (r : Route) (xs : List ℕ) (count age : ℕ) (p : PacketOf) → length xs ≡ bytes_of u * count → length p.body ≡ bytes_of u → p.head.som ≡ (count == 0) → p.head.seq ≡ count → p.head.eom ≡ false
+    → IsOfSame (packets_of (held_of u r xs count age)) p.head
+    → held_of u (route_of p.head) (xs ++ p.body) (count + 1) 0 ≡ Some (record { packets = packets_of (held_of u r xs count age) ++ p ∷ []; age = 0 })
+held_more u r xs count age p e f som seq eom same =
     let next : count + 1 ≡ suc count = omega arith in
-    rw (ne_eqb (count + 1) 0 (λ e. absurd (omega (arith, e))), next, packets_held r xs count age)
-    (ap (λ ps. Some (record { packets = ps; age = 0 })) (more r xs count p e f som seq eom (rw (packets_held r xs count age) at same)))
+    rw (ne_eqb (count + 1) 0 (λ e. absurd (omega (arith, e))), next, packets_held u r xs count age)
+    (ap (λ ps. Some (record { packets = ps; age = 0 })) (more u r xs count p e f som seq eom (rw (packets_held u r xs count age) at same)))
 
-pub held_count : (r : Route) (xs : List ℕ) (count age : ℕ) → length (packets_of (held_of r xs count age)) ≡ count
-held_count r xs count age = rw (packets_held r xs count age) (opened_count count r 0 xs)
+pub held_count : (u : «Unit») (r : Route) (xs : List ℕ) (count age : ℕ) → length (packets_of (held_of u r xs count age)) ≡ count
+held_count u r xs count age = rw (packets_held u r xs count age) (opened_count u count r 0 xs)
 
 bodies_append : (ps qs : List PacketOf) → bodies (ps ++ qs) ≡ bodies ps ++ bodies qs
 bodies_append [] qs = refl
 bodies_append (p ∷ ps) qs = rw (bodies_append ps qs, append_assoc p.body (bodies ps) (bodies qs)) refl
 
-opened_bodies : (count : ℕ) (r : Route) (n : ℕ) (xs : List ℕ) → length xs ≡ MAX_BODY * count → bodies (opened count r n xs) ≡ xs
+opened_bodies : (u : «Unit») (count : ℕ) (r : Route) (n : ℕ) (xs : List ℕ) → length xs ≡ bytes_of u * count → bodies (opened u count r n xs) ≡ xs
 unfolding opened
-opened_bodies zero r n xs e = sym (empty_of xs e)
-opened_bodies (suc count) r n xs e =
-    rw (opened_bodies count r (n + 1) (drop MAX_BODY xs) (length-drop MAX_BODY xs ∙ omega arith)) (take-append-drop MAX_BODY xs)
+opened_bodies u zero r n xs e = sym (empty_of xs (omega (arith, e)))
+opened_bodies u (suc count) r n xs e =
+    rw (opened_bodies u count r (n + 1) (drop (bytes_of u) xs) (length-drop (bytes_of u) xs ∙ omega arith)) (take-append-drop (bytes_of u) xs)
 
-pub held_bodies : (r : Route) (xs : List ℕ) (count age : ℕ) (p : PacketOf) → length xs ≡ MAX_BODY * count → bodies (packets_of (held_of r xs count age) ++ p ∷ []) ≡ xs ++ p.body
-held_bodies r xs count age p e =
-    rw (packets_held r xs count age, bodies_append (opened count r 0 xs) (p ∷ []), opened_bodies count r 0 xs e, append-nil p.body) refl
+pub held_bodies : (u : «Unit») (r : Route) (xs : List ℕ) (count age : ℕ) (p : PacketOf) → length xs ≡ bytes_of u * count → bodies (packets_of (held_of u r xs count age) ++ p ∷ []) ≡ xs ++ p.body
+held_bodies u r xs count age p e =
+    rw (packets_held u r xs count age, bodies_append (opened u count r 0 xs) (p ∷ []), opened_bodies u count r 0 xs e, append-nil p.body) refl
 
-opened_open : (count : ℕ) (r : Route) (n : ℕ) (xs : List ℕ) → length xs ≡ MAX_BODY * count → AreOpen r n (opened count r n xs)
+opened_open : (u : «Unit») (count : ℕ) (r : Route) (n : ℕ) (xs : List ℕ) → length xs ≡ bytes_of u * count → AreOpen u r n (opened u count r n xs)
 unfolding opened
-opened_open zero r n xs e = tt
-opened_open (suc count) r n xs e =
-    (refl, length-take-le MAX_BODY xs (omega arith), opened_open count r (n + 1) (drop MAX_BODY xs) (length-drop MAX_BODY xs ∙ omega arith))
+opened_open u zero r n xs e = tt
+opened_open u (suc count) r n xs e =
+    (refl, length-take-le (bytes_of u) xs (omega arith), opened_open u count r (n + 1) (drop (bytes_of u) xs) (length-drop (bytes_of u) xs ∙ omega arith))
 
-opened_first : (count : ℕ) (r : Route) (xs : List ℕ) → length xs ≡ MAX_BODY * suc count → AreFirst (opened (suc count) r 0 xs)
+opened_first : (u : «Unit») (count : ℕ) (r : Route) (xs : List ℕ) → length xs ≡ bytes_of u * suc count → AreFirst u (opened u (suc count) r 0 xs)
 unfolding opened
-opened_first count r xs e = opened_open (suc count) r 0 xs e
+opened_first u count r xs e = opened_open u (suc count) r 0 xs e
 
 -- what the fields hold is a beginning of a message
-pub held_lawful : (r : Route) (xs : List ℕ) (count age : ℕ) → length xs ≡ MAX_BODY * count → count ≤ MAX_PACKETS → age ≤ 8 → IsHeld (held_of r xs count age)
-held_lawful r xs zero age e le young = tt
-held_lawful r xs (suc count) age e le young =
-    rw (ne_eqb (suc count) 0 (λ e. absurd (omega (arith, e)))) (opened_first count r xs e, rw (opened_count (suc count) r 0 xs) le, young)
+pub held_lawful : (u : «Unit») (r : Route) (xs : List ℕ) (count age : ℕ) → length xs ≡ bytes_of u * count → count ≤ MAX_PACKETS → age ≤ 8 → IsHeld u (held_of u r xs count age)
+held_lawful u r xs zero age e le young = tt
+held_lawful u r xs (suc count) age e le young =
+    rw (ne_eqb (suc count) 0 (λ e. absurd (omega (arith, e)))) (opened_first u count r xs e, rw (opened_count u (suc count) r 0 xs) le, young)
 
-opened_same : (count : ℕ) (r : Route) (xs : List ℕ) (h : Head) → r ≡ route_of h → IsOfSame (opened count r 0 xs) h
+opened_same : (u : «Unit») (count : ℕ) (r : Route) (xs : List ℕ) (h : Head) → r ≡ route_of h → IsOfSame (opened u count r 0 xs) h
 unfolding opened
-opened_same zero r xs h e = tt
-opened_same (suc count) r xs h e = e
+opened_same u zero r xs h e = tt
+opened_same u (suc count) r xs h e = e
 
-pub held_same : (r : Route) (xs : List ℕ) (count age : ℕ) (h : Head) → r ≡ route_of h → IsOfSame (packets_of (held_of r xs count age)) h
-held_same r xs count age h e = rw (packets_held r xs count age) (opened_same count r xs h e)
+pub held_same : (u : «Unit») (r : Route) (xs : List ℕ) (count age : ℕ) (h : Head) → r ≡ route_of h → IsOfSame (packets_of (held_of u r xs count age)) h
+held_same u r xs count age h e = rw (packets_held u r xs count age) (opened_same u count r xs h e)
 
-opened_route : (count : ℕ) (r : Route) (xs : List ℕ) (h : Head) → IsOfSame (opened (suc count) r 0 xs) h → r ≡ route_of h
+opened_route : (u : «Unit») (count : ℕ) (r : Route) (xs : List ℕ) (h : Head) → IsOfSame (opened u (suc count) r 0 xs) h → r ≡ route_of h
 unfolding opened
-opened_route count r xs h same = same
+opened_route u count r xs h same = same
 
 -- a packet of what is held has its route
-pub held_route : (r : Route) (xs : List ℕ) (count age : ℕ) (h : Head) → count ≢ 0 → IsOfSame (packets_of (held_of r xs count age)) h → r ≡ route_of h
-held_route r xs zero age h some same = absurd (some refl)
-held_route r xs (suc count) age h some same = opened_route count r xs h (rw (packets_held r xs (suc count) age) at same)
+pub held_route : (u : «Unit») (r : Route) (xs : List ℕ) (count age : ℕ) (h : Head) → count ≢ 0 → IsOfSame (packets_of (held_of u r xs count age)) h → r ≡ route_of h
+held_route u r xs zero age h some same = absurd (some refl)
+held_route u r xs (suc count) age h some same = opened_route u count r xs h (rw (packets_held u r xs (suc count) age) at same)
 
 pub ruleset held = (opened_count, held_count, held_more, held_bodies, held_lawful, held_same, held_route)

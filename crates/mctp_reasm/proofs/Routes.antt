@@ -1,5 +1,6 @@
 -- What an inbox holds stays on its routes.
 use Rattle.std.proofs.Common.{◌≡◌, ◌+◌, ℕ, zero, suc, Bool, true, false, not, ◌&&◌, ◌∙◌, if◌then◌else◌, List, [], ◌∷◌, ◌++◌, ◌==◌, map, get_or, slice_set, Option, Some, None, refl, sym, arith, inl, inr}
+use Rattle.mctp_wire.specs.declared.unit.Unit.{«Unit»}
 use Rattle.std.proofs.lemmas.Bool.Decides.{eqb_tells}
 use Rattle.std.proofs.lemmas.List.{length-map, length-set}
 use Rattle.mctp_wire.specs.declared.layout.Head.{Head}
@@ -30,8 +31,8 @@ on_joined : (r : Route) (som : Bool) (ps : List PacketOf) (p : PacketOf) → rou
 on_joined r true ps p same k = same
 on_joined r false ps p same k = on_more r ps p same k
 
-on_after : (r : Route) (h : Option Held) (p : PacketOf) → route_of p.head ≡ r → IsOnRoute r (packets_of h) → IsOnRoute r (packets_of (held_after h p))
-on_after r h p same k = on_as r (cause_of h p) p.head.eom (joined h p) (on_joined r p.head.som (packets_of h) p same k)
+on_after : (u : «Unit») (r : Route) (h : Option Held) (p : PacketOf) → route_of p.head ≡ r → IsOnRoute r (packets_of h) → IsOnRoute r (packets_of (held_after u h p))
+on_after u r h p same k = on_as r (cause_of u h p) p.head.eom (joined h p) (on_joined r p.head.som (packets_of h) p same k)
 
 -- all places
 pub routes_tick : (own peer : ℕ) (to : Bool) (tag : ℕ) (hs : List (Option Held)) → AreOnRoutes own peer to tag hs → AreOnRoutes own peer to tag (map held_tick hs)
@@ -85,9 +86,9 @@ of_same (q ∷ qs) h r e on = on ∙ sym e
 routes_here : (own peer : ℕ) (to : Bool) (tag : ℕ) (hs : List (Option Held)) → AreOnRoutes own peer to 0 hs → IsOnRoute (inbox_route own peer to tag) (packets_of (held_at hs tag))
 routes_here own peer to tag hs k = let same : 0 + tag ≡ tag = omega arith in rw same at (routes_at own peer to 0 tag hs k)
 
-pub inbox_tick : (own peer : ℕ) (to : Bool) (hs gs : List (Option Held)) → gs ≡ map held_tick hs
-    → IsInbox (record { own = own; peer = peer; to = to; held = hs }) → IsInbox (record { own = own; peer = peer; to = to; held = gs })
-inbox_tick own peer to hs gs e k = rw e (record {
+pub inbox_tick : (u : «Unit») (own peer : ℕ) (to : Bool) (hs gs : List (Option Held)) → gs ≡ map held_tick hs
+    → IsInbox (record { unit = u; own = own; peer = peer; to = to; held = hs }) → IsInbox (record { unit = u; own = own; peer = peer; to = to; held = gs })
+inbox_tick u own peer to hs gs e k = rw e (record {
   places = length-map hs held_tick ∙ k.places;
   routes = routes_tick own peer to 0 hs k.routes;
 })
@@ -97,14 +98,14 @@ pub inbox_same : (own peer : ℕ) (to : Bool) (hs : List (Option Held)) (h : Hea
 inbox_same own peer to hs h k e =
     of_same (packets_of (held_at hs h.tag)) h (inbox_route own peer to h.tag) (for_route own peer to h e) (routes_here own peer to h.tag hs k)
 
-pub inbox_with : (own peer : ℕ) (to : Bool) (hs gs : List (Option Held)) (p : PacketOf) → gs ≡ held_with hs p
-    → IsInbox (record { own = own; peer = peer; to = to; held = hs }) → is_for own peer to p.head ≡ true → IsInbox (record { own = own; peer = peer; to = to; held = gs })
-inbox_with own peer to hs gs p same k e = rw same (record {
-  places = length-set hs p.head.tag (held_after (held_at hs p.head.tag) p) ∙ k.places;
+pub inbox_with : (u : «Unit») (own peer : ℕ) (to : Bool) (hs gs : List (Option Held)) (p : PacketOf) → gs ≡ held_with u hs p
+    → IsInbox (record { unit = u; own = own; peer = peer; to = to; held = hs }) → is_for own peer to p.head ≡ true → IsInbox (record { unit = u; own = own; peer = peer; to = to; held = gs })
+inbox_with u own peer to hs gs p same k e = rw same (record {
+  places = length-set hs p.head.tag (held_after u (held_at hs p.head.tag) p) ∙ k.places;
   routes =
       let zero_more : 0 + p.head.tag ≡ p.head.tag = omega arith in
-      routes_set own peer to 0 p.head.tag hs (held_after (held_at hs p.head.tag) p) k.routes
-      (rw zero_more (on_after (inbox_route own peer to p.head.tag) (held_at hs p.head.tag) p (for_route own peer to p.head e)
+      routes_set own peer to 0 p.head.tag hs (held_after u (held_at hs p.head.tag) p) k.routes
+      (rw zero_more (on_after u (inbox_route own peer to p.head.tag) (held_at hs p.head.tag) p (for_route own peer to p.head e)
       (routes_here own peer to p.head.tag hs k.routes)));
 })
 

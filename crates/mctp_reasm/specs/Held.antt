@@ -1,7 +1,8 @@
 -- What an assembly holds, and what one more packet makes of it (DSP0236, section 8).
 use Rattle.std.specs.Prelude.{◌≡◌, ◌<◌, ◌≤◌, ℕ, zero, suc, ◌+◌, ◌%◌, ◌==◌, ◌&&◌, Bool, true, false, not, if◌then◌else◌, List, [], ◌∷◌, ◌++◌, length, take, drop, Option, Some, None}
+use Rattle.mctp_wire.specs.declared.unit.Unit.{«Unit»}
+use Rattle.mctp_wire.specs.Units.{bytes_of}
 use Rattle.mctp_wire.specs.declared.layout.Head.{Head}
-use Rattle.mctp_wire.specs.declared.layout.TheConstants.{MAX_BODY}
 use Rattle.mctp_reasm.specs.declared.messages.TheConstants.{MAX_PACKETS}
 use Rattle.mctp_reasm.specs.Pieces.{MessageOf, PacketOf, Route, bodies, piece, route_of}
 use Rattle.mctp_reasm.specs.declared.outcomes.DropCause.{DropCause}
@@ -14,14 +15,19 @@ pub record Held : Type 0 where
   pub packets : List PacketOf
   pub age : ℕ
 
--- so many pieces of a whole transmission unit, from number n on, none of them the last
-unfoldable pub opened : ℕ → Route → ℕ → List ℕ → List PacketOf
-opened zero r n bytes = []
-opened (suc count) r n bytes = piece r n false (take MAX_BODY bytes) ∷ opened count r (n + 1) (drop MAX_BODY bytes)
+-- an assembly: the unit, and what it holds
+pub record AssemblyOf : Type 0 where
+  pub unit : «Unit»
+  pub held : Option Held
+
+-- so many pieces of the unit, from number n on, none of them the last
+unfoldable pub opened : «Unit» → ℕ → Route → ℕ → List ℕ → List PacketOf
+opened u zero r n bytes = []
+opened u (suc count) r n bytes = piece r n false (take (bytes_of u) bytes) ∷ opened u count r (n + 1) (drop (bytes_of u) bytes)
 
 -- what a buffer of so many pieces holds
-abbrev pub held_of : Route → List ℕ → ℕ → ℕ → Option Held
-held_of r bytes count age = if count == 0 then None else Some (record { packets = opened count r 0 bytes; age = age })
+abbrev pub held_of : «Unit» → Route → List ℕ → ℕ → ℕ → Option Held
+held_of u r bytes count age = if count == 0 then None else Some (record { packets = opened u count r 0 bytes; age = age })
 
 -- the packets that are held
 abbrev pub packets_of : Option Held → List PacketOf
@@ -40,33 +46,33 @@ joined held p = base_of held p.head ++ p ∷ []
 abbrev pub message_of : Head → List PacketOf → MessageOf
 message_of h ps = record { dest = h.dest; source = h.source; to = h.to; tag = h.tag; bytes = bodies ps }
 
--- a packet that isn't the last of its message has a whole transmission unit
-abbrev pub is_cut : PacketOf → Bool
-is_cut p = not p.head.eom && not (length p.body == MAX_BODY)
+-- a packet that isn't the last of its message has as many bytes as the unit
+abbrev pub is_cut : «Unit» → PacketOf → Bool
+is_cut u p = not p.head.eom && not (length p.body == bytes_of u)
 
 -- why a packet that starts a message is dropped: the first cause that holds
-abbrev pub start_cause : PacketOf → Option DropCause
-start_cause p =
+abbrev pub start_cause : «Unit» → PacketOf → Option DropCause
+start_cause u p =
     if not (p.head.seq == 0) then Some causes.StartNumber
-    else if is_cut p then Some causes.«Unit»
+    else if is_cut u p then Some causes.«Unit»
     else None
 
 -- why a packet that comes after so many of its message is dropped: the first cause that holds
-abbrev pub next_cause : ℕ → PacketOf → Option DropCause
-next_cause count p =
+abbrev pub next_cause : «Unit» → ℕ → PacketOf → Option DropCause
+next_cause u count p =
     if not (p.head.seq == count % 4) then Some causes.Sequence
     else if count == MAX_PACKETS then Some causes.FifthPacket
-    else if is_cut p then Some causes.«Unit»
+    else if is_cut u p then Some causes.«Unit»
     else None
 
 -- why a packet that goes on with a message is dropped
-abbrev pub cause_in : Option Held → PacketOf → Option DropCause
-cause_in None p = Some causes.NoStart
-cause_in (Some h) p = next_cause (length h.packets) p
+abbrev pub cause_in : «Unit» → Option Held → PacketOf → Option DropCause
+cause_in u None p = Some causes.NoStart
+cause_in u (Some h) p = next_cause u (length h.packets) p
 
 -- why a packet is dropped, if it is
-abbrev pub cause_of : Option Held → PacketOf → Option DropCause
-cause_of held p = if p.head.som then start_cause p else cause_in held p
+abbrev pub cause_of : «Unit» → Option Held → PacketOf → Option DropCause
+cause_of u held p = if p.head.som then start_cause u p else cause_in u held p
 
 -- a packet that isn't dropped makes its message whole where it is the last of it
 abbrev pub fed_as : Option DropCause → Bool → MessageOf → Fed
@@ -80,12 +86,12 @@ held_as None false ps = Some (record { packets = ps; age = 0 })
 held_as _ last ps = None
 
 -- what comes of a packet
-abbrev pub fed : Option Held → PacketOf → Fed
-fed held p = fed_as (cause_of held p) p.head.eom (message_of p.head (joined held p))
+abbrev pub fed : «Unit» → Option Held → PacketOf → Fed
+fed u held p = fed_as (cause_of u held p) p.head.eom (message_of p.head (joined held p))
 
 -- what is held after it
-abbrev pub held_after : Option Held → PacketOf → Option Held
-held_after held p = held_as (cause_of held p) p.head.eom (joined held p)
+abbrev pub held_after : «Unit» → Option Held → PacketOf → Option Held
+held_after u held p = held_as (cause_of u held p) p.head.eom (joined held p)
 
 -- a tick ages what is held; in the ninth after the last packet nothing is held any more
 abbrev pub held_tick : Option Held → Option Held
@@ -94,7 +100,7 @@ held_tick (Some h) = if h.age == 8 then None else Some (record h { age = h.age +
 
 -- the packet is of the message that is held
 abbrev pub IsOfSame : List PacketOf → Head → Type 0
-IsOfSame [] h = Unit {0}
+IsOfSame [] h = Prim.Unit {0}
 IsOfSame (q ∷ qs) h = route_of q.head ≡ route_of h
 
 -- the packet stands after these, by its number and its start flag
@@ -102,16 +108,16 @@ abbrev pub Joins : List PacketOf → Head → Type 0
 Joins ps h = (length ps < MAX_PACKETS) × (h.seq ≡ length ps) × (h.som ≡ (length ps == 0))
 
 -- pieces of one message from number n on, none of them the last
-abbrev pub AreOpen : Route → ℕ → List PacketOf → Type 0
-AreOpen r n [] = Unit {0}
-AreOpen r n (q ∷ qs) = (q ≡ piece r n false q.body) × (length q.body ≡ MAX_BODY) × AreOpen r (n + 1) qs
+abbrev pub AreOpen : «Unit» → Route → ℕ → List PacketOf → Type 0
+AreOpen u r n [] = Prim.Unit {0}
+AreOpen u r n (q ∷ qs) = (q ≡ piece r n false q.body) × (length q.body ≡ bytes_of u) × AreOpen u r (n + 1) qs
 
 -- the first pieces of a message that goes on
-abbrev pub AreFirst : List PacketOf → Type 0
-AreFirst [] = ⊥
-AreFirst (q ∷ qs) = AreOpen (route_of q.head) 0 (q ∷ qs)
+abbrev pub AreFirst : «Unit» → List PacketOf → Type 0
+AreFirst u [] = ⊥
+AreFirst u (q ∷ qs) = AreOpen u (route_of q.head) 0 (q ∷ qs)
 
 -- what is true of each assembly
-abbrev pub IsHeld : Option Held → Type 0
-IsHeld None = Unit {0}
-IsHeld (Some h) = AreFirst h.packets × (length h.packets ≤ MAX_PACKETS) × (h.age ≤ 8)
+abbrev pub IsHeld : «Unit» → Option Held → Type 0
+IsHeld u None = Prim.Unit {0}
+IsHeld u (Some h) = AreFirst u h.packets × (length h.packets ≤ MAX_PACKETS) × (h.age ≤ 8)

@@ -1,15 +1,17 @@
 -- The assemblies of the messages that a node hears from a peer, of requests or of replies: one a tag, since source,
 -- destination and TO are the same for all.
-use Rattle.std.specs.Prelude.{◌≡◌, ℕ, ◌+◌, ◌==◌, ◌&&◌, not, Bool, if◌then◌else◌, List, [], ◌∷◌, length, replicate, get_or, slice_set, Option, Some, None, Result, Ok, Err}
+use Rattle.std.specs.Prelude.{◌≡◌, ℕ, ◌+◌, ◌==◌, ◌&&◌, not, Bool, if◌then◌else◌, List, [], ◌∷◌, length, replicate, get_or, map, slice_set, Option, Some, None, Result, Ok, Err}
+use Rattle.mctp_wire.specs.declared.unit.Unit.{«Unit»}
 use Rattle.mctp_wire.specs.Packet as wire
 use Rattle.mctp_wire.specs.declared.fault.WireFault.{WireFault}
 use Rattle.mctp_wire.specs.declared.layout.Head.{Head}
-use Rattle.mctp_reasm.specs.Held.{Held, fed, held_after, packets_of}
+use Rattle.mctp_reasm.specs.Held.{AssemblyOf, Held, fed, held_after, held_tick, packets_of}
 use Rattle.mctp_reasm.specs.Pieces.{PacketOf, Route, packet_of, route_of}
 use Rattle.mctp_reasm.specs.declared.outcomes.Fed.{Fed}
 
 -- a node, its peer, whether it hears requests, and what it holds under each tag
 pub record InboxOf : Type 0 where
+  pub unit : «Unit»
   pub own : ℕ
   pub peer : ℕ
   pub to : Bool
@@ -30,20 +32,33 @@ for_end own peer to (Ok p) = if is_for own peer to p.0 then Some (packet_of p.0 
 for_end own peer to (Err fault) = None
 
 -- The packet that these bytes are, where it is for this node; bytes that are no packet are dropped.
-abbrev pub packet_for : (own peer : ℕ) → (to : Bool) → List ℕ → Option PacketOf
-packet_for own peer to bytes = for_end own peer to (wire.packet_of bytes)
+abbrev pub packet_for : (u : «Unit») (own peer : ℕ) → (to : Bool) → List ℕ → Option PacketOf
+packet_for u own peer to bytes = for_end own peer to (wire.packet_of u bytes)
+
+-- what these hold
+abbrev pub held_in : List AssemblyOf → List (Option Held)
+held_in xs = map (λ a. a.held) xs
+
+-- a tick passes for one
+abbrev pub ticked : AssemblyOf → AssemblyOf
+ticked a = record a { held = held_tick a.held }
+
+-- each of these has this unit
+abbrev pub AreOf : «Unit» → List AssemblyOf → Type 0
+AreOf u [] = u ≡ u
+AreOf u (a ∷ xs) = (a.unit ≡ u) × AreOf u xs
 
 -- what is held under a tag
 abbrev pub held_at : List (Option Held) → ℕ → Option Held
 held_at held tag = get_or held tag None
 
 -- what comes of a packet: it is fed to the assembly of its tag
-abbrev pub fed_at : List (Option Held) → PacketOf → Fed
-fed_at held p = fed (held_at held p.head.tag) p
+abbrev pub fed_at : «Unit» → List (Option Held) → PacketOf → Fed
+fed_at u held p = fed u (held_at held p.head.tag) p
 
 -- what is held after it
-abbrev pub held_with : List (Option Held) → PacketOf → List (Option Held)
-held_with held p = slice_set held p.head.tag (held_after (held_at held p.head.tag) p)
+abbrev pub held_with : «Unit» → List (Option Held) → PacketOf → List (Option Held)
+held_with u held p = slice_set held p.head.tag (held_after u (held_at held p.head.tag) p)
 
 -- what all packets have in common that are heard under a tag
 abbrev pub inbox_route : (own peer : ℕ) → Bool → (tag : ℕ) → Route
@@ -51,12 +66,12 @@ inbox_route own peer to tag = record { dest = own; source = peer; to = to; tag =
 
 -- the packets of one message are on this route
 abbrev pub IsOnRoute : Route → List PacketOf → Type 0
-IsOnRoute r [] = Unit {0}
+IsOnRoute r [] = Prim.Unit {0}
 IsOnRoute r (q ∷ qs) = route_of q.head ≡ r
 
 -- what is held under each tag, from one on, is on its route
 abbrev pub AreOnRoutes : (own peer : ℕ) → Bool → (tag : ℕ) → List (Option Held) → Type 0
-AreOnRoutes own peer to tag [] = Unit {0}
+AreOnRoutes own peer to tag [] = Prim.Unit {0}
 AreOnRoutes own peer to tag (h ∷ hs) =
     IsOnRoute (inbox_route own peer to tag) (packets_of h) × AreOnRoutes own peer to (tag + 1) hs
 

@@ -1,7 +1,8 @@
 -- Messages, and the packets that they are cut into (DSP0236, section 8).
 use Rattle.std.specs.Prelude.{◌≤◌, ℕ, zero, suc, ◌+◌, ◌*◌, ◌==◌, nat_le, Bool, true, false, if◌then◌else◌, List, [], ◌∷◌, ◌++◌, length, take, drop}
+use Rattle.mctp_wire.specs.declared.unit.Unit.{«Unit»}
+use Rattle.mctp_wire.specs.Units.{bytes_of}
 use Rattle.mctp_wire.specs.declared.layout.Head.{Head}
-use Rattle.mctp_wire.specs.declared.layout.TheConstants.{MAX_BODY}
 use Rattle.mctp_wire.specs.Packet.{packet_bytes}
 use Rattle.mctp_reasm.specs.declared.messages.TheConstants.{MAX_PACKETS}
 
@@ -13,13 +14,13 @@ pub record MessageOf : Type 0 where
   pub tag : ℕ
   pub bytes : List ℕ
 
--- the most bytes of a message: what its packets carry
-abbrev pub message_limit : ℕ
-message_limit = MAX_PACKETS * MAX_BODY
+-- the most bytes of a message: four packets
+abbrev pub message_limit : «Unit» → ℕ
+message_limit u = MAX_PACKETS * bytes_of u
 
 -- a message has 1 byte to that
-abbrev pub IsMessage : MessageOf → Type 0
-IsMessage m = (1 ≤ length m.bytes) × (length m.bytes ≤ message_limit)
+abbrev pub IsMessage : «Unit» → MessageOf → Type 0
+IsMessage u m = (1 ≤ length m.bytes) × (length m.bytes ≤ message_limit u)
 
 -- a packet: its head and its body
 pub record PacketOf : Type 0 where
@@ -47,16 +48,16 @@ abbrev pub piece : Route → ℕ → Bool → List ℕ → PacketOf
 piece r n last body =
     record { head = record { dest = r.dest; source = r.source; som = n == 0; eom = last; seq = n; to = r.to; tag = r.tag }; body = body }
 
--- at most so many pieces, from number n on: the bytes cut at each transmission unit
-unfoldable pub pieces_from : ℕ → Route → ℕ → List ℕ → List PacketOf
-pieces_from zero r n bytes = []
-pieces_from (suc most) r n bytes =
-    if nat_le (length bytes) MAX_BODY then piece r n true bytes ∷ []
-    else piece r n false (take MAX_BODY bytes) ∷ pieces_from most r (n + 1) (drop MAX_BODY bytes)
+-- at most so many pieces, from number n on: the bytes cut at the unit
+unfoldable pub pieces_from : «Unit» → ℕ → Route → ℕ → List ℕ → List PacketOf
+pieces_from u zero r n bytes = []
+pieces_from u (suc most) r n bytes =
+    if nat_le (length bytes) (bytes_of u) then piece r n true bytes ∷ []
+    else piece r n false (take (bytes_of u) bytes) ∷ pieces_from u most r (n + 1) (drop (bytes_of u) bytes)
 
 -- the pieces of a message, one to four
-abbrev pub pieces : MessageOf → List PacketOf
-pieces m = pieces_from MAX_PACKETS (message_route m) 0 m.bytes
+abbrev pub pieces : «Unit» → MessageOf → List PacketOf
+pieces u m = pieces_from u MAX_PACKETS (message_route m) 0 m.bytes
 
 -- a packet in its written spelling
 abbrev pub spelled : PacketOf → List ℕ

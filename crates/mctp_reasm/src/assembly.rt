@@ -3,11 +3,12 @@
 ghost use Rattle.std.specs.Prelude.{◌≡◌, ◌≢◌, ◌<◌, ◌≤◌, ◌↔◌, ◌⊎◌, ◌%◌, ◌++◌, ◌∷◌, [], length, Option, Some, None, true, false, IfNone};
 ghost use Rattle.mctp_reasm.specs.Pieces.{IsMessage, MessageOf, packet_of, pieces};
 ghost use Rattle.mctp_reasm.specs.Held.{IsHeld, IsOfSame, Joins, base_of, cause_of, fed, held_after, held_tick, joined, message_of, next_cause, packets_of, start_cause};
+ghost use Rattle.mctp_wire.specs.Units.{bytes_of};
 
 use crate::messages::{MAX_MESSAGE, MAX_PACKETS, Message};
 use crate::outcomes::{DropCause, Fed};
 use arrayvec::ArrayVec;
-use mctp_wire::{MAX_BODY, Packet};
+use mctp_wire::{Packet, Unit};
 use std::marker::Model;
 use std::mem;
 
@@ -21,6 +22,7 @@ const PATIENCE: u8 = 8;
 /// The packets of one message that have come so far, and the ticks since the last of them, 0 to 8.
 #[derive(Drop)]
 pub struct Assembly {
+    unit: Unit,
     dest: u8,
     source: u8,
     to: bool,
@@ -31,24 +33,25 @@ pub struct Assembly {
 }
 
 impl Model for Assembly {
-    ghost use Rattle.std.specs.Prelude.{◌≡◌, ◌≤◌, ◌*◌, length, Option};
-    ghost use Rattle.mctp_reasm.specs.Held.{Held, held_of};
+    ghost use Rattle.std.specs.Prelude.{◌≡◌, ◌≤◌, ◌*◌, length};
+    ghost use Rattle.mctp_reasm.specs.Held.{AssemblyOf, held_of};
     ghost use Rattle.mctp_reasm.specs.declared.messages.TheConstants.{MAX_PACKETS};
-    ghost use Rattle.mctp_wire.specs.declared.layout.TheConstants.{MAX_BODY};
+    ghost use Rattle.mctp_wire.specs.Units.{bytes_of};
 
-    ghost Value = { Option Held };
+    ghost Value = { AssemblyOf };
 
-    ghost view = { λ a. held_of (record { dest = a.dest; source = a.source; to = a.to; tag = a.tag }) a.bytes.items a.pieces a.age };
+    ghost view = { λ a. record { unit = a.unit; held = held_of a.unit (record { dest = a.dest; source = a.source; to = a.to; tag = a.tag }) a.bytes.items a.pieces a.age } };
 
-    ghost invariant = { λ a. (a.tag ≤ 7) × (a.age ≤ 8) × (a.pieces ≤ MAX_PACKETS) × (length a.bytes.items ≡ MAX_BODY * a.pieces) };
+    ghost invariant = { λ a. (a.tag ≤ 7) × (a.age ≤ 8) × (a.pieces ≤ MAX_PACKETS) × (length a.bytes.items ≡ bytes_of a.unit * a.pieces) };
 }
 
 impl Assembly {
-    /// An assembly that holds nothing.
-    pub fn new() -> Assembly
-        ensures { result ≡ None }
+    /// An assembly of a network with this transmission unit, which holds nothing.
+    pub fn new(unit: Unit) -> Assembly
+        ensures { result ≡ record { unit = unit; held = None } }
     {
         Assembly {
+            unit,
             dest: 0,
             source: 0,
             to: false,
@@ -59,9 +62,16 @@ impl Assembly {
         }
     }
 
+    /// The network's transmission unit.
+    pub fn unit(&self) -> Unit
+        ensures { result ≡ self.now.unit }
+    {
+        self.unit
+    }
+
     /// Forgets what is held.
     pub fn clear(&mut self)
-        ensures { self.new ≡ None }
+        ensures { self.new ≡ record self.old { held = None } }
     {
         self.pieces = 0;
         self.age = 0;
@@ -70,7 +80,7 @@ impl Assembly {
 
     /// One tick passes. In the ninth after the last packet nothing is held any more.
     pub fn tick(&mut self)
-        ensures { self.new ≡ held_tick self.old }
+        ensures { self.new ≡ record self.old { held = held_tick self.old.held } }
     {
         if self.pieces == 0 {
             return;
@@ -85,31 +95,31 @@ impl Assembly {
     /// How many packets are held.
     #[tactic(auto, using(crate::proofs::Opened::held))]
     fn count(&self) -> u8
-        ensures count { result ≡ length (packets_of self.now) }
-        ensures lawful { IsHeld self.now }
+        ensures count { result ≡ length (packets_of self.now.held) }
+        ensures lawful { IsHeld self.now.unit self.now.held }
     {
         self.pieces
     }
 
     /// The first cause to drop this packet.
     fn cause(&self, packet: &Packet<'_>) -> Option<DropCause>
-        ensures cause { result ≡ cause_of self.now (packet_of packet.now.head packet.now.body.now) }
-        ensures lawful { IsHeld self.now }
-        ensures joins { IfNone result (Joins (base_of self.now packet.now.head) packet.now.head) }
+        ensures cause { result ≡ cause_of self.now.unit self.now.held (packet_of packet.now.head packet.now.body.now) }
+        ensures lawful { IsHeld self.now.unit self.now.held }
+        ensures joins { IfNone result (Joins (base_of self.now.held packet.now.head) packet.now.head) }
     {
         let count = self.count();
         if packet.head.som {
-            return start_cause(packet);
+            return start_cause(self.unit, packet);
         }
         if count == 0 {
             return Some(DropCause::NoStart);
         }
-        next_cause(count, packet)
+        next_cause(self.unit, count, packet)
     }
 
     /// Whether `feed` may be called: the packet starts a message, nothing is held, or the packet is of what is held.
     pub fn is_for(&self, packet: &Packet<'_>) -> bool
-        ensures { (result ≡ true) ↔ ((packet.now.head.som ≡ true) ⊎ IsOfSame (packets_of self.now) packet.now.head) }
+        ensures { (result ≡ true) ↔ ((packet.now.head.som ≡ true) ⊎ IsOfSame (packets_of self.now.held) packet.now.head) }
     {
         if packet.head.som {
             return true;
@@ -120,7 +130,7 @@ impl Assembly {
     /// Whether the packet is of the message that is held, or nothing is held.
     #[tactic(auto, using(crate::proofs::Opened::held))]
     fn is_same(&self, packet: &Packet<'_>) -> bool
-        ensures { (result ≡ true) ↔ IsOfSame (packets_of self.now) packet.now.head }
+        ensures { (result ≡ true) ↔ IsOfSame (packets_of self.now.held) packet.now.head }
     {
         if self.pieces == 0 {
             return true;
@@ -137,25 +147,25 @@ impl Assembly {
     /// The packet's route must be that of what is held, unless nothing is held or the packet starts a message: there is
     /// one assembly for each source, tag and TO.
     pub fn feed(&mut self, packet: &Packet<'_>) -> Fed
-        requires body { (1 ≤ length packet.now.body.now) × (length packet.now.body.now ≤ MAX_BODY) }
+        requires body { (1 ≤ length packet.now.body.now) × (length packet.now.body.now ≤ bytes_of self.old.unit) }
         requires tag { packet.now.head.tag ≤ 7 }
-        requires same { (packet.now.head.som ≡ true) ⊎ IsOfSame (packets_of self.old) packet.now.head }
-        ensures answer { result ≡ fed self.old (packet_of packet.now.head packet.now.body.now) }
-        ensures after { self.new ≡ held_after self.old (packet_of packet.now.head packet.now.body.now) }
-        ensures exact { (m : MessageOf) → IsMessage m → (result ≡ Fed.Whole m) ↔ (joined self.old (packet_of packet.now.head packet.now.body.now) ≡ pieces m) }
+        requires same { (packet.now.head.som ≡ true) ⊎ IsOfSame (packets_of self.old.held) packet.now.head }
+        ensures answer { result ≡ fed self.old.unit self.old.held (packet_of packet.now.head packet.now.body.now) }
+        ensures after { self.new ≡ record self.old { held = held_after self.old.unit self.old.held (packet_of packet.now.head packet.now.body.now) } }
+        ensures exact { (m : MessageOf) → IsMessage self.old.unit m → (result ≡ Fed.Whole m) ↔ (joined self.old.held (packet_of packet.now.head packet.now.body.now) ≡ pieces self.old.unit m) }
     {
         self.add(packet)
     }
 
     /// Hears a packet, and says what its tests found.
     fn add(&mut self, packet: &Packet<'_>) -> Fed
-        requires body { (1 ≤ length packet.now.body.now) × (length packet.now.body.now ≤ MAX_BODY) }
+        requires body { (1 ≤ length packet.now.body.now) × (length packet.now.body.now ≤ bytes_of self.old.unit) }
         requires tag { packet.now.head.tag ≤ 7 }
-        requires same { (packet.now.head.som ≡ true) ⊎ IsOfSame (packets_of self.old) packet.now.head }
-        ensures answer { result ≡ fed self.old (packet_of packet.now.head packet.now.body.now) }
-        ensures after { self.new ≡ held_after self.old (packet_of packet.now.head packet.now.body.now) }
-        ensures lawful { IsHeld self.old }
-        ensures joins { IfNone (cause_of self.old (packet_of packet.now.head packet.now.body.now)) (Joins (base_of self.old packet.now.head) packet.now.head) }
+        requires same { (packet.now.head.som ≡ true) ⊎ IsOfSame (packets_of self.old.held) packet.now.head }
+        ensures answer { result ≡ fed self.old.unit self.old.held (packet_of packet.now.head packet.now.body.now) }
+        ensures after { self.new ≡ record self.old { held = held_after self.old.unit self.old.held (packet_of packet.now.head packet.now.body.now) } }
+        ensures lawful { IsHeld self.old.unit self.old.held }
+        ensures joins { IfNone (cause_of self.old.unit self.old.held (packet_of packet.now.head packet.now.body.now)) (Joins (base_of self.old.held packet.now.head) packet.now.head) }
     {
         let cause = self.cause(packet);
         if packet.head.som || cause.is_some() {
@@ -174,11 +184,11 @@ impl Assembly {
     /// The message that ends with this packet.
     #[tactic(auto, using(crate::proofs::Opened::held))]
     fn finish(&mut self, packet: &Packet<'_>) -> Message
-        requires room { length (packets_of self.old) < MAX_PACKETS }
-        requires body { (1 ≤ length packet.now.body.now) × (length packet.now.body.now ≤ MAX_BODY) }
+        requires room { length (packets_of self.old.held) < MAX_PACKETS }
+        requires body { (1 ≤ length packet.now.body.now) × (length packet.now.body.now ≤ bytes_of self.old.unit) }
         requires tag { packet.now.head.tag ≤ 7 }
-        ensures whole { result ≡ message_of packet.now.head (packets_of self.old ++ packet_of packet.now.head packet.now.body.now ∷ []) }
-        ensures empty { self.new ≡ None }
+        ensures whole { result ≡ message_of packet.now.head (packets_of self.old.held ++ packet_of packet.now.head packet.now.body.now ∷ []) }
+        ensures empty { self.new ≡ record self.old { held = None } }
     {
         let mut bytes = mem::replace(&mut self.bytes, ArrayVec::new());
         let _ = bytes.try_extend_from_slice(packet.body);
@@ -195,12 +205,12 @@ impl Assembly {
     /// One more body of the message that is held.
     #[tactic(auto, using(crate::proofs::Opened::held))]
     fn append(&mut self, packet: &Packet<'_>)
-        requires joins { Joins (packets_of self.old) packet.now.head }
-        requires full { length packet.now.body.now ≡ MAX_BODY }
+        requires joins { Joins (packets_of self.old.held) packet.now.head }
+        requires full { length packet.now.body.now ≡ bytes_of self.old.unit }
         requires tag { packet.now.head.tag ≤ 7 }
         requires eom { packet.now.head.eom ≡ false }
-        requires same { IsOfSame (packets_of self.old) packet.now.head }
-        ensures { self.new ≡ Some (record { packets = packets_of self.old ++ packet_of packet.now.head packet.now.body.now ∷ []; age = 0 }) }
+        requires same { IsOfSame (packets_of self.old.held) packet.now.head }
+        ensures { self.new ≡ record self.old { held = Some (record { packets = packets_of self.old.held ++ packet_of packet.now.head packet.now.body.now ∷ []; age = 0 }) } }
     {
         self.dest = packet.head.dest;
         self.source = packet.head.source;
@@ -213,22 +223,22 @@ impl Assembly {
 }
 
 /// The first cause to drop a packet that starts a message.
-fn start_cause(packet: &Packet<'_>) -> Option<DropCause>
-    ensures cause { result ≡ start_cause (packet_of packet.now.head packet.now.body.now) }
+fn start_cause(unit: Unit, packet: &Packet<'_>) -> Option<DropCause>
+    ensures cause { result ≡ start_cause unit (packet_of packet.now.head packet.now.body.now) }
     ensures number { IfNone result (packet.now.head.seq ≡ 0) }
 {
     if packet.head.seq != 0 {
         return Some(DropCause::StartNumber);
     }
-    if !packet.head.eom && packet.body.len() != MAX_BODY {
+    if !packet.head.eom && packet.body.len() != unit.bytes() {
         return Some(DropCause::Unit);
     }
     None
 }
 
 /// The first cause to drop a packet that comes after so many.
-fn next_cause(count: u8, packet: &Packet<'_>) -> Option<DropCause>
-    ensures cause { result ≡ next_cause count (packet_of packet.now.head packet.now.body.now) }
+fn next_cause(unit: Unit, count: u8, packet: &Packet<'_>) -> Option<DropCause>
+    ensures cause { result ≡ next_cause unit count (packet_of packet.now.head packet.now.body.now) }
     ensures number { IfNone result ((packet.now.head.seq ≡ count % 4) × (count ≢ MAX_PACKETS)) }
 {
     if packet.head.seq != count % SEQUENCE_NUMBERS {
@@ -237,7 +247,7 @@ fn next_cause(count: u8, packet: &Packet<'_>) -> Option<DropCause>
     if usize::from(count) == MAX_PACKETS {
         return Some(DropCause::FifthPacket);
     }
-    if !packet.head.eom && packet.body.len() != MAX_BODY {
+    if !packet.head.eom && packet.body.len() != unit.bytes() {
         return Some(DropCause::Unit);
     }
     None

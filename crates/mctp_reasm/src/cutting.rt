@@ -5,7 +5,7 @@ ghost use Rattle.mctp_reasm.specs.Pieces.{message_route, pieces, piece, spelled}
 
 use crate::messages::{MAX_PACKETS, Message};
 use arrayvec::ArrayVec;
-use mctp_wire::{Head, MAX_BODY, RawPacket};
+use mctp_wire::{Head, MAX_BODY, RawPacket, Unit};
 
 /// The packet of one piece of a message.
 fn piece_of(message: &Message, number: u8, last: bool, body: &[u8]) -> RawPacket
@@ -27,19 +27,20 @@ fn piece_of(message: &Message, number: u8, last: bool, body: &[u8]) -> RawPacket
     packet
 }
 
-/// Cuts a message into its packets, one to four (DSP0236, section 8): its bytes cut at each transmission unit,
-/// the last piece of 1 byte to the unit, SOM on the first and EOM on the last, numbered from 0.
-pub fn split(message: &Message) -> ArrayVec<RawPacket, MAX_PACKETS>
-    ensures { map (λ p. p.items) result.items ≡ map spelled (pieces message.now) }
+/// Cuts a message into its packets, at most four (DSP0236, section 8): its bytes cut at each transmission
+/// unit, SOM on the first and EOM on the last, numbered from 0.
+pub fn split(unit: Unit, message: &Message) -> ArrayVec<RawPacket, MAX_PACKETS>
+    ensures { map (λ p. p.items) result.items ≡ map spelled (pieces unit message.now) }
 {
+    let size = unit.bytes();
     let mut out = ArrayVec::new();
     let mut rest = message.bytes.as_slice();
     for number in 0..MAX_PACKETS as u8 {
-        if rest.len() <= MAX_BODY {
+        if rest.len() <= size {
             out.push(piece_of(message, number, true, rest));
             return out;
         }
-        let (body, more) = rest.split_at(MAX_BODY);
+        let (body, more) = rest.split_at(size);
         out.push(piece_of(message, number, false, body));
         rest = more;
     }

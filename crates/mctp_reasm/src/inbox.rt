@@ -3,10 +3,11 @@
 ghost use Rattle.std.specs.Prelude.{◌≡◌, ◌≤◌, IfSome, false, length, map, option_map, true};
 ghost use Rattle.mctp_reasm.specs.Held.{IsOfSame, held_tick, packets_of};
 ghost use Rattle.mctp_reasm.specs.Pieces.{packet_of};
-ghost use Rattle.mctp_reasm.specs.Inboxes.{AreOnRoutes, IsInbox, fed_at, held_at, held_with, is_for, none_held, packet_for};
+ghost use Rattle.mctp_reasm.specs.Inboxes.{AreOf, fed_at, held_at, held_in, held_with, is_for, none_held, packet_for, ticked};
+ghost use Rattle.mctp_wire.specs.Units.{bytes_of};
 
 use crate::{Assembly, Fed};
-use mctp_wire::{Head, MAX_BODY, Packet};
+use mctp_wire::{Head, Packet, Unit};
 use std::marker::Model;
 
 /// Tags of a direction: the tag of a message has three bits (DSP0236).
@@ -16,6 +17,7 @@ pub const TAGS: usize = 8;
 /// replies (TO clear).
 #[derive(Drop)]
 pub struct Inbox {
+    unit: Unit,
     own: u8,
     peer: u8,
     to: bool,
@@ -23,35 +25,44 @@ pub struct Inbox {
 }
 
 impl Model for Inbox {
-    ghost use Rattle.mctp_reasm.specs.Inboxes.{InboxOf, IsInbox};
+    ghost use Rattle.mctp_reasm.specs.Inboxes.{AreOf, InboxOf, IsInbox, held_in};
 
     ghost Value = { InboxOf };
 
-    ghost view = { λ b. record { own = b.own; peer = b.peer; to = b.to; held = b.places } };
+    ghost view = { λ b. record { unit = b.unit; own = b.own; peer = b.peer; to = b.to; held = held_in b.places } };
 
-    ghost invariant = { λ b. IsInbox (record { own = b.own; peer = b.peer; to = b.to; held = b.places }) };
+    ghost invariant = { λ b. IsInbox (record { unit = b.unit; own = b.own; peer = b.peer; to = b.to; held = held_in b.places }) × AreOf b.unit b.places };
 }
 
 impl Inbox {
-    /// The inbox of the endpoint `own`, which holds nothing: it hears requests of `peer` where `to` is set, and else replies.
-    pub fn new(own: u8, peer: u8, to: bool) -> Inbox
-        ensures { result ≡ record { own = own; peer = peer; to = to; held = none_held } }
+    /// The inbox of the endpoint `own` in a network with this transmission unit, which holds nothing: it hears requests
+    /// of `peer` where `to` is set, and else replies.
+    pub fn new(unit: Unit, own: u8, peer: u8, to: bool) -> Inbox
+        ensures { result ≡ record { unit = unit; own = own; peer = peer; to = to; held = none_held } }
     {
         Inbox {
+            unit,
             own,
             peer,
             to,
             places: [
-                Assembly::new(),
-                Assembly::new(),
-                Assembly::new(),
-                Assembly::new(),
-                Assembly::new(),
-                Assembly::new(),
-                Assembly::new(),
-                Assembly::new(),
+                Assembly::new(unit),
+                Assembly::new(unit),
+                Assembly::new(unit),
+                Assembly::new(unit),
+                Assembly::new(unit),
+                Assembly::new(unit),
+                Assembly::new(unit),
+                Assembly::new(unit),
             ],
         }
+    }
+
+    /// The network's transmission unit.
+    pub fn unit(&self) -> Unit
+        ensures { result ≡ self.now.unit }
+    {
+        self.unit
     }
 
     /// The node's own endpoint identifier.
@@ -77,12 +88,12 @@ impl Inbox {
 
     /// The packet that these bytes are, where it is one and for this node: of its peer, to its endpoint, with TO as it hears.
     pub fn packet_in<'b>(&self, bytes: &'b [u8]) -> Option<Packet<'b>>
-        ensures value { option_map (λ p. packet_of p.head p.body.now) result ≡ packet_for self.now.own self.now.peer self.now.to bytes.now }
+        ensures value { option_map (λ p. packet_of p.head p.body.now) result ≡ packet_for self.now.unit self.now.own self.now.peer self.now.to bytes.now }
         ensures mine { IfSome result (λ p. is_for self.now.own self.now.peer self.now.to p.head ≡ true) }
-        ensures body { IfSome result (λ p. (1 ≤ length p.body.now) × (length p.body.now ≤ MAX_BODY)) }
+        ensures body { IfSome result (λ p. (1 ≤ length p.body.now) × (length p.body.now ≤ bytes_of self.now.unit)) }
         ensures tag { IfSome result (λ p. p.head.tag ≤ 7) }
     {
-        let Ok(packet) = mctp_wire::decode(bytes) else {
+        let Ok(packet) = mctp_wire::decode(self.unit, bytes) else {
             return None;
         };
         if !self.is_for(&packet.head) {
@@ -95,12 +106,12 @@ impl Inbox {
     #[tactic(auto, using(crate::proofs::Routes::routes))]
     pub fn feed(&mut self, packet: &Packet<'_>) -> Fed
         requires mine { is_for self.old.own self.old.peer self.old.to packet.now.head ≡ true }
-        requires body { (1 ≤ length packet.now.body.now) × (length packet.now.body.now ≤ MAX_BODY) }
+        requires body { (1 ≤ length packet.now.body.now) × (length packet.now.body.now ≤ bytes_of self.old.unit) }
         requires tag { packet.now.head.tag ≤ 7 }
-        ensures answer { result ≡ fed_at self.old.held (packet_of packet.now.head packet.now.body.now) }
-        ensures after { self.new ≡ record self.old { held = held_with self.old.held (packet_of packet.now.head packet.now.body.now) } }
+        ensures answer { result ≡ fed_at self.old.unit self.old.held (packet_of packet.now.head packet.now.body.now) }
+        ensures after { self.new ≡ record self.old { held = held_with self.old.unit self.old.held (packet_of packet.now.head packet.now.body.now) } }
     {
-        feed_to(&mut self.places, packet)
+        feed_to(self.unit, &mut self.places, packet)
     }
 
     /// A tick passes: each assembly grows older, and ends in the ninth tick after its last packet.
@@ -114,7 +125,7 @@ impl Inbox {
 
 /// A tick passes for each of these.
 fn tick_all(places: &mut [Assembly])
-    ensures { places.new ≡ map held_tick places.old }
+    ensures { places.new ≡ map ticked places.old }
 {
     for place in places.iter_mut() {
         place.tick();
@@ -122,13 +133,16 @@ fn tick_all(places: &mut [Assembly])
 }
 
 /// Feeds a packet to the assembly of its tag.
-fn feed_to(places: &mut [Assembly], packet: &Packet<'_>) -> Fed
+#[tactic(auto, using(crate::proofs::Places::places))]
+fn feed_to(unit: Unit, places: &mut [Assembly], packet: &Packet<'_>) -> Fed
     requires places { length places.old ≡ 8 }
-    requires body { (1 ≤ length packet.now.body.now) × (length packet.now.body.now ≤ MAX_BODY) }
+    requires unit { AreOf unit places.old }
+    requires body { (1 ≤ length packet.now.body.now) × (length packet.now.body.now ≤ bytes_of unit) }
     requires tag { packet.now.head.tag ≤ 7 }
-    requires same { IsOfSame (packets_of (held_at places.old packet.now.head.tag)) packet.now.head }
-    ensures answer { result ≡ fed_at places.old (packet_of packet.now.head packet.now.body.now) }
-    ensures after { places.new ≡ held_with places.old (packet_of packet.now.head packet.now.body.now) }
+    requires same { IsOfSame (packets_of (held_at (held_in places.old) packet.now.head.tag)) packet.now.head }
+    ensures answer { result ≡ fed_at unit (held_in places.old) (packet_of packet.now.head packet.now.body.now) }
+    ensures after { held_in places.new ≡ held_with unit (held_in places.old) (packet_of packet.now.head packet.now.body.now) }
+    ensures unit { AreOf unit places.new }
 {
     places[usize::from(packet.head.tag)].feed(packet)
 }

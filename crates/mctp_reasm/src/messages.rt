@@ -1,7 +1,7 @@
 //! Messages of 1 byte to four packets' bodies.
 
 use arrayvec::ArrayVec;
-use mctp_wire::MAX_BODY;
+use mctp_wire::{MAX_BODY, Unit};
 use std::marker::Model;
 use thiserror::Error;
 
@@ -9,7 +9,7 @@ use thiserror::Error;
 /// all different.
 pub const MAX_PACKETS: usize = 4;
 
-/// The most bytes of a message, its type byte included: what its packets carry.
+/// The most bytes of a message, its type byte included, whatever the transmission unit: what its packets carry.
 pub const MAX_MESSAGE: usize = MAX_PACKETS * MAX_BODY;
 
 /// A message between two endpoints.
@@ -40,22 +40,23 @@ pub enum MessageFault {
     /// There is no byte.
     #[error("Empty")]
     Empty,
-    /// There are more than `MAX_MESSAGE` bytes.
+    /// There are more bytes than `MAX_PACKETS` packets carry.
     #[error("TooLong")]
     TooLong,
 }
 
 impl Message {
     ghost use Rattle.std.specs.Prelude.{◌≡◌, ◌<◌, ◌≤◌, ◌↔◌, length, IfOk, IsErrOf};
-    ghost use Rattle.mctp_reasm.specs.Pieces.{IsMessage};
+    ghost use Rattle.mctp_reasm.specs.Pieces.{message_limit};
     ghost use Rattle.mctp_reasm.specs.declared.messages.TheConstants.{MAX_MESSAGE};
 
-    /// A message of these bytes, its type byte first, under a tag of 0 to 7. `to` is set where its sender owns the
-    /// tag, as that of a request does.
+    /// A message of these bytes in a network with this transmission unit, its type byte first, under a tag of 0 to 7.
+    /// `to` is set where its sender owns the tag, as that of a request does.
     ///
     /// # Errors
-    /// `Empty` for no byte and `TooLong` for more than `MAX_MESSAGE`.
+    /// `Empty` for no byte and `TooLong` for more bytes than `MAX_PACKETS` packets carry.
     pub fn new(
+        unit: Unit,
         dest: u8,
         source: u8,
         to: bool,
@@ -65,15 +66,16 @@ impl Message {
         requires { tag ≤ 7 }
         ensures ok { IfOk result (λ m. m ≡ record { dest = dest; source = source; to = to; tag = tag; bytes = bytes.now }) }
         ensures empty { IsErrOf result MessageFault.Empty ↔ (length bytes.now ≡ 0) }
-        ensures too_long { IsErrOf result MessageFault.TooLong ↔ (MAX_MESSAGE < length bytes.now) }
+        ensures too_long { IsErrOf result MessageFault.TooLong ↔ (message_limit unit < length bytes.now) }
     {
         if bytes.is_empty() {
             return Err(MessageFault::Empty);
         }
-        let mut held = ArrayVec::new();
-        let Ok(()) = held.try_extend_from_slice(bytes) else {
+        if bytes.len() > MAX_PACKETS * unit.bytes() {
             return Err(MessageFault::TooLong);
-        };
+        }
+        let mut held = ArrayVec::new();
+        let _ = held.try_extend_from_slice(bytes);
         Ok(Message {
             dest,
             source,
@@ -115,7 +117,7 @@ impl Message {
     /// The bytes, 1 to `MAX_MESSAGE`, the type byte first.
     pub fn bytes(&self) -> &[u8]
         ensures value { result.now ≡ self.now.bytes }
-        ensures lawful { IsMessage self.now }
+        ensures lawful { (1 ≤ length self.now.bytes) × (length self.now.bytes ≤ MAX_MESSAGE) }
     {
         self.bytes.as_slice()
     }

@@ -2,7 +2,7 @@
 use Rattle.std.proofs.Common.{ne_eqb, nat_lt, ◌≡◌, ◌<◌, ◌≤◌, ◌/◌, ◌%◌, ◌==◌, ℕ, ◌∷◌, length, refl, arith, Bool, true, false}
 use Rattle.std.proofs.lemmas.Bool.{le-ltb}
 use Rattle.mctp_wire.specs.declared.layout.Head.{Head}
-use Rattle.mctp_wire.specs.declared.layout.TheConstants.{MAX_BODY}
+use Rattle.mctp_wire.specs.Units.{bytes_of}
 use Rattle.mctp_wire.specs.Packet.{IsHead, flags_of, head_of, bit, ReadsPackets}
 
 bit-lt : (b : Bool) → bit b < 2
@@ -32,10 +32,10 @@ head_of-flags_of h small =
 
 -- what is read of a packet is its head and its body
 pub packet_of-packet : ReadsPackets
-packet_of-packet (version ∷ dest ∷ source ∷ flags ∷ rest) h body (one, to_dest, from_source, fourth, small, same, some, fits) =
+packet_of-packet u (version ∷ dest ∷ source ∷ flags ∷ rest) h body (one, to_dest, from_source, fourth, small, same, some, fits) =
     let at_least_one : 1 ≤ length rest = rw same some in
     let is_one : (version % 16 == 1) ≡ true = rw one refl in
     let not_empty : (length rest == 0) ≡ false = ne_eqb (length rest) 0 (λ n. let none : length rest ≡ 0 = n in omega arith) in
-    let not_long : nat_lt MAX_BODY (length rest) ≡ false = le-ltb MAX_BODY (length rest) (rw same fits) in
+    let not_long : nat_lt (bytes_of u) (length rest) ≡ false = le-ltb (bytes_of u) (length rest) (rw same fits) in
     rw (is_one, not_empty, not_long, to_dest, from_source, fourth, same, head_of-flags_of h small) refl
-packet_of-packet bytes h body is = absurd is
+packet_of-packet u bytes h body is = absurd is

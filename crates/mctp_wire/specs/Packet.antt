@@ -1,7 +1,9 @@
--- MCTP's packet (DSP0236, section 8.1): four bytes of head, and a body of 1 to 64 bytes.
+-- MCTP's packet (DSP0236, section 8.1): four bytes of head, and a body of 1 byte to the transmission unit.
 use Rattle.std.specs.Prelude.{◌≡◌, ◌≢◌, ℕ, ◌+◌, ◌*◌, ◌/◌, ◌%◌, ◌<◌, ◌≤◌, ◌==◌, Bool, true, false, not, nat_lt, if◌then◌else◌, List, ◌∷◌, length, slice_index, Result, Ok, Err}
 use Rattle.mctp_wire.specs.declared.layout.Head.{Head}
-use Rattle.mctp_wire.specs.declared.layout.TheConstants.{HEAD_SIZE, MAX_BODY, MAX_PACKET}
+use Rattle.mctp_wire.specs.declared.layout.TheConstants.{HEAD_SIZE}
+use Rattle.mctp_wire.specs.declared.unit.Unit.{«Unit»}
+use Rattle.mctp_wire.specs.Units.{bytes_of}
 use Rattle.mctp_wire.specs.declared.fault.WireFault.{WireFault}
 use Rattle.mctp_wire.specs.declared.fault.WireFault.TheVariants.{Short, Version, Empty, TooLong}
 
@@ -20,11 +22,11 @@ IsHead h = (h.seq < 4) × (h.tag < 8)
 
 -- The bytes are a packet with this head and this body. The low bits of the first byte are the header
 -- version, 1; its high bits are reserved and may hold anything.
-abbrev pub IsPacket : List ℕ → Head → List ℕ → Type 0
-IsPacket (version ∷ dest ∷ source ∷ flags ∷ rest) h body =
+abbrev pub IsPacket : «Unit» → List ℕ → Head → List ℕ → Type 0
+IsPacket u (version ∷ dest ∷ source ∷ flags ∷ rest) h body =
     (version % 16 ≡ 1) × (dest ≡ h.dest) × (source ≡ h.source) × (flags ≡ flags_of h) × IsHead h
-    × (rest ≡ body) × (1 ≤ length body) × (length body ≤ MAX_BODY)
-IsPacket _ h body = ⊥
+    × (rest ≡ body) × (1 ≤ length body) × (length body ≤ bytes_of u)
+IsPacket u _ h body = ⊥
 
 -- the head that the second to fourth byte spell
 abbrev pub head_of : ℕ → ℕ → ℕ → Head
@@ -40,20 +42,20 @@ head_of dest source flags =
     }
 
 -- what reading gives: the head and the body of a packet, or the first fault
-abbrev pub packet_of : List ℕ → Result (Head × List ℕ) WireFault
-packet_of (version ∷ dest ∷ source ∷ flags ∷ body) =
+abbrev pub packet_of : «Unit» → List ℕ → Result (Head × List ℕ) WireFault
+packet_of u (version ∷ dest ∷ source ∷ flags ∷ body) =
     if not (version % 16 == 1) then Err Version
     else if length body == 0 then Err Empty
-    else if nat_lt MAX_BODY (length body) then Err TooLong
+    else if nat_lt (bytes_of u) (length body) then Err TooLong
     else Ok (head_of dest source flags, body)
-packet_of _ = Err Short
+packet_of u _ = Err Short
 
 -- the first fault of bytes that are no packet: none before it holds, and it does
-abbrev pub IsFirstFault : List ℕ → WireFault → Type 0
-IsFirstFault bytes Short = length bytes < HEAD_SIZE
-IsFirstFault bytes Version = (HEAD_SIZE ≤ length bytes) × (slice_index bytes 0 % 16 ≢ 1)
-IsFirstFault bytes Empty = (length bytes ≡ HEAD_SIZE) × (slice_index bytes 0 % 16 ≡ 1)
-IsFirstFault bytes TooLong = (MAX_PACKET < length bytes) × (slice_index bytes 0 % 16 ≡ 1)
+abbrev pub IsFirstFault : «Unit» → List ℕ → WireFault → Type 0
+IsFirstFault u bytes Short = length bytes < HEAD_SIZE
+IsFirstFault u bytes Version = (HEAD_SIZE ≤ length bytes) × (slice_index bytes 0 % 16 ≢ 1)
+IsFirstFault u bytes Empty = (length bytes ≡ HEAD_SIZE) × (slice_index bytes 0 % 16 ≡ 1)
+IsFirstFault u bytes TooLong = (HEAD_SIZE + bytes_of u < length bytes) × (slice_index bytes 0 % 16 ≡ 1)
 
 -- the written spelling of a packet: reserved bits are 0
 abbrev pub packet_bytes : Head → List ℕ → List ℕ
@@ -61,9 +63,9 @@ packet_bytes h body = 1 ∷ h.dest ∷ h.source ∷ flags_of h ∷ body
 
 -- what is written is a packet with that head and that body
 abbrev pub WritesPackets : Type 0
-WritesPackets = (h : Head) (body : List ℕ) → IsHead h → 1 ≤ length body → length body ≤ MAX_BODY
-    → IsPacket (packet_bytes h body) h body
+WritesPackets = (u : «Unit») (h : Head) (body : List ℕ) → IsHead h → 1 ≤ length body → length body ≤ bytes_of u
+    → IsPacket u (packet_bytes h body) h body
 
 -- bytes are a packet with one head and one body at most, and those are what is read
 abbrev pub ReadsPackets : Type 0
-ReadsPackets = (bytes : List ℕ) (h : Head) (body : List ℕ) → IsPacket bytes h body → packet_of bytes ≡ Ok (h, body)
+ReadsPackets = (u : «Unit») (bytes : List ℕ) (h : Head) (body : List ℕ) → IsPacket u bytes h body → packet_of u bytes ≡ Ok (h, body)

@@ -7,6 +7,7 @@ ghost use Rattle.mctp_wire.specs.Packet.{IsPacket, IsHead, IsFirstFault, flags_o
 
 use crate::fault::WireFault;
 use crate::layout::{Head, MAX_BODY, Packet, RawPacket};
+use crate::unit::Unit;
 
 /// The version of MCTP's header that this is.
 const HEADER_VERSION: u8 = 1;
@@ -32,15 +33,15 @@ const TO_BIT: u32 = 3;
 /// The three bits of a tag, the fourth byte's lowest.
 const TAG_MASK: u8 = 7;
 
-/// Reads a packet (DSP0236, section 8.1). Reserved bits may hold anything.
+/// Reads a packet of a network with this transmission unit (DSP0236, section 8.1). Reserved bits may hold anything.
 ///
 /// # Errors
 /// Bytes that are no packet are refused by the first fault that holds.
-pub fn decode(bytes: &[u8]) -> Result<Packet<'_>, WireFault>
-    ensures found { IfOk result (λ p. IsPacket bytes.now p.head p.body.now) }
-    ensures only { (h : Head) (body : List ℕ) → IsPacket bytes.now h body → IsOk result }
-    ensures value { result_map_both (λ p. (p.head, p.body.now)) (λ e. e) result ≡ packet_of bytes.now }
-    ensures fault { IfErr result (λ e. IsFirstFault bytes.now e) }
+pub fn decode(unit: Unit, bytes: &[u8]) -> Result<Packet<'_>, WireFault>
+    ensures found { IfOk result (λ p. IsPacket unit bytes.now p.head p.body.now) }
+    ensures only { (h : Head) (body : List ℕ) → IsPacket unit bytes.now h body → IsOk result }
+    ensures value { result_map_both (λ p. (p.head, p.body.now)) (λ e. e) result ≡ packet_of unit bytes.now }
+    ensures fault { IfErr result (λ e. IsFirstFault unit bytes.now e) }
 {
     let [version, dest, source, flags, body @ ..] = bytes else {
         return Err(WireFault::Short);
@@ -51,7 +52,7 @@ pub fn decode(bytes: &[u8]) -> Result<Packet<'_>, WireFault>
     if body.is_empty() {
         return Err(WireFault::Empty);
     }
-    if body.len() > MAX_BODY {
+    if body.len() > unit.bytes() {
         return Err(WireFault::TooLong);
     }
     let head = Head {

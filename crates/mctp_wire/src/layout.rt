@@ -5,11 +5,10 @@ use arrayvec::ArrayVec;
 /// The bytes of a packet's head (DSP0236, section 8.1).
 pub const HEAD_SIZE: usize = 4;
 
-/// The most bytes of a packet's body: MCTP's baseline transmission unit, which each medium carries (DSP0236,
-/// section 8.3).
-pub const MAX_BODY: usize = 64;
+/// The most bytes of a packet's body, whatever the transmission unit (DSP0236, section 8.3).
+pub const MAX_BODY: usize = 128;
 
-/// The most bytes of a packet: its head and its body.
+/// The most bytes of a packet, whatever the transmission unit: its head and its body.
 pub const MAX_PACKET: usize = HEAD_SIZE + MAX_BODY;
 
 /// The head of a packet.
@@ -36,9 +35,9 @@ pub struct Head {
 pub struct Packet<'a> {
     /// The head.
     pub head: Head,
-    /// The body, of 1 byte to the transmission unit, `MAX_BODY`.
+    /// The body, of 1 byte to the transmission unit.
     pub body: &'a [u8],
 }
 
-/// The bytes of one packet, as they go over a medium: a head and a body of at most `MAX_BODY` bytes.
+/// The bytes of one packet, as they go over a medium: a head and a body.
 pub type RawPacket = ArrayVec<u8, MAX_PACKET>;

@@ -1,23 +1,39 @@
 //! Packets put together.
 
 use mctp_reasm::{Assembly, DropCause, Fed};
-use mctp_wire::{RawPacket, decode};
+use mctp_wire::{RawPacket, Unit, decode};
 
-/// The fourth byte of a packet from 8 to 9 under tag 3, and the number of bytes of its body; or, with no body, so many
-/// ticks.
+/// The fourth byte of a packet from 8 to 9 under tag 3, and the number of bytes of its body at a unit of 64, where 63 and 64
+/// stand for a byte less than the unit and the unit; or, with no body, so many ticks.
 type Step = (u8, usize);
 
+/// The number of bytes of a body at a unit.
+fn at_unit(unit: Unit, size: usize) -> usize {
+    match unit {
+        Unit::U64 => size,
+        Unit::U128 => {
+            if size < 63 {
+                size
+            } else {
+                size.saturating_add(64)
+            }
+        }
+    }
+}
+
 /// Feeds a packet with a body of so many times the same byte.
-fn fed(assembly: &mut Assembly, flags: u8, size: usize, byte: u8) -> Option<Fed> {
+fn fed(unit: Unit, assembly: &mut Assembly, flags: u8, size: usize, byte: u8) -> Option<Fed> {
     let mut bytes = RawPacket::new();
     let _ = bytes.try_extend_from_slice(&[0x01, 9, 8, flags]);
-    for _ in 0..size {
+    for _ in 0..at_unit(unit, size) {
         let _ = bytes.try_push(byte);
     }
-    let Ok(packet) = decode(bytes.as_slice()) else {
+    let Ok(packet) = decode(unit, bytes.as_slice()) else {
         return None;
     };
-    let is_packet = packet.head.tag <= 7 && !packet.body.is_empty() && packet.body.len() <= 64;
+    let is_packet = packet.head.tag <= 7
+        && !packet.body.is_empty()
+        && packet.body.len() <= assembly.unit().bytes();
     if is_packet && assembly.is_for(&packet) {
         Some(assembly.feed(&packet))
     } else {
@@ -26,7 +42,7 @@ fn fed(assembly: &mut Assembly, flags: u8, size: usize, byte: u8) -> Option<Fed>
 }
 
 /// What comes of a step, as a letter: O open, W whole, or that of the drop's cause; a point for ticks.
-fn letter(assembly: &mut Assembly, step: Step) -> u8 {
+fn letter(unit: Unit, assembly: &mut Assembly, step: Step) -> u8 {
     let (flags, size) = step;
     if size == 0 {
         for _ in 0..flags {
@@ -34,7 +50,7 @@ fn letter(assembly: &mut Assembly, step: Step) -> u8 {
         }
         return b'.';
     }
-    match fed(assembly, flags, size, 0x5A) {
+    match fed(unit, assembly, flags, size, 0x5A) {
         None => b'?',
         Some(Fed::Open) => b'O',
         Some(Fed::Whole(_)) => b'W',
@@ -47,10 +63,10 @@ fn letter(assembly: &mut Assembly, step: Step) -> u8 {
 }
 
 /// Whether these letters come of the steps, one after the other.
-fn come(steps: &[Step], letters: &[u8]) -> bool {
-    let mut assembly = Assembly::new();
+fn come(unit: Unit, steps: &[Step], letters: &[u8]) -> bool {
+    let mut assembly = Assembly::new(unit);
     for (step, wanted) in steps.iter().zip(letters) {
-        if letter(&mut assembly, *step) != *wanted {
+        if letter(unit, &mut assembly, *step) != *wanted {
             return false;
         }
     }
@@ -113,24 +129,28 @@ const ROWS: [Row<'static>; 16] = [
 #[test]
 fn pieces_come_in_their_order_or_not(rt: HostRuntime) {
     for (situation, steps, letters) in &ROWS {
-        assert!(rt; come(steps, letters), "{situation}");
+        for unit in [Unit::U64, Unit::U128] {
+            assert!(rt; come(unit, steps, letters), "{situation}");
+        }
     }
 }
 
-/// Whether a message of 65 bytes is put together that is begun inside another, and nothing is left once that is dropped.
-fn takes_its_place() -> bool {
-    let mut assembly = Assembly::new();
-    let _ = fed(&mut assembly, 0x8B, 64, 7);
-    let _ = fed(&mut assembly, 0x8B, 64, 1);
-    let Some(Fed::Whole(message)) = fed(&mut assembly, 0x5B, 1, 1) else {
+/// Whether a message of a byte more than the unit is put together that is begun inside another, and nothing is left once
+/// that is dropped.
+fn takes_its_place(unit: Unit) -> bool {
+    let mut assembly = Assembly::new(unit);
+    let _ = fed(unit, &mut assembly, 0x8B, 64, 7);
+    let _ = fed(unit, &mut assembly, 0x8B, 64, 1);
+    let Some(Fed::Whole(message)) = fed(unit, &mut assembly, 0x5B, 1, 1) else {
         return false;
     };
-    let _ = fed(&mut assembly, 0x8B, 64, 7);
+    let _ = fed(unit, &mut assembly, 0x8B, 64, 7);
     assembly.clear();
-    message.bytes() == [1; 65].as_slice() && letter(&mut assembly, (0x1B, 64)) == b'N'
+    Some(message.bytes()) == [1; 129].get(..unit.bytes() + 1)
+        && letter(unit, &mut assembly, (0x1B, 64)) == b'N'
 }
 
 #[test]
 fn a_message_begun_inside_another_takes_its_place(rt: HostRuntime) {
-    assert!(rt; takes_its_place());
+    assert!(rt; takes_its_place(Unit::U64) && takes_its_place(Unit::U128));
 }

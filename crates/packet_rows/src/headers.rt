@@ -23,7 +23,7 @@ fn reads_and_writes(head: &PldmHead, message: &[u8]) -> bool {
     let Ok((read, body)) = decode(message) else {
         return false;
     };
-    if read != *head || body.len() > 252 || read.instance > 31 || read.pldm_type > 63 {
+    if read != *head || body.len() > 508 || read.instance > 31 || read.pldm_type > 63 {
         return false;
     }
     message.get(4..) == Some(body) && encode(&read, body).as_slice() == message
@@ -31,7 +31,7 @@ fn reads_and_writes(head: &PldmHead, message: &[u8]) -> bool {
 
 #[test]
 fn reads_what_it_writes(rt: HostRuntime) {
-    let mut longest = [0xA5; 256];
+    let mut longest = [0xA5; 512];
     longest[..4].copy_from_slice(&[0x01, 0x1F, 0x3F, 0xFF]);
     let table: [(&PldmHead, &[u8]); 3] = [
         (&GET_TID, &[0x01, 0x89, 0x00, 0x02]),

@@ -1,12 +1,13 @@
 //! Messages as they are made.
 
 use mctp_reasm::{Message, MessageFault};
+use mctp_wire::Unit;
 
 /// Whether a message of this many bytes is made, and tells what it is made of; or why none is.
-fn is_made(size: usize) -> Result<bool, MessageFault> {
-    let bytes = [0x5A; 257];
+fn is_made(unit: Unit, size: usize) -> Result<bool, MessageFault> {
+    let bytes = [0x5A; 513];
     let bytes = bytes.get(..size).unwrap_or(&[]);
-    let message = match Message::new(9, 8, true, 3, bytes) {
+    let message = match Message::new(unit, 9, 8, true, 3, bytes) {
         Ok(message) => message.again(),
         Err(fault) => return Err(fault),
     };
@@ -14,16 +15,20 @@ fn is_made(size: usize) -> Result<bool, MessageFault> {
     Ok(route == [9, 8, 3] && message.to() && message.bytes() == bytes)
 }
 
-const ROWS: [(usize, Result<bool, MessageFault>); 4] = [
-    (0, Err(MessageFault::Empty)),
-    (1, Ok(true)),
-    (256, Ok(true)),
-    (257, Err(MessageFault::TooLong)),
+const ROWS: [(Unit, usize, Result<bool, MessageFault>); 8] = [
+    (Unit::U64, 0, Err(MessageFault::Empty)),
+    (Unit::U64, 1, Ok(true)),
+    (Unit::U64, 256, Ok(true)),
+    (Unit::U64, 257, Err(MessageFault::TooLong)),
+    (Unit::U128, 0, Err(MessageFault::Empty)),
+    (Unit::U128, 1, Ok(true)),
+    (Unit::U128, 512, Ok(true)),
+    (Unit::U128, 513, Err(MessageFault::TooLong)),
 ];
 
 #[test]
-fn a_message_has_1_to_256_bytes(rt: HostRuntime) {
-    for (size, made) in &ROWS {
-        assert!(rt; is_made(*size) == *made, "{size}");
+fn a_message_has_1_byte_to_four_packets(rt: HostRuntime) {
+    for (unit, size, made) in &ROWS {
+        assert!(rt; is_made(*unit, *size) == *made, "{size}");
     }
 }

@@ -1,6 +1,6 @@
 //! Packets, read and written.
 
-use mctp_wire::{Head, RawPacket, decode, encode};
+use mctp_wire::{Head, RawPacket, Unit, WireFault, decode, encode};
 
 /// The head of the first packet of a request from endpoint 8 to endpoint 9.
 const REQUEST: Head = Head {
@@ -25,8 +25,8 @@ const MIDDLE: Head = Head {
 };
 
 /// Whether this head and the bytes behind it are read from a packet.
-fn reads(head: &Head, packet: &[u8]) -> bool {
-    match decode(packet) {
+fn reads(unit: Unit, head: &Head, packet: &[u8]) -> bool {
+    match decode(unit, packet) {
         Ok(read) => read.head == *head && packet.get(4..) == Some(read.body),
         Err(_) => false,
     }
@@ -37,27 +37,62 @@ fn writes(out: &mut RawPacket, head: &Head, packet: &[u8]) -> bool {
     let [_, _, _, _, body @ ..] = packet else {
         return false;
     };
-    if body.is_empty() || body.len() > 64 || head.seq > 3 || head.tag > 7 {
+    if body.is_empty() || body.len() > 128 || head.seq > 3 || head.tag > 7 {
         return false;
     }
     encode(head, body, out);
     out.as_slice() == packet
 }
 
+/// A packet of a byte more than the greater unit allows, of whose beginnings some are packets.
+fn longest() -> [u8; 133] {
+    let mut longest = [0x5A; 133];
+    longest[..4].copy_from_slice(&[0x01, 9, 8, 0xC8]);
+    longest
+}
+
+/// Whether so many of its bytes are too long for a packet at this unit.
+fn is_too_long(unit: Unit, size: usize) -> bool {
+    let bytes = longest();
+    let Some(packet) = bytes.get(..size) else {
+        return false;
+    };
+    match decode(unit, packet) {
+        Ok(_) => false,
+        Err(fault) => fault == WireFault::TooLong,
+    }
+}
+
+#[test]
+fn a_packet_carries_the_unit_at_most(rt: HostRuntime) {
+    let table = [
+        (Unit::U64, 68, false),
+        (Unit::U64, 69, true),
+        (Unit::U128, 69, false),
+        (Unit::U128, 132, false),
+        (Unit::U128, 133, true),
+    ];
+    for (unit, size, wanted) in table {
+        assert!(rt; is_too_long(unit, size) == wanted, "{size}");
+    }
+}
+
 #[test]
 fn reads_and_writes_packets(rt: HostRuntime) {
-    let mut longest = [0x5A; 68];
-    longest[..4].copy_from_slice(&[0x01, 9, 8, 0xC8]);
-    let table: [(&Head, &[u8]); 4] = [
-        (&REQUEST, &[0x01, 9, 8, 0xC8, 0x00, 0x80, 0x02]),
-        (&MIDDLE, &[0x01, 8, 9, 0x25, 0xAA]),
-        (&REQUEST, &longest),
-        (&MIDDLE, &[0x01, 8, 9, 0x25, 0xBB]),
+    let longest = longest();
+    let table: [(Unit, &Head, &[u8]); 7] = [
+        (Unit::U64, &REQUEST, &[0x01, 9, 8, 0xC8, 0x00, 0x80, 0x02]),
+        (Unit::U64, &MIDDLE, &[0x01, 8, 9, 0x25, 0xAA]),
+        (Unit::U64, &REQUEST, &longest[..68]),
+        (Unit::U64, &MIDDLE, &[0x01, 8, 9, 0x25, 0xBB]),
+        (Unit::U128, &REQUEST, &longest[..68]),
+        (Unit::U128, &REQUEST, &longest[..132]),
+        (Unit::U128, &MIDDLE, &[0x01, 8, 9, 0x25, 0xBB]),
     ];
     let mut out = RawPacket::new();
-    for (head, packet) in table {
-        assert!(rt; reads(head, packet) && writes(&mut out, head, packet));
+    for (unit, head, packet) in table {
+        assert!(rt; reads(unit, head, packet) && writes(&mut out, head, packet));
     }
     // the reserved bits of the first byte say nothing
-    assert!(rt; reads(&REQUEST, &[0xF1, 9, 8, 0xC8, 0x00]));
+    assert!(rt; reads(Unit::U64, &REQUEST, &[0xF1, 9, 8, 0xC8, 0x00]));
 }

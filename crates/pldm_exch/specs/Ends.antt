@@ -1,5 +1,6 @@
 -- The two ends of one direction of requests: the node that asks, and the node that answers.
 use Rattle.std.specs.Prelude.{ℕ, List, map, Option}
+use Rattle.mctp_wire.specs.declared.unit.Unit.{«Unit»}
 use Rattle.mctp_reasm.specs.Held.{Held, held_tick}
 use Rattle.mctp_reasm.specs.Inboxes.{none_held}
 use Rattle.pldm_exch.specs.Caller.{CallerState, caller_tick, fresh}
@@ -26,16 +27,19 @@ asker_new own peer deaf = record { deaf = deaf; caller = fresh own peer; replies
 abbrev pub taker_new : (deaf : ℕ) → TakerOf
 taker_new deaf = record { deaf = deaf; kept = none_kept; requests = none_held }
 
--- What a node has to ask a peer: its own endpoint and the peer's, its requests and what it holds of replies. For how long
--- it is deaf is a matter of the node, which has one such count for all its peers.
+-- What a node has to ask a peer: the network's transmission unit, its own endpoint and the peer's, its requests and what
+-- it holds of replies. For how long it is deaf is a matter of the node, which has one such count for all its peers.
 pub record AskingOf : Type 0 where
+  pub unit : «Unit»
   pub own : ℕ
   pub peer : ℕ
   pub caller : CallerState
   pub replies : List (Option Held)
 
--- What a node has to answer a peer: its own endpoint and the peer's, its kept answers and what it holds of requests.
+-- What a node has to answer a peer: the network's transmission unit, its own endpoint and the peer's, its kept answers and
+-- what it holds of requests.
 pub record AnsweringOf : Type 0 where
+  pub unit : «Unit»
   pub own : ℕ
   pub peer : ℕ
   pub kept : List (Option Kept)
@@ -49,11 +53,11 @@ abbrev pub taker_of : (deaf : ℕ) → AnsweringOf → TakerOf
 taker_of deaf t = record { deaf = deaf; kept = t.kept; requests = t.requests }
 
 -- before the first request, and before the first answer
-abbrev pub asking_new : (own peer : ℕ) → AskingOf
-asking_new own peer = record { own = own; peer = peer; caller = fresh own peer; replies = none_held }
+abbrev pub asking_new : «Unit» → (own peer : ℕ) → AskingOf
+asking_new u own peer = record { unit = u; own = own; peer = peer; caller = fresh own peer; replies = none_held }
 
-abbrev pub answering_new : (own peer : ℕ) → AnsweringOf
-answering_new own peer = record { own = own; peer = peer; kept = none_kept; requests = none_held }
+abbrev pub answering_new : «Unit» → (own peer : ℕ) → AnsweringOf
+answering_new u own peer = record { unit = u; own = own; peer = peer; kept = none_kept; requests = none_held }
 
 -- A tick passes: what is held grows older, and so do the requests.
 abbrev pub asking_older : AskingOf → AskingOf

@@ -1,5 +1,6 @@
 -- What each end of an exchange makes of a packet and of a tick, a row a case.
 use Rattle.std.specs.Prelude.{ℕ, ◌-◌, ◌==◌, nat_le, Bool, true, false, if◌then◌else◌, List, map, Option, Some, None, Result, Ok, Err}
+use Rattle.mctp_wire.specs.declared.unit.Unit.{«Unit»}
 use Rattle.mctp_reasm.specs.Held.{Held, held_tick}
 use Rattle.mctp_reasm.specs.Inboxes.{fed_at, held_with, packet_for}
 use Rattle.mctp_reasm.specs.Pieces.{MessageOf, PacketOf}
@@ -47,14 +48,14 @@ taker_fed requests kept (outcomes.Whole m) = taker_read requests kept m (pldm_of
 taker_fed requests kept outcomes.Open = TakerRow.Silent requests
 taker_fed requests kept (outcomes.Dropped cause) = TakerRow.Silent requests
 
-abbrev pub taker_packet : TakerOf → Option PacketOf → TakerRow
-taker_packet t None = TakerRow.Silent t.requests
-taker_packet t (Some p) = taker_fed (held_with t.requests p) t.kept (fed_at t.requests p)
+abbrev pub taker_packet : «Unit» → TakerOf → Option PacketOf → TakerRow
+taker_packet u t None = TakerRow.Silent t.requests
+taker_packet u t (Some p) = taker_fed (held_with u t.requests p) t.kept (fed_at u t.requests p)
 
 -- What a packet is for the node that answers; a deaf one drops it.
-abbrev pub taker_row : (own peer : ℕ) → TakerOf → List ℕ → TakerRow
-taker_row own peer t bytes =
-    if t.deaf == 0 then taker_packet t (packet_for own peer true bytes) else TakerRow.Silent t.requests
+abbrev pub taker_row : (u : «Unit») (own peer : ℕ) → TakerOf → List ℕ → TakerRow
+taker_row u own peer t bytes =
+    if t.deaf == 0 then taker_packet u t (packet_for u own peer true bytes) else TakerRow.Silent t.requests
 
 -- What a packet is for the node that asks: each row has what is held of replies then.
 pub data AskerRow : Type 0 where
@@ -74,14 +75,14 @@ asker_fed replies caller (outcomes.Whole m) = asker_answered replies (answer_hea
 asker_fed replies caller outcomes.Open = AskerRow.Ignores replies
 asker_fed replies caller (outcomes.Dropped cause) = AskerRow.Ignores replies
 
-abbrev pub asker_packet : AskerOf → Option PacketOf → AskerRow
-asker_packet a None = AskerRow.Ignores a.replies
-asker_packet a (Some p) = asker_fed (held_with a.replies p) a.caller (fed_at a.replies p)
+abbrev pub asker_packet : «Unit» → AskerOf → Option PacketOf → AskerRow
+asker_packet u a None = AskerRow.Ignores a.replies
+asker_packet u a (Some p) = asker_fed (held_with u a.replies p) a.caller (fed_at u a.replies p)
 
 -- What a packet is for the node that asks; a deaf one drops it.
-abbrev pub asker_row : (own peer : ℕ) → AskerOf → List ℕ → AskerRow
-asker_row own peer a bytes =
-    if a.deaf == 0 then asker_packet a (packet_for own peer false bytes) else AskerRow.Ignores a.replies
+abbrev pub asker_row : (u : «Unit») (own peer : ℕ) → AskerOf → List ℕ → AskerRow
+asker_row u own peer a bytes =
+    if a.deaf == 0 then asker_packet u a (packet_for u own peer false bytes) else AskerRow.Ignores a.replies
 
 -- What a tick is for the node that asks: each row has that node afterwards.
 pub data AskerTick : Type 0 where
@@ -125,10 +126,10 @@ taker_tick false t = t
 
 -- what an end that hears makes of these bytes
 abbrev pub asking_row : AskingOf → List ℕ → AskerRow
-asking_row a bytes = asker_packet (asker_of 0 a) (packet_for a.own a.peer false bytes)
+asking_row a bytes = asker_packet a.unit (asker_of 0 a) (packet_for a.unit a.own a.peer false bytes)
 
 abbrev pub answering_row : AnsweringOf → List ℕ → TakerRow
-answering_row t bytes = taker_packet (taker_of 0 t) (packet_for t.own t.peer true bytes)
+answering_row t bytes = taker_packet t.unit (taker_of 0 t) (packet_for t.unit t.own t.peer true bytes)
 
 -- the answer that the node that asks learns
 abbrev pub learnt_in : AskerRow → Option Heard

@@ -1,13 +1,15 @@
 //! The end of a node that asks a peer.
 
 ghost use Rattle.std.specs.Prelude.{◌≡◌, ◌≤◌, List, ℕ, is_some, length, option_map, true};
+ghost use Rattle.pldm_base.specs.Limits.{reply_limit};
 ghost use Rattle.pldm_exch.specs.Caller.{abandoned, asking, begun, caller_tick, is_quiet, may_begin};
 ghost use Rattle.pldm_exch.specs.Ends.{asking_new, asking_older};
 ghost use Rattle.pldm_exch.specs.Sides.{asking_after, asking_row, learnt_in};
 
 use crate::caller::{CallTick, Caller, ReplyIn};
 use mctp_reasm::{Fed, Inbox, Message};
-use pldm_base::{MAX_REPLY, TYPE_FIRMWARE_UPDATE};
+use mctp_wire::Unit;
+use pldm_base::TYPE_FIRMWARE_UPDATE;
 use std::marker::Model;
 
 /// What a node has to ask one peer: its requests, and the assemblies of that peer's replies. A node that is deaf gives it
@@ -24,20 +26,28 @@ impl Model for Asker {
 
     ghost Value = { AskingOf };
 
-    ghost view = { λ a. record { own = a.inbox.own; peer = a.inbox.peer; caller = a.caller; replies = a.inbox.held } };
+    ghost view = { λ a. record { unit = a.inbox.unit; own = a.inbox.own; peer = a.inbox.peer; caller = a.caller; replies = a.inbox.held } };
 
     ghost invariant = { λ a. a.inbox.to ≡ false };
 }
 
 impl Asker {
-    /// The end of the node `own` that asks the node `peer`, before its first request.
-    pub fn new(own: u8, peer: u8) -> Asker
-        ensures { result ≡ asking_new own peer }
+    /// The end of the node `own` that asks the node `peer` in a network with this transmission unit, before its first
+    /// request.
+    pub fn new(unit: Unit, own: u8, peer: u8) -> Asker
+        ensures { result ≡ asking_new unit own peer }
     {
         Asker {
             caller: Caller::new(own, peer),
-            inbox: Inbox::new(own, peer, false),
+            inbox: Inbox::new(unit, own, peer, false),
         }
+    }
+
+    /// The network's transmission unit.
+    pub fn unit(&self) -> Unit
+        ensures { result ≡ self.now.unit }
+    {
+        self.inbox.unit()
     }
 
     /// The node's own endpoint identifier.
@@ -83,15 +93,16 @@ impl Asker {
         self.caller.can_begin()
     }
 
-    /// Begins a request of PLDM type 5 with request data of at most `MAX_REPLY` bytes, and gives out the message to
-    /// send.
+    /// Begins a request of PLDM type 5 with request data that one message of the transmission unit holds, and gives out
+    /// the message to send.
     pub fn begin(&mut self, command: u8, body: &[u8]) -> Message
         requires may { may_begin self.old.caller ≡ true }
-        requires body { length body.now ≤ MAX_REPLY }
+        requires body { length body.now ≤ reply_limit self.old.unit }
         ensures request { result ≡ (begun self.old.caller 5 command body.now).1 }
         ensures after { self.new ≡ record self.old { caller = (begun self.old.caller 5 command body.now).0 } }
     {
-        self.caller.begin(TYPE_FIRMWARE_UPDATE, command, body)
+        let unit = self.unit();
+        self.caller.begin(unit, TYPE_FIRMWARE_UPDATE, command, body)
     }
 
     /// Gives the open request up: it isn't sent again, and its reply is dropped.

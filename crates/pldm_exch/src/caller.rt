@@ -1,12 +1,14 @@
 //! One direction's requests.
 
 ghost use Rattle.std.specs.Prelude.{◌≡◌, ◌≤◌, ◌%◌, length, List, ℕ, IfSome, IsSome, IsSomeAnd, option_map, is_some, true};
+ghost use Rattle.pldm_base.specs.Limits.{reply_limit};
 ghost use Rattle.pldm_exch.specs.Caller.{IsAnswerTo, IsCaller, abandoned, answer_body, answer_heard, asking, begun, caller_tick, fresh, is_answer_head, is_quiet, may_begin, sends_at};
 ghost use Rattle.pldm_exch.specs.Fields.{open_of};
 
 use crate::rests::Rests;
 use crate::times::{GIVEN_UP, RETRY};
 use mctp_reasm::{Message, TAGS};
+use mctp_wire::Unit;
 use pldm_base::{MAX_REPLY, PldmHead, Reply};
 use std::marker::Model;
 
@@ -176,12 +178,12 @@ impl Caller {
 
     /// Begins a request of a PLDM type and a command, and gives out the message to send: request n (from 0) carries tag
     /// n modulo 8 and identifier n modulo 32. It asks that a request may begin (`can_begin`), a type of at most 63 and a
-    /// body of at most `MAX_REPLY` bytes.
+    /// body that one message of the transmission unit holds.
     #[tactic(auto, using(crate::proofs::Callers::callers))]
-    pub fn begin(&mut self, pldm_type: u8, command: u8, body: &[u8]) -> Message
+    pub fn begin(&mut self, unit: Unit, pldm_type: u8, command: u8, body: &[u8]) -> Message
         requires may { may_begin self.old ≡ true }
         requires pldm_type { pldm_type ≤ 63 }
-        requires body { length body.now ≤ MAX_REPLY }
+        requires body { length body.now ≤ reply_limit unit }
         ensures request { result ≡ (begun self.old pldm_type command body.now).1 }
         ensures after { self.new ≡ (begun self.old pldm_type command body.now).0 }
     {
@@ -193,7 +195,8 @@ impl Caller {
             command,
         };
         let bytes = pldm_base::encode(&head, body);
-        let Ok(message) = Message::new(self.peer, self.own, true, tag, bytes.as_slice()) else {
+        let Ok(message) = Message::new(unit, self.peer, self.own, true, tag, bytes.as_slice())
+        else {
             unreachable!()
         };
         let again = message.again();

@@ -9,6 +9,7 @@ ghost use Rattle.pldm_exch.specs.Requests.{reply_message};
 use crate::answerer::{Answerer, Asked};
 use crate::request::{Brought, Request};
 use mctp_reasm::{Fed, Inbox, Message};
+use mctp_wire::Unit;
 use pldm_base::{MAX_REPLY, PldmHead};
 use std::marker::Model;
 
@@ -26,20 +27,28 @@ impl Model for Taker {
 
     ghost Value = { AnsweringOf };
 
-    ghost view = { λ t. record { own = t.inbox.own; peer = t.inbox.peer; kept = t.answerer; requests = t.inbox.held } };
+    ghost view = { λ t. record { unit = t.inbox.unit; own = t.inbox.own; peer = t.inbox.peer; kept = t.answerer; requests = t.inbox.held } };
 
     ghost invariant = { λ t. t.inbox.to ≡ true };
 }
 
 impl Taker {
-    /// The end of the node `own` that answers the node `peer`, before its first answer.
-    pub fn new(own: u8, peer: u8) -> Taker
-        ensures { result ≡ answering_new own peer }
+    /// The end of the node `own` that answers the node `peer` in a network with this transmission unit, before its first
+    /// answer.
+    pub fn new(unit: Unit, own: u8, peer: u8) -> Taker
+        ensures { result ≡ answering_new unit own peer }
     {
         Taker {
             answerer: Answerer::new(),
-            inbox: Inbox::new(own, peer, true),
+            inbox: Inbox::new(unit, own, peer, true),
         }
+    }
+
+    /// The network's transmission unit.
+    pub fn unit(&self) -> Unit
+        ensures { result ≡ self.now.unit }
+    {
+        self.inbox.unit()
     }
 
     /// The node's own endpoint identifier.
@@ -89,8 +98,8 @@ impl Taker {
         Brought::New(Request { message, head })
     }
 
-    /// Answers a new request with a completion code and fields of at most `MAX_REPLY` bytes: the
-    /// message to send, which is kept.
+    /// Answers a new request with a completion code and fields of at most `MAX_REPLY` bytes: the message to send, which is
+    /// kept. That the message fits the transmission unit is the node's to see to.
     pub fn answer(&mut self, request: &Request, reply: &[u8]) -> Message
         requires { length reply.now ≤ MAX_REPLY }
         ensures answer { result ≡ reply_message request.now.message request.now.head reply.now }
@@ -119,6 +128,7 @@ fn reply_to(request: &Message, head: &PldmHead, reply: &[u8]) -> Message
     let reply_head = PldmHead { rq: false, ..*head };
     let bytes = pldm_base::encode(&reply_head, reply);
     let Ok(message) = Message::new(
+        Unit::U128,
         request.source(),
         request.dest(),
         false,

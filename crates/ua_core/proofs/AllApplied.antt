@@ -1,6 +1,7 @@
 -- Where a session gets into AllApplied from, row by row.
 use Rattle.std.specs.Prelude.{Bool, Err, List, Ok, Result, [], false, if◌then◌else◌, nat_lt, true, ◌&&◌, ◌||◌, ◌==◌, ◌∷◌, ◌≡◌, ℕ, map}
 use Rattle.std.proofs.Common.{refl}
+use Rattle.mctp_wire.specs.declared.unit.Unit.{«Unit»}
 use Rattle.fw_package.specs.Choice.{component_at, record_number}
 use Rattle.fw_package.specs.Package.{PackageText}
 use Rattle.fwup_wire.specs.Values.{AnswerOf, CommandOf}
@@ -47,43 +48,43 @@ applied_leads : (t : TaskOf) (b : Bool)
 applied_leads t true h = h
 applied_leads t false h = absurd h
 
-data_leads : (image : List ℕ) (offset size : ℕ) → LeadsToAll (data_of image offset size) → ⊥
-data_leads image offset size =
-    leads_both (is_bad_length size) (refuses 0x83)
+data_leads : (unit : «Unit») (image : List ℕ) (offset size : ℕ) → LeadsToAll (data_of unit image offset size) → ⊥
+data_leads unit image offset size =
+    leads_both (is_bad_length unit size) (refuses 0x83)
     (if is_past_end image offset size then refuses 0x82 else ServeRow.Give (window image offset size)) (λ h. h)
     (leads_both (is_past_end image offset size) (refuses 0x82) (ServeRow.Give (window image offset size)) (λ h. h) (λ h. h))
 
-leads_in : (p : PackageText) (g : Stage) (c : CommandOf) → LeadsToAll (serve_row p g c) → IsApplyingLast g
-leads_in p (Stage.Apply t) (CommandOf.ApplyComplete result methods) h = applied_leads t (result == 0) h
-leads_in p (Stage.Apply t) (CommandOf.VerifyComplete result) h =
+leads_in : (unit : «Unit») (p : PackageText) (g : Stage) (c : CommandOf) → LeadsToAll (serve_row unit p g c) → IsApplyingLast g
+leads_in unit p (Stage.Apply t) (CommandOf.ApplyComplete result methods) h = applied_leads t (result == 0) h
+leads_in unit p (Stage.Apply t) (CommandOf.VerifyComplete result) h =
     absurd (leads_both (result == 0) (ServeRow.Say AnswerOf.VerifyComplete) unexpected (λ x. x) (λ x. x) h)
-leads_in p (Stage.Download t) (CommandOf.RequestFirmwareData offset size) h =
-    absurd (data_leads (component_at p t.at_hand.component).image offset size h)
-leads_in p (Stage.Download t) (CommandOf.TransferComplete result) h =
+leads_in unit p (Stage.Download t) (CommandOf.RequestFirmwareData offset size) h =
+    absurd (data_leads unit (component_at p t.at_hand.component).image offset size h)
+leads_in unit p (Stage.Download t) (CommandOf.TransferComplete result) h =
     absurd (stage_both (result == 0) (Stage.Verify t) (Stage.Failed causes.Transfer) (λ x. x) (λ x. x) h)
-leads_in p (Stage.Verify t) (CommandOf.TransferComplete result) h =
+leads_in unit p (Stage.Verify t) (CommandOf.TransferComplete result) h =
     absurd (leads_both (result == 0) (ServeRow.Say AnswerOf.TransferComplete) unexpected (λ x. x) (λ x. x) h)
-leads_in p (Stage.Verify t) (CommandOf.VerifyComplete result) h =
+leads_in unit p (Stage.Verify t) (CommandOf.VerifyComplete result) h =
     absurd (stage_both (result == 0) (Stage.Apply t) (Stage.Failed causes.Verify) (λ x. x) (λ x. x) h)
-leads_in p (Stage.Update t) (CommandOf.ApplyComplete result methods) h =
+leads_in unit p (Stage.Update t) (CommandOf.ApplyComplete result methods) h =
     absurd (leads_both ((result == 0) && nat_lt 0 t.made) (ServeRow.Say AnswerOf.ApplyComplete) unexpected (λ x. x) (λ x. x) h)
-leads_in p (Stage.AllApplied j) (CommandOf.ApplyComplete result methods) h =
+leads_in unit p (Stage.AllApplied j) (CommandOf.ApplyComplete result methods) h =
     absurd (leads_both (result == 0) (ServeRow.Say AnswerOf.ApplyComplete) unexpected (λ x. x) (λ x. x) h)
-leads_in p (Stage.Activate j) (CommandOf.ApplyComplete result methods) h =
+leads_in unit p (Stage.Activate j) (CommandOf.ApplyComplete result methods) h =
     absurd (leads_both (result == 0) (ServeRow.Say AnswerOf.ApplyComplete) unexpected (λ x. x) (λ x. x) h)
-leads_in p g (CommandOf.RequestFirmwareData offset size) h = absurd h
-leads_in p g (CommandOf.TransferComplete result) h = absurd h
-leads_in p g (CommandOf.VerifyComplete result) h = absurd h
-leads_in p g (CommandOf.ApplyComplete result methods) h = absurd h
-leads_in p g c h = absurd h
+leads_in unit p g (CommandOf.RequestFirmwareData offset size) h = absurd h
+leads_in unit p g (CommandOf.TransferComplete result) h = absurd h
+leads_in unit p g (CommandOf.VerifyComplete result) h = absurd h
+leads_in unit p g (CommandOf.ApplyComplete result methods) h = absurd h
+leads_in unit p g c h = absurd h
 
 pub applies_all : AppliesAll
-applies_all p s c out h = leads_in p s.stage c (leads_by s (serve_row p s.stage c) out h)
+applies_all p s c out h = leads_in s.unit p s.stage c (leads_by s (serve_row s.unit p s.stage c) out h)
 
 -- another stage
 abbrev IsElsewhere : Stage → Type 0
 IsElsewhere (Stage.AllApplied _) = ⊥
-IsElsewhere _ = Unit {0}
+IsElsewhere _ = Prim.Unit {0}
 
 not_all_applied : (g : Stage) → IsElsewhere g → IsAllApplied g → ⊥
 not_all_applied (Stage.AllApplied j) x h = x
@@ -91,7 +92,7 @@ not_all_applied g x h = h
 
 -- what an answer brings is another stage
 abbrev LeadsElsewhere : LearnRow → Type 0
-LeadsElsewhere LearnRow.Stay = Unit {0}
+LeadsElsewhere LearnRow.Stay = Prim.Unit {0}
 LeadsElsewhere (LearnRow.Go g) = IsElsewhere g
 
 learnt_both : (b : Bool) (r q : LearnRow) → LeadsElsewhere r → LeadsElsewhere q → LeadsElsewhere (if b then r else q)

@@ -1,5 +1,6 @@
 -- Each command of a device is answered by what reads as an answer to it.
 use Rattle.std.proofs.Common.{◌≡◌, ◌==◌, ◌&&◌, ℕ, Bool, true, false, if◌then◌else◌, nat_lt, List, Some, refl}
+use Rattle.mctp_wire.specs.declared.unit.Unit.{«Unit»}
 use Rattle.fw_package.specs.Choice.{component_at}
 use Rattle.fw_package.specs.Package.{PackageText}
 use Rattle.fwup_wire.specs.Answers.{answer_bytes, answer_in}
@@ -22,14 +23,14 @@ served image offset size true past = refl
 served image offset size false true = refl
 served image offset size false false = refl
 
-data_reads : (image : List ℕ) (offset size : ℕ) → Reads 0x15 (data_of image offset size)
-data_reads image offset size =
-    served image offset size (is_bad_length size) (is_past_end image offset size)
+data_reads : (unit : «Unit») (image : List ℕ) (offset size : ℕ) → Reads 0x15 (data_of unit image offset size)
+data_reads unit image offset size =
+    served image offset size (is_bad_length unit size) (is_past_end image offset size)
 
-pieces : (p : PackageText) (g : Stage) (offset size : ℕ) → Reads 0x15 (data_row p g offset size)
-pieces p (Stage.Update t) offset size = refl
-pieces p (Stage.Download t) offset size = data_reads (component_at p t.at_hand.component).image offset size
-pieces p g offset size = refl
+pieces : (unit : «Unit») (p : PackageText) (g : Stage) (offset size : ℕ) → Reads 0x15 (data_row unit p g offset size)
+pieces unit p (Stage.Update t) offset size = refl
+pieces unit p (Stage.Download t) offset size = data_reads unit (component_at p t.at_hand.component).image offset size
+pieces unit p g offset size = refl
 
 transfers : (g : Stage) (result : ℕ) → Reads 0x16 (transfer_row g result)
 transfers (Stage.Download t) result = refl
@@ -49,7 +50,7 @@ applies (Stage.Activate j) result = either 0x18 (result == 0) _ _ refl refl
 applies g result = refl
 
 pub answers_read : (p : PackageText) (s : SessionOf) (c : CommandOf) → answer_in (command_code c) (answer_bytes (agent_answer p s c)) ≡ Some (agent_answer p s c)
-answers_read p s (CommandOf.RequestFirmwareData offset size) = pieces p s.stage offset size
+answers_read p s (CommandOf.RequestFirmwareData offset size) = pieces s.unit p s.stage offset size
 answers_read p s (CommandOf.TransferComplete result) = transfers s.stage result
 answers_read p s (CommandOf.VerifyComplete result) = verifies s.stage result
 answers_read p s (CommandOf.ApplyComplete result methods) = applies s.stage result

@@ -2,6 +2,7 @@
 use Rattle.std.specs.Prelude.{All, Bool, Err, List, None, Ok, Option, Result, Some, [], false, if◌then◌else◌, map, nat_lt, true, ◌&&◌, ◌||◌, ◌++◌, ◌==◌, ◌∷◌, ◌≡◌, ℕ}
 use Rattle.std.proofs.Common.{ap, refl, sym, ◌∙◌}
 use Rattle.std.proofs.lemmas.List.Elements.{All-contains_itself, All-head, All-nil, All-push, All-tail}
+use Rattle.mctp_wire.specs.declared.unit.Unit.{«Unit»}
 use Rattle.fw_package.specs.Choice.{component_at, plan_of, record_number}
 use Rattle.fw_package.specs.Package.{PackageText}
 use Rattle.fw_package.specs.declared.fault.PlanFault.{PlanFault}
@@ -19,7 +20,7 @@ use Rattle.ua_core.specs.declared.state.Cause.TheVariants as causes
 abbrev RowInPlan : PackageText → ServeRow → Type 0
 RowInPlan p (ServeRow.Move g a) = StandsInPlan p g
 RowInPlan p (ServeRow.Record t) = IsTask p t
-RowInPlan p _ = Unit {0}
+RowInPlan p _ = Prim.Unit {0}
 
 row_both : (p : PackageText) (b : Bool) (r q : ServeRow) → RowInPlan p r → RowInPlan p q → RowInPlan p (if b then r else q)
 row_both p true r q x y = x
@@ -29,36 +30,36 @@ stage_both : (p : PackageText) (b : Bool) (g k : Stage) → StandsInPlan p g →
 stage_both p true g k x y = x
 stage_both p false g k x y = y
 
-data_in : (p : PackageText) (image : List ℕ) (offset size : ℕ) → RowInPlan p (data_of image offset size)
-data_in p image offset size =
-    row_both p (is_bad_length size) (refuses 0x83)
+data_in : (unit : «Unit») (p : PackageText) (image : List ℕ) (offset size : ℕ) → RowInPlan p (data_of unit image offset size)
+data_in unit p image offset size =
+    row_both p (is_bad_length unit size) (refuses 0x83)
     (if is_past_end image offset size then refuses 0x82 else ServeRow.Give (window image offset size)) tt
     (row_both p (is_past_end image offset size) (refuses 0x82) (ServeRow.Give (window image offset size)) tt tt)
 
-serves_in : (p : PackageText) (g : Stage) (c : CommandOf) → StandsInPlan p g → RowInPlan p (serve_row p g c)
-serves_in p (Stage.Download t) (CommandOf.RequestFirmwareData offset size) h =
-    data_in p (component_at p t.at_hand.component).image offset size
-serves_in p (Stage.Download t) (CommandOf.TransferComplete result) h =
+serves_in : (unit : «Unit») (p : PackageText) (g : Stage) (c : CommandOf) → StandsInPlan p g → RowInPlan p (serve_row unit p g c)
+serves_in unit p (Stage.Download t) (CommandOf.RequestFirmwareData offset size) h =
+    data_in unit p (component_at p t.at_hand.component).image offset size
+serves_in unit p (Stage.Download t) (CommandOf.TransferComplete result) h =
     stage_both p (result == 0) (Stage.Verify t) (Stage.Failed causes.Transfer) h tt
-serves_in p (Stage.Verify t) (CommandOf.TransferComplete result) h =
+serves_in unit p (Stage.Verify t) (CommandOf.TransferComplete result) h =
     row_both p (result == 0) (ServeRow.Say AnswerOf.TransferComplete) unexpected tt tt
-serves_in p (Stage.Verify t) (CommandOf.VerifyComplete result) h =
+serves_in unit p (Stage.Verify t) (CommandOf.VerifyComplete result) h =
     stage_both p (result == 0) (Stage.Apply t) (Stage.Failed causes.Verify) h tt
-serves_in p (Stage.Apply t) (CommandOf.VerifyComplete result) h =
+serves_in unit p (Stage.Apply t) (CommandOf.VerifyComplete result) h =
     row_both p (result == 0) (ServeRow.Say AnswerOf.VerifyComplete) unexpected tt tt
-serves_in p (Stage.Apply t) (CommandOf.ApplyComplete result methods) h =
+serves_in unit p (Stage.Apply t) (CommandOf.ApplyComplete result methods) h =
     row_both p (result == 0) (ServeRow.Record t) (ServeRow.Move (Stage.Failed causes.Apply) AnswerOf.ApplyComplete) h tt
-serves_in p (Stage.Update t) (CommandOf.ApplyComplete result methods) h =
+serves_in unit p (Stage.Update t) (CommandOf.ApplyComplete result methods) h =
     row_both p ((result == 0) && nat_lt 0 t.made) (ServeRow.Say AnswerOf.ApplyComplete) unexpected tt tt
-serves_in p (Stage.AllApplied j) (CommandOf.ApplyComplete result methods) h =
+serves_in unit p (Stage.AllApplied j) (CommandOf.ApplyComplete result methods) h =
     row_both p (result == 0) (ServeRow.Say AnswerOf.ApplyComplete) unexpected tt tt
-serves_in p (Stage.Activate j) (CommandOf.ApplyComplete result methods) h =
+serves_in unit p (Stage.Activate j) (CommandOf.ApplyComplete result methods) h =
     row_both p (result == 0) (ServeRow.Say AnswerOf.ApplyComplete) unexpected tt tt
-serves_in p g (CommandOf.RequestFirmwareData offset size) h = tt
-serves_in p g (CommandOf.TransferComplete result) h = tt
-serves_in p g (CommandOf.VerifyComplete result) h = tt
-serves_in p g (CommandOf.ApplyComplete result methods) h = tt
-serves_in p g c h = tt
+serves_in unit p g (CommandOf.RequestFirmwareData offset size) h = tt
+serves_in unit p g (CommandOf.TransferComplete result) h = tt
+serves_in unit p g (CommandOf.VerifyComplete result) h = tt
+serves_in unit p g (CommandOf.ApplyComplete result methods) h = tt
+serves_in unit p g c h = tt
 
 task_in : (p : PackageText) (t : TaskOf) (todo : List Planned) → IsPlanned p t.job → All (IsOfPlan t.job) todo
     → StandsInPlan p (task_after t todo)
@@ -73,7 +74,7 @@ after_in p s (ServeRow.Say a) h x = h
 after_in p s (ServeRow.Give bytes) h x = h
 
 pub serves_in_plan : ServesInPlan
-serves_in_plan p s c h = after_in p s (serve_row p s.stage c) h (serves_in p s.stage c h)
+serves_in_plan p s c h = after_in p s (serve_row s.unit p s.stage c) h (serves_in s.unit p s.stage c h)
 
 -- the numbers of the components stay
 numbers_unlearnt : (ns : List ℕ) → map number_of (map unlearnt ns) ≡ ns
@@ -87,7 +88,7 @@ numbers_indexed p devices (i ∷ is) = ap (λ rest. i.component ∷ rest) (numbe
 
 -- what an answer brings stands in the plan
 abbrev LearntInPlan : PackageText → LearnRow → Type 0
-LearntInPlan p LearnRow.Stay = Unit {0}
+LearntInPlan p LearnRow.Stay = Prim.Unit {0}
 LearntInPlan p (LearnRow.Go g) = StandsInPlan p g
 
 learnt_both : (p : PackageText) (b : Bool) (r q : LearnRow) → LearntInPlan p r → LearntInPlan p q → LearntInPlan p (if b then r else q)

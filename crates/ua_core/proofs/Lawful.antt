@@ -1,6 +1,7 @@
 -- The laws, row by row.
 use Rattle.std.specs.Prelude.{Bool, IsSome, List, [], false, if◌then◌else◌, nat_lt, true, ◌&&◌, ◌++◌, ◌==◌, ◌∷◌, ◌≡◌, ℕ}
 use Rattle.std.proofs.Common.{refl, subst, sym, append-nil}
+use Rattle.mctp_wire.specs.declared.unit.Unit.{«Unit»}
 use Rattle.fw_package.specs.Choice.{component_at}
 use Rattle.fw_package.specs.Package.{PackageText}
 use Rattle.fwup_wire.specs.Values.{AnswerOf, CommandOf}
@@ -23,7 +24,7 @@ loose_by s (ServeRow.Give bytes) h = refl
 loose_by s (ServeRow.Move g a) h = refl
 
 pub loose_records_nothing : LooseRecordsNothing
-loose_records_nothing p s c h = loose_by s (serve_row p s.stage c) h
+loose_records_nothing p s c h = loose_by s (serve_row s.unit p s.stage c) h
 
 grows_by : (s : SessionOf) (r : ServeRow) → (after_by s r).records ≡ s.records ++ recorded_with s r
 grows_by s (ServeRow.Record t) = refl
@@ -32,7 +33,7 @@ grows_by s (ServeRow.Give bytes) = sym (append-nil s.records)
 grows_by s (ServeRow.Move g a) = sym (append-nil s.records)
 
 pub records_grow : RecordsGrow
-records_grow p s c = grows_by s (serve_row p s.stage c)
+records_grow p s c = grows_by s (serve_row s.unit p s.stage c)
 
 learns_by : (s : SessionOf) (r : LearnRow) → (learn_by s r).records ≡ s.records
 learns_by s LearnRow.Stay = refl
@@ -46,23 +47,24 @@ stands_both : (s : SessionOf) (b : Bool) (r q : ServeRow) → after_by s r ≡ s
 stands_both s true r q x y = x
 stands_both s false r q x y = y
 
-stands_in : (p : PackageText) (s : SessionOf) (g : Stage) (c : CommandOf) → IsSome (stage_wish p g) → after_by s (serve_row p g c) ≡ s
-stands_in p s (Stage.Update t) (CommandOf.ApplyComplete result methods) h =
+stands_in : (unit : «Unit») (p : PackageText) (s : SessionOf) (g : Stage) (c : CommandOf) → IsSome (stage_wish unit p g)
+    → after_by s (serve_row unit p g c) ≡ s
+stands_in unit p s (Stage.Update t) (CommandOf.ApplyComplete result methods) h =
     stands_both s ((result == 0) && nat_lt 0 t.made) (ServeRow.Say AnswerOf.ApplyComplete) unexpected refl refl
-stands_in p s (Stage.Activate j) (CommandOf.ApplyComplete result methods) h =
+stands_in unit p s (Stage.Activate j) (CommandOf.ApplyComplete result methods) h =
     stands_both s (result == 0) (ServeRow.Say AnswerOf.ApplyComplete) unexpected refl refl
-stands_in p s (Stage.Download t) c h = absurd (cc)
-stands_in p s (Stage.Verify t) c h = absurd (cc)
-stands_in p s (Stage.Apply t) c h = absurd (cc)
-stands_in p s (Stage.AllApplied j) c h = absurd (cc)
-stands_in p s g (CommandOf.RequestFirmwareData offset size) h = refl
-stands_in p s g (CommandOf.TransferComplete result) h = refl
-stands_in p s g (CommandOf.VerifyComplete result) h = refl
-stands_in p s g (CommandOf.ApplyComplete result methods) h = refl
-stands_in p s g c h = refl
+stands_in unit p s (Stage.Download t) c h = absurd (cc)
+stands_in unit p s (Stage.Verify t) c h = absurd (cc)
+stands_in unit p s (Stage.Apply t) c h = absurd (cc)
+stands_in unit p s (Stage.AllApplied j) c h = absurd (cc)
+stands_in unit p s g (CommandOf.RequestFirmwareData offset size) h = refl
+stands_in unit p s g (CommandOf.TransferComplete result) h = refl
+stands_in unit p s g (CommandOf.VerifyComplete result) h = refl
+stands_in unit p s g (CommandOf.ApplyComplete result methods) h = refl
+stands_in unit p s g c h = refl
 
 pub wish_stands : WishStands
-wish_stands p s c h = stands_in p s s.stage c h
+wish_stands p s c h = stands_in s.unit p s s.stage c h
 
 -- two rows that record nothing
 nothing_both : (s : SessionOf) (b : Bool) (r q : ServeRow) → recorded_with s r ≡ [] → recorded_with s q ≡ []
@@ -70,35 +72,36 @@ nothing_both : (s : SessionOf) (b : Bool) (r q : ServeRow) → recorded_with s r
 nothing_both s true r q x y = x
 nothing_both s false r q x y = y
 
-data_nothing : (s : SessionOf) (image : List ℕ) (offset size : ℕ) → recorded_with s (data_of image offset size) ≡ []
-data_nothing s image offset size =
-    nothing_both s (is_bad_length size) (refuses 0x83)
+data_nothing : (unit : «Unit») (s : SessionOf) (image : List ℕ) (offset size : ℕ) → recorded_with s (data_of unit image offset size) ≡ []
+data_nothing unit s image offset size =
+    nothing_both s (is_bad_length unit size) (refuses 0x83)
     (if is_past_end image offset size then refuses 0x82 else ServeRow.Give (window image offset size)) refl
     (nothing_both s (is_past_end image offset size) (refuses 0x82) (ServeRow.Give (window image offset size)) refl refl)
 
 -- only in Apply a record is made
-nothing_in : (p : PackageText) (s : SessionOf) (g : Stage) (c : CommandOf) → (IsApplying g → ⊥) → recorded_with s (serve_row p g c) ≡ []
-nothing_in p s (Stage.Download t) (CommandOf.RequestFirmwareData offset size) h =
-    data_nothing s (component_at p t.at_hand.component).image offset size
-nothing_in p s (Stage.Apply t) c h = absurd (h tt)
-nothing_in p s (Stage.Verify t) (CommandOf.TransferComplete result) h =
+nothing_in : (unit : «Unit») (p : PackageText) (s : SessionOf) (g : Stage) (c : CommandOf) → (IsApplying g → ⊥)
+    → recorded_with s (serve_row unit p g c) ≡ []
+nothing_in unit p s (Stage.Download t) (CommandOf.RequestFirmwareData offset size) h =
+    data_nothing unit s (component_at p t.at_hand.component).image offset size
+nothing_in unit p s (Stage.Apply t) c h = absurd (h tt)
+nothing_in unit p s (Stage.Verify t) (CommandOf.TransferComplete result) h =
     nothing_both s (result == 0) (ServeRow.Say AnswerOf.TransferComplete) unexpected refl refl
-nothing_in p s (Stage.Update t) (CommandOf.ApplyComplete result methods) h =
+nothing_in unit p s (Stage.Update t) (CommandOf.ApplyComplete result methods) h =
     nothing_both s ((result == 0) && nat_lt 0 t.made) (ServeRow.Say AnswerOf.ApplyComplete) unexpected refl refl
-nothing_in p s (Stage.AllApplied j) (CommandOf.ApplyComplete result methods) h =
+nothing_in unit p s (Stage.AllApplied j) (CommandOf.ApplyComplete result methods) h =
     nothing_both s (result == 0) (ServeRow.Say AnswerOf.ApplyComplete) unexpected refl refl
-nothing_in p s (Stage.Activate j) (CommandOf.ApplyComplete result methods) h =
+nothing_in unit p s (Stage.Activate j) (CommandOf.ApplyComplete result methods) h =
     nothing_both s (result == 0) (ServeRow.Say AnswerOf.ApplyComplete) unexpected refl refl
-nothing_in p s g (CommandOf.RequestFirmwareData offset size) h = refl
-nothing_in p s g (CommandOf.TransferComplete result) h = refl
-nothing_in p s g (CommandOf.VerifyComplete result) h = refl
-nothing_in p s g (CommandOf.ApplyComplete result methods) h = refl
-nothing_in p s g c h = refl
+nothing_in unit p s g (CommandOf.RequestFirmwareData offset size) h = refl
+nothing_in unit p s g (CommandOf.TransferComplete result) h = refl
+nothing_in unit p s g (CommandOf.VerifyComplete result) h = refl
+nothing_in unit p s g (CommandOf.ApplyComplete result methods) h = refl
+nothing_in unit p s g c h = refl
 
 pub records_in_apply : RecordsInApply
-records_in_apply p s c h = nothing_in p s s.stage c h
+records_in_apply p s c h = nothing_in s.unit p s s.stage c h
 
 -- and there at every good ApplyComplete
 pub records_good_apply : RecordsGoodApply
 records_good_apply p s t methods is =
-    subst (λ g. recorded_with s (serve_row p g (CommandOf.ApplyComplete 0 methods)) ≡ record_of s t ∷ []) (sym is) refl
+    subst (λ g. recorded_with s (serve_row s.unit p g (CommandOf.ApplyComplete 0 methods)) ≡ record_of s t ∷ []) (sym is) refl

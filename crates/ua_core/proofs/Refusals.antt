@@ -1,5 +1,6 @@
 -- A command that is answered by a refusal takes the row of one.
 use Rattle.std.proofs.Common.{◌≡◌, ◌==◌, ◌&&◌, ℕ, Bool, true, false, if◌then◌else◌, nat_lt, List, ap}
+use Rattle.mctp_wire.specs.declared.unit.Unit.{«Unit»}
 use Rattle.fw_package.specs.Choice.{component_at}
 use Rattle.fw_package.specs.Package.{PackageText}
 use Rattle.fwup_wire.specs.Values.{AnswerOf, CommandOf}
@@ -22,18 +23,18 @@ either false x y hx hy = hy
 gives : (bytes : List ℕ) → IsRefusal (ServeRow.Give bytes)
 gives bytes code e = absurd (cc)
 
-data_refused : (image : List ℕ) (offset size : ℕ) → IsRefusal (data_of image offset size)
-data_refused image offset size =
-    either (is_bad_length size) (refuses 0x83)
+data_refused : (unit : «Unit») (image : List ℕ) (offset size : ℕ) → IsRefusal (data_of unit image offset size)
+data_refused unit image offset size =
+    either (is_bad_length unit size) (refuses 0x83)
     (if is_past_end image offset size then refuses 0x82 else ServeRow.Give (window image offset size))
     (says (AnswerOf.Refused 0x83))
     (either (is_past_end image offset size) (refuses 0x82) (ServeRow.Give (window image offset size))
     (says (AnswerOf.Refused 0x82)) (gives (window image offset size)))
 
-pieces : (p : PackageText) (g : Stage) (offset size : ℕ) → IsRefusal (data_row p g offset size)
-pieces p (Stage.Update t) offset size = says (AnswerOf.Refused 0x89)
-pieces p (Stage.Download t) offset size = data_refused (component_at p t.at_hand.component).image offset size
-pieces p g offset size = says (AnswerOf.Refused 0x88)
+pieces : (unit : «Unit») (p : PackageText) (g : Stage) (offset size : ℕ) → IsRefusal (data_row unit p g offset size)
+pieces unit p (Stage.Update t) offset size = says (AnswerOf.Refused 0x89)
+pieces unit p (Stage.Download t) offset size = data_refused unit (component_at p t.at_hand.component).image offset size
+pieces unit p g offset size = says (AnswerOf.Refused 0x88)
 
 told : (b : Bool) (a : AnswerOf) → IsRefusal (if b then ServeRow.Say a else refuses 0x88)
 told b a = either b (ServeRow.Say a) (refuses 0x88) (says a) (says (AnswerOf.Refused 0x88))
@@ -63,18 +64,18 @@ applies (Stage.AllApplied j) result = told (result == 0) AnswerOf.ApplyComplete
 applies (Stage.Activate j) result = told (result == 0) AnswerOf.ApplyComplete
 applies g result = says (AnswerOf.Refused 0x88)
 
-refusals : (p : PackageText) (g : Stage) (c : CommandOf) → IsRefusal (serve_row p g c)
-refusals p g (CommandOf.RequestFirmwareData offset size) = pieces p g offset size
-refusals p g (CommandOf.TransferComplete result) = transfers g result
-refusals p g (CommandOf.VerifyComplete result) = verifies g result
-refusals p g (CommandOf.ApplyComplete result methods) = applies g result
-refusals p g c = says (AnswerOf.Refused 5)
+refusals : (unit : «Unit») (p : PackageText) (g : Stage) (c : CommandOf) → IsRefusal (serve_row unit p g c)
+refusals unit p g (CommandOf.RequestFirmwareData offset size) = pieces unit p g offset size
+refusals unit p g (CommandOf.TransferComplete result) = transfers g result
+refusals unit p g (CommandOf.VerifyComplete result) = verifies g result
+refusals unit p g (CommandOf.ApplyComplete result methods) = applies g result
+refusals unit p g c = says (AnswerOf.Refused 5)
 
 pub refusals_keep : RefusalsKeepTheSession
-refusals_keep p s c code e = ap (after_by s) (refusals p s.stage c code e)
+refusals_keep p s c code e = ap (after_by s) (refusals s.unit p s.stage c code e)
 
 pub refusals_record : RefusalsRecordNothing
-refusals_record p s c code e = ap (recorded_with s) (refusals p s.stage c code e)
+refusals_record p s c code e = ap (recorded_with s) (refusals s.unit p s.stage c code e)
 
 pub refusals_stir : RefusalsStirNothing
-refusals_stir p s idle c code e = ap (idle_after idle) (refusals p s.stage c code e)
+refusals_stir p s idle c code e = ap (idle_after idle) (refusals s.unit p s.stage c code e)

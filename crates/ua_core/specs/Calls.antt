@@ -1,12 +1,13 @@
 -- The operator's calls, time and restarts.
 use Rattle.std.specs.Prelude.{None, Option, Some, [], false, true, Bool, if◌then◌else◌, not, ◌+◌, ◌==◌, ℕ}
 use Rattle.std.specs.Option.{option_map}
+use Rattle.mctp_wire.specs.declared.unit.Unit.{«Unit»}
 use Rattle.ua_core.specs.Session.{SessionOf, Stage, TimedOf, at_stage, is_free_state, state_of}
 use Rattle.ua_core.specs.declared.state.Cause.TheVariants as causes
 
--- a session as it is made
-abbrev pub new_session : TimedOf
-new_session = record { session = record { stage = Stage.Idle; number = 0; records = [] }; idle = 0 }
+-- a session as it is made, on a network of this unit
+abbrev pub new_session : «Unit» → TimedOf
+new_session unit = record { session = record { unit = unit; stage = Stage.Idle; number = 0; records = [] }; idle = 0 }
 
 -- no update is under way
 abbrev pub is_free : SessionOf → Bool
@@ -14,7 +15,7 @@ is_free s = is_free_state (state_of s.stage)
 
 -- an update with the package of this number starts
 abbrev pub agent_started : SessionOf → ℕ → SessionOf
-agent_started s number = record { stage = Stage.Query; number = number; records = s.records }
+agent_started s number = record { unit = s.unit; stage = Stage.Query; number = number; records = s.records }
 
 -- a cancel changes something
 abbrev pub may_cancel : Stage → Bool

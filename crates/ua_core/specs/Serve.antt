@@ -2,8 +2,10 @@
 use Rattle.std.specs.Prelude.{Bool, List, [], if◌then◌else◌, nat_lt, ◌&&◌, ◌||◌, ◌+◌, ◌++◌, ◌==◌, ◌∷◌, ◌-◌, drop, length, replicate, take, ℕ}
 use Rattle.fw_package.specs.Choice.{component_at}
 use Rattle.fw_package.specs.Package.{PackageText}
+use Rattle.fwup_wire.specs.Transfers.{transfer_size}
 use Rattle.fwup_wire.specs.Values.{AnswerOf, CommandOf}
-use Rattle.fwup_wire.specs.declared.transfers.TheConstants.{MAX_TRANSFER, MIN_TRANSFER}
+use Rattle.fwup_wire.specs.declared.transfers.TheConstants.{MIN_TRANSFER}
+use Rattle.mctp_wire.specs.declared.unit.Unit.{«Unit»}
 use Rattle.ua_core.specs.Session.{SessionOf, Stage, TaskOf, at_stage}
 use Rattle.ua_core.specs.declared.planned.Planned.{Planned}
 use Rattle.ua_core.specs.declared.planned.Recorded.{Recorded}
@@ -34,8 +36,8 @@ abbrev pub told_again : ℕ → AnswerOf → ServeRow
 told_again result a = if result == 0 then ServeRow.Say a else unexpected
 
 -- a piece of so many bytes is too short or too long to be served
-abbrev pub is_bad_length : ℕ → Bool
-is_bad_length size = nat_lt size MIN_TRANSFER || nat_lt MAX_TRANSFER size
+abbrev pub is_bad_length : «Unit» → ℕ → Bool
+is_bad_length unit size = nat_lt size MIN_TRANSFER || nat_lt (transfer_size unit) size
 
 -- a piece of so many bytes from an offset on ends more than the smallest piece past the image's end
 abbrev pub is_past_end : List ℕ → ℕ → ℕ → Bool
@@ -43,17 +45,17 @@ is_past_end image offset size = nat_lt (length image + MIN_TRANSFER) (offset + s
 
 -- RequestFirmwareData: a length that can be served (else INVALID_TRANSFER_LENGTH), not past the image's end (else
 -- DATA_OUT_OF_RANGE)
-abbrev pub data_of : List ℕ → ℕ → ℕ → ServeRow
-data_of image offset size =
-    if is_bad_length size then refuses 0x83
+abbrev pub data_of : «Unit» → List ℕ → ℕ → ℕ → ServeRow
+data_of unit image offset size =
+    if is_bad_length unit size then refuses 0x83
     else if is_past_end image offset size then refuses 0x82
     else ServeRow.Give (window image offset size)
 
 -- while the device's answer to UpdateComponent is awaited, data are to be asked for again: RETRY_REQUEST_FW_DATA
-abbrev pub data_row : PackageText → Stage → ℕ → ℕ → ServeRow
-data_row p (Stage.Update _) offset size = refuses 0x89
-data_row p (Stage.Download t) offset size = data_of (component_at p t.at_hand.component).image offset size
-data_row p _ offset size = unexpected
+abbrev pub data_row : «Unit» → PackageText → Stage → ℕ → ℕ → ServeRow
+data_row unit p (Stage.Update _) offset size = refuses 0x89
+data_row unit p (Stage.Download t) offset size = data_of unit (component_at p t.at_hand.component).image offset size
+data_row unit p _ offset size = unexpected
 
 abbrev pub transfer_row : Stage → ℕ → ServeRow
 transfer_row (Stage.Download t) result =
@@ -77,12 +79,12 @@ apply_row (Stage.Activate _) result = told_again result AnswerOf.ApplyComplete
 apply_row _ result = unexpected
 
 -- the row of each command. A device's other commands are none to the agent: ERROR_UNSUPPORTED_PLDM_CMD
-abbrev pub serve_row : PackageText → Stage → CommandOf → ServeRow
-serve_row p g (CommandOf.RequestFirmwareData offset size) = data_row p g offset size
-serve_row p g (CommandOf.TransferComplete result) = transfer_row g result
-serve_row p g (CommandOf.VerifyComplete result) = verify_row g result
-serve_row p g (CommandOf.ApplyComplete result _) = apply_row g result
-serve_row p g _ = refuses 5
+abbrev pub serve_row : «Unit» → PackageText → Stage → CommandOf → ServeRow
+serve_row unit p g (CommandOf.RequestFirmwareData offset size) = data_row unit p g offset size
+serve_row unit p g (CommandOf.TransferComplete result) = transfer_row g result
+serve_row unit p g (CommandOf.VerifyComplete result) = verify_row g result
+serve_row unit p g (CommandOf.ApplyComplete result _) = apply_row g result
+serve_row unit p g _ = refuses 5
 
 -- the next component, or none
 abbrev pub task_after : TaskOf → List Planned → Stage
@@ -104,7 +106,7 @@ answer_by (ServeRow.Record _) = AnswerOf.ApplyComplete
 abbrev pub after_by : SessionOf → ServeRow → SessionOf
 after_by s (ServeRow.Move g _) = at_stage s g
 after_by s (ServeRow.Record t) =
-    record { stage = task_after t t.todo; number = s.number; records = s.records ++ record_of s t ∷ [] }
+    record { unit = s.unit; stage = task_after t t.todo; number = s.number; records = s.records ++ record_of s t ∷ [] }
 after_by s _ = s
 
 -- what it records
@@ -118,13 +120,13 @@ idle_after idle (ServeRow.Say _) = idle
 idle_after idle _ = 0
 
 abbrev pub agent_answer : PackageText → SessionOf → CommandOf → AnswerOf
-agent_answer p s c = answer_by (serve_row p s.stage c)
+agent_answer p s c = answer_by (serve_row s.unit p s.stage c)
 
 abbrev pub agent_after : PackageText → SessionOf → CommandOf → SessionOf
-agent_after p s c = after_by s (serve_row p s.stage c)
+agent_after p s c = after_by s (serve_row s.unit p s.stage c)
 
 abbrev pub recorded_by : PackageText → SessionOf → CommandOf → List Recorded
-recorded_by p s c = recorded_with s (serve_row p s.stage c)
+recorded_by p s c = recorded_with s (serve_row s.unit p s.stage c)
 
 abbrev pub agent_idle : PackageText → SessionOf → ℕ → CommandOf → ℕ
-agent_idle p s idle c = idle_after idle (serve_row p s.stage c)
+agent_idle p s idle c = idle_after idle (serve_row s.unit p s.stage c)

@@ -1,5 +1,6 @@
 -- Where a session stands, and what it holds there.
 use Rattle.std.specs.Prelude.{Bool, List, false, true, ℕ}
+use Rattle.mctp_wire.specs.declared.unit.Unit.{«Unit»}
 use Rattle.ua_core.specs.declared.planned.Planned.{Planned}
 use Rattle.ua_core.specs.declared.planned.Recorded.{Recorded}
 use Rattle.ua_core.specs.declared.state.Cause.{Cause}
@@ -37,8 +38,9 @@ pub data Stage : Type 0 where
   Cancelling : Stage
   Failed : (cause : Cause) → Stage
 
--- a session: where it stands, the number of the package that it was started with last, and its records
+-- a session: its network's transmission unit, where it stands, the number of the package that it was started with last, and its records
 pub record SessionOf : Type 0 where
+  pub unit : «Unit»
   pub stage : Stage
   pub number : ℕ
   pub records : List Recorded

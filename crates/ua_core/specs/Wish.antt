@@ -2,10 +2,11 @@
 use Rattle.std.specs.Prelude.{None, Option, Some, true, if◌then◌else◌, length, ◌+◌, ◌==◌, ℕ}
 use Rattle.fw_package.specs.Choice.{component_at, record_at}
 use Rattle.fw_package.specs.Package.{PackageText}
+use Rattle.fwup_wire.specs.Transfers.{transfer_size}
 use Rattle.fwup_wire.specs.Values.{CommandOf}
-use Rattle.fwup_wire.specs.declared.transfers.TheConstants.{MAX_TRANSFER}
 use Rattle.fwup_wire.specs.declared.values.TransferFlag.{TransferFlag}
 use Rattle.fwup_wire.specs.declared.values.TransferFlag.TheVariants as flags
+use Rattle.mctp_wire.specs.declared.unit.Unit.{«Unit»}
 use Rattle.ua_core.specs.Lent.{is_forced, key_of, sent_size, sent_text, sent_version}
 use Rattle.ua_core.specs.Session.{JobOf, SessionOf, Stage}
 use Rattle.ua_core.specs.declared.planned.Planned.{Planned}
@@ -18,11 +19,11 @@ flag_at left count =
     else if left == 0 then flags.End
     else flags.Middle
 
--- RequestUpdate: pieces of the greatest transfer size, one request outstanding, no package data
-abbrev pub request_wish : PackageText → JobOf → CommandOf
-request_wish p j =
+-- RequestUpdate: pieces of the unit's transfer size, one request outstanding, no package data
+abbrev pub request_wish : «Unit» → PackageText → JobOf → CommandOf
+request_wish unit p j =
     CommandOf.RequestUpdate (record {
-      transfer_size = MAX_TRANSFER;
+      transfer_size = transfer_size unit;
       components = length j.plan;
       outstanding = 1;
       package_data_length = 0;
@@ -51,17 +52,17 @@ offer_wish p i =
     })
 
 -- what each stage wishes
-abbrev pub stage_wish : PackageText → Stage → Option CommandOf
-stage_wish p Stage.Query = Some CommandOf.QueryDeviceIdentifiers
-stage_wish p (Stage.Params _) = Some CommandOf.GetFirmwareParameters
-stage_wish p (Stage.ClearOld _) = Some CommandOf.CancelUpdate
-stage_wish p (Stage.Request j) = Some (request_wish p j)
-stage_wish p (Stage.Pass j i left _) = Some (entry_wish p j i (length left))
-stage_wish p (Stage.Update t) = Some (offer_wish p t.at_hand)
-stage_wish p (Stage.Activate _) = Some (CommandOf.ActivateFirmware true)
-stage_wish p Stage.Cancelling = Some CommandOf.CancelUpdate
-stage_wish p _ = None
+abbrev pub stage_wish : «Unit» → PackageText → Stage → Option CommandOf
+stage_wish unit p Stage.Query = Some CommandOf.QueryDeviceIdentifiers
+stage_wish unit p (Stage.Params _) = Some CommandOf.GetFirmwareParameters
+stage_wish unit p (Stage.ClearOld _) = Some CommandOf.CancelUpdate
+stage_wish unit p (Stage.Request j) = Some (request_wish unit p j)
+stage_wish unit p (Stage.Pass j i left _) = Some (entry_wish p j i (length left))
+stage_wish unit p (Stage.Update t) = Some (offer_wish p t.at_hand)
+stage_wish unit p (Stage.Activate _) = Some (CommandOf.ActivateFirmware true)
+stage_wish unit p Stage.Cancelling = Some CommandOf.CancelUpdate
+stage_wish unit p _ = None
 
 -- the command that a session wishes to ask
 abbrev pub agent_wish : PackageText → SessionOf → Option CommandOf
-agent_wish p s = stage_wish p s.stage
+agent_wish p s = stage_wish s.unit p s.stage

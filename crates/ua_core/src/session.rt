@@ -10,6 +10,7 @@ use crate::planned::{Job, Planned, PlannedList, Recorded};
 use crate::position::{IDLE_LIMIT, Position};
 use crate::state::{Cause, SessionState};
 use fw_package::PLAN_LIMIT;
+use mctp_wire::Unit;
 use std::alloc::Global;
 use std::marker::Model;
 
@@ -21,6 +22,8 @@ mod wishing;
 /// need its package are lent it. Only `start` takes memory.
 #[derive(Drop)]
 pub struct Session {
+    /// The transmission unit of its network; it never changes.
+    unit: Unit,
     /// The state, and for how many ticks nothing moved in it.
     position: Position,
     /// The number of the package that the update was started with, from 1 on; 0 before the first start. It counts in each state.
@@ -49,6 +52,7 @@ impl Model for Session {
 
     ghost view = { λ s. record {
       session = record {
+        unit = s.unit;
         stage = stage_of s.position.state (record { chosen = s.job.chosen; plan = s.job.plan.items }) s.at_hand s.left.items s.todo.items s.made;
         number = s.«package»;
         records = s.records.items;
@@ -61,11 +65,12 @@ impl Model for Session {
 }
 
 impl Session {
-    /// A session without an update and without records.
-    pub fn new(alloc: Global) -> Session
-        ensures { result ≡ new_session }
+    /// A session on a network of this transmission unit, without an update and without records.
+    pub fn new(alloc: Global, unit: Unit) -> Session
+        ensures { result ≡ new_session unit }
     {
         Session {
+            unit,
             position: Position::new(SessionState::Idle),
             package: 0,
             job: Job {
@@ -78,6 +83,13 @@ impl Session {
             made: 0,
             records: Vec::new(alloc),
         }
+    }
+
+    /// The transmission unit of its network.
+    pub fn unit(&self) -> Unit
+        ensures { result ≡ self.now.session.unit }
+    {
+        self.unit
     }
 
     /// Where the session stands.

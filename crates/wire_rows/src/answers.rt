@@ -2,9 +2,11 @@
 
 use fwup_wire::code::{command, completion, response, text_type};
 use fwup_wire::{
-    Answer, ComponentParameters, Descriptor, DescriptorList, Key, OfferResponse, ParameterList,
-    TableResponse, Text, Version, read_answer, write_answer,
+    Answer, ComponentParameters, Descriptor, DescriptorList, Key, MAX_TRANSFER, MIN_TRANSFER,
+    OfferResponse, ParameterList, TableResponse, Text, Version, read_answer, transfer_size,
+    write_answer,
 };
+use mctp_wire::Unit;
 
 /// One descriptor: type 0, data 34 12.
 const ONE_DESCRIPTOR: [u8; 12] = [0, 6, 0, 0, 0, 1, 0, 0, 2, 0, 0x34, 0x12];
@@ -305,4 +307,38 @@ fn refuses_malformed_answers(rt: HostRuntime) {
     for (byte, bytes) in &MALFORMED {
         assert!(rt; read_answer(*byte, bytes).is_err(), "{byte}");
     }
+}
+
+/// How many bytes of an image an answer carries, and whether it is writable: a reply has at most 508 bytes with its code.
+const CARRIED: [(usize, bool); 6] = [
+    (0, true),
+    (240, true),
+    (251, true),
+    (496, true),
+    (507, true),
+    (508, false),
+];
+
+/// Whether an answer with so many bytes of an image is writable as it is to be, and then reads back.
+fn carries(size: usize, writable: bool) -> bool {
+    let image = [0xA5; 508];
+    let answer = Answer::RequestFirmwareData(image.get(..size).unwrap_or(&[]));
+    if !answer.is_writable() {
+        return !writable;
+    }
+    let reply = write_answer(&answer);
+    match read_answer(command::REQUEST_FIRMWARE_DATA, reply.as_slice()) {
+        Ok(Answer::RequestFirmwareData(bytes)) => writable && bytes.len() == size,
+        _ => false,
+    }
+}
+
+#[test]
+fn carries_pieces_of_each_unit(rt: HostRuntime) {
+    for (size, writable) in &CARRIED {
+        assert!(rt; carries(*size, *writable), "{size}");
+    }
+    assert!(rt; transfer_size(Unit::U64) == 240);
+    assert!(rt; transfer_size(Unit::U128) == 496);
+    assert!(rt; (MIN_TRANSFER, MAX_TRANSFER) == (32, 496));
 }

@@ -184,3 +184,25 @@ fn refuses_every_length_but_its_own(rt: HostRuntime) {
     );
     assert!(rt; text_alone(&REQUEST) == b"A".as_slice());
 }
+
+/// How many bytes a set text has, and whether RequestUpdate is writable with it: request data have at most 252 bytes, so that
+/// they go over a network of either unit.
+const TEXTS: [(usize, bool); 4] = [(0, true), (241, true), (242, false), (255, false)];
+
+#[test]
+fn writes_request_data_that_fit_each_unit(rt: HostRuntime) {
+    let text = [0x41; 255];
+    for (size, writable) in &TEXTS {
+        let command = Command::RequestUpdate(UpdateRequest {
+            transfer_size: 496,
+            components: 1,
+            outstanding: 1,
+            package_data_length: 0,
+            image_set: Text {
+                text_type: text_type::ASCII,
+                bytes: text.get(..*size).unwrap_or(&[]),
+            },
+        });
+        assert!(rt; command.is_writable() == *writable, "{size}");
+    }
+}

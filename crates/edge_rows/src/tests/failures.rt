@@ -7,6 +7,7 @@ use crate::tests::setup::{
 use fd_core::{Bank, State};
 use fw_edge::{Driven, MemLink};
 use fw_world::{Missed, Step};
+use mctp_wire::Unit;
 use std::alloc::Global;
 use std::test::Fail;
 use ua_core::{Cause, SessionState};
@@ -134,7 +135,7 @@ fn is_done(world: &Small<'_>, driven: Option<Driven>) -> bool {
 fn goes_so(alloc: Global, failure: &Failure) -> Result<bool, Fail> {
     let bytes = file(alloc)?;
     let packages = [package(&bytes)?];
-    let mut world = world(alloc, &packages, 1, failure.call)?;
+    let mut world = world(alloc, Unit::U64, &packages, 1, failure.call)?;
     let mut links = [MemLink::new(alloc)];
     let failed = update(alloc, &mut world, &mut links);
     let fails = fails_so(&world, failed, failure);

@@ -2,7 +2,7 @@
 
 use fw_edge::{FrameFault, Link, MemLink, read_frame, write_frame};
 use fw_world::Side;
-use mctp_wire::RawPacket;
+use mctp_wire::{RawPacket, Unit};
 use std::io::{self, Read, Write};
 use std::test::Fail;
 
@@ -12,40 +12,83 @@ const FRAME: [u8; 9] = [0x07, 0x00, 0x01, 0x09, 0x08, 0xC8, 0x00, 0x80, 0x02];
 /// Its packet.
 const PACKET: &[u8] = &[0x01, 0x09, 0x08, 0xC8, 0x00, 0x80, 0x02];
 
-/// What is read of these bytes.
-fn read(bytes: &[u8]) -> Result<RawPacket, FrameFault> {
+/// What is read of these bytes at a transmission unit.
+fn read(unit: Unit, bytes: &[u8]) -> Result<RawPacket, FrameFault> {
     let mut reader = bytes;
-    read_frame(&mut reader)
+    read_frame(unit, &mut reader)
 }
 
 #[test]
 fn a_frame_is_its_length_and_its_packet(rt: HostRuntime) -> Result<(), Fail> {
-    let packet = read(&FRAME)?;
-    let mut written = Vec::new(rt.alloc());
-    write_frame(&mut written, &packet)?;
-    let refused = write_frame(&mut written, &RawPacket::new()) == Err(FrameFault::Size);
-    assert!(rt; packet.as_slice() == PACKET && refused && written.as_slice() == FRAME.as_slice());
+    for unit in [Unit::U64, Unit::U128] {
+        let packet = read(unit, &FRAME)?;
+        let mut written = Vec::new(rt.alloc());
+        write_frame(unit, &mut written, &packet)?;
+        let empty = write_frame(unit, &mut written, &RawPacket::new());
+        assert!(rt; packet.as_slice() == PACKET && empty == Err(FrameFault::Size));
+        assert!(rt; written.as_slice() == FRAME.as_slice());
+    }
     Ok(())
 }
 
 #[test]
 fn what_is_no_frame_is_named(rt: HostRuntime) {
-    let table: [(&str, &[u8], FrameFault); 7] = [
-        ("nothing", &[], FrameFault::End),
-        ("half a length", &[0x07], FrameFault::Cut),
-        ("a length", &[0x07, 0x00], FrameFault::Cut),
+    let table: [(&str, &[u8], FrameFault, FrameFault); 10] = [
+        ("nothing", &[], FrameFault::End, FrameFault::End),
+        ("half a length", &[0x07], FrameFault::Cut, FrameFault::Cut),
+        ("a length", &[0x07, 0x00], FrameFault::Cut, FrameFault::Cut),
         (
             "a part of a packet",
             &[0x07, 0x00, 0x01, 0x09],
             FrameFault::Cut,
+            FrameFault::Cut,
         ),
-        ("length 0", &[0x00, 0x00], FrameFault::Size),
-        ("length 69", &[0x45, 0x00], FrameFault::Size),
-        ("length 256", &[0x00, 0x01], FrameFault::Size),
+        (
+            "length 0",
+            &[0x00, 0x00],
+            FrameFault::Size,
+            FrameFault::Size,
+        ),
+        ("length 68", &[0x44, 0x00], FrameFault::Cut, FrameFault::Cut),
+        (
+            "length 69",
+            &[0x45, 0x00],
+            FrameFault::Size,
+            FrameFault::Cut,
+        ),
+        (
+            "length 132",
+            &[0x84, 0x00],
+            FrameFault::Size,
+            FrameFault::Cut,
+        ),
+        (
+            "length 133",
+            &[0x85, 0x00],
+            FrameFault::Size,
+            FrameFault::Size,
+        ),
+        (
+            "length 256",
+            &[0x00, 0x01],
+            FrameFault::Size,
+            FrameFault::Size,
+        ),
     ];
-    for (situation, bytes, fault) in table {
-        assert!(rt; read(bytes).err() == Some(fault), "{situation}");
+    for (situation, bytes, at_64, at_128) in table {
+        assert!(rt; read(Unit::U64, bytes).err() == Some(at_64), "{situation}");
+        assert!(rt;
+            read(Unit::U128, bytes).err() == Some(at_128),
+            "{situation}"
+        );
     }
+}
+
+#[test]
+fn a_packet_of_69_bytes_is_no_frame_at_64(rt: HostRuntime) {
+    let mut written = Vec::new(rt.alloc());
+    let refused = write_frame(Unit::U64, &mut written, &rising(69));
+    assert!(rt; refused == Err(FrameFault::Size) && written.is_empty());
 }
 
 /// A reader that gives a frame byte by byte, and is interrupted before each; after so many bytes it fails.
@@ -85,10 +128,10 @@ fn failing_after(most: usize) -> Slow {
 
 #[test]
 fn a_frame_comes_byte_by_byte_or_the_reader_fails(rt: HostRuntime) -> Result<(), Fail> {
-    let packet = read_frame(&mut failing_after(9))?;
+    let packet = read_frame(Unit::U64, &mut failing_after(9))?;
     assert!(rt; packet.as_slice() == PACKET);
     for most in 0..9 {
-        let fault = read_frame(&mut failing_after(most)).err();
+        let fault = read_frame(Unit::U64, &mut failing_after(most)).err();
         assert!(rt; fault == Some(FrameFault::Io), "{most}");
     }
     Ok(())
@@ -148,16 +191,18 @@ fn rising(size: u8) -> RawPacket {
 
 #[test]
 fn frames_of_each_length_go_and_come_byte_by_byte(rt: HostRuntime) -> Result<(), Fail> {
-    for size in 1..69 {
-        let mut stream = Narrow {
-            bytes: Vec::new(rt.alloc()),
-            given: 0,
-            interrupted: false,
-        };
-        write_frame(&mut stream, &rising(size))?;
-        assert!(rt; stream.bytes.len() == usize::from(size) + 2, "{size}");
-        let packet = read_frame(&mut stream)?;
-        assert!(rt; packet.as_slice() == rising(size).as_slice(), "{size}");
+    for (unit, most) in [(Unit::U64, 68), (Unit::U128, 132)] {
+        for size in 1..=most {
+            let mut stream = Narrow {
+                bytes: Vec::new(rt.alloc()),
+                given: 0,
+                interrupted: false,
+            };
+            write_frame(unit, &mut stream, &rising(size))?;
+            assert!(rt; stream.bytes.len() == usize::from(size) + 2, "{size}");
+            let packet = read_frame(unit, &mut stream)?;
+            assert!(rt; packet.as_slice() == rising(size).as_slice(), "{size}");
+        }
     }
     Ok(())
 }

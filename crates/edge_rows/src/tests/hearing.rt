@@ -4,7 +4,7 @@ use crate::tests::packages::{file, package};
 use crate::tests::setup::{DEVICE, Small, start, step, world};
 use fw_edge::heard;
 use fw_world::{Missed, Step};
-use mctp_wire::RawPacket;
+use mctp_wire::{RawPacket, Unit};
 use std::test::Fail;
 
 /// QueryDeviceIdentifiers from 8 to 9: the first packet of an update, sent at 1, and without an answer again at 7 and 13.
@@ -21,7 +21,7 @@ fn wait(world: &mut Small<'_>, ticks: u32) {
 fn the_last_of_three_alike_is_heard_until_all_are_dead(rt: HostRuntime) -> Result<(), Fail> {
     let bytes = file(rt.alloc())?;
     let packages = [package(&bytes)?];
-    let mut world = world(rt.alloc(), &packages, 1, 0)?;
+    let mut world = world(rt.alloc(), Unit::U64, &packages, 1, 0)?;
     let mut query = RawPacket::new();
     let _ = query.try_extend_from_slice(&QUERY);
     let started = start(&mut world, DEVICE);

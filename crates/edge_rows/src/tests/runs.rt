@@ -9,13 +9,14 @@ use fd_core::State;
 use fw_edge::{Driven, EdgeFault, Link, MemLink};
 use fw_package::Package;
 use fw_world::{Missed, Step, replay};
+use mctp_wire::Unit;
 use std::alloc::{AllocError, Global};
 use std::test::Fail;
 use ua_core::{Cause, SessionState};
 
 /// The worked world with its update started, asked for twice where memory is refused.
 pub fn started<'a>(alloc: Global, packages: &'a [Package<'a>]) -> Result<Small<'a>, AllocError> {
-    let mut world = world(alloc, packages, 1, 0)?;
+    let mut world = world(alloc, Unit::U64, packages, 1, 0)?;
     if !start(&mut world, DEVICE) {
         let _ = start(&mut world, DEVICE);
     }
@@ -221,7 +222,7 @@ fn three<'a>(
     packages: &'a [Package<'a>],
     trouble: Trouble,
 ) -> Result<(Small<'a>, Option<u32>), Fail> {
-    let mut world = world(alloc, packages, 3, 0)?;
+    let mut world = world(alloc, Unit::U64, packages, 3, 0)?;
     let started = start(&mut world, 9) && start(&mut world, 10) && start(&mut world, 11);
     let mut steps = Vec::new(alloc);
     let mut links = [

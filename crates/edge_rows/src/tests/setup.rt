@@ -17,6 +17,7 @@ use fw_package::Package;
 use fw_world::{Event, Step, StepFault, World};
 use fwup_wire::{Descriptor, DescriptorList, Text, Version};
 use mctp_ctl::Endpoint;
+use mctp_wire::Unit;
 use std::alloc::{AllocError, Global};
 use ua_core::SessionState;
 use uuid::Uuid;
@@ -66,7 +67,8 @@ fn label() -> Label {
 
 /// The worked device: component (10, 1), stamp 1, `1.0`, image AA, over a bank of which the `call`-th call that can fail does so;
 /// at 0 none does.
-fn device(alloc: Global, call: u64) -> Result<Device<FailBank>, AllocError>
+fn device(alloc: Global, unit: Unit, call: u64) -> Result<Device<FailBank>, AllocError>
+    ensures unit { IfOk result (λ d. d.device.unit ≡ unit) }
     ensures components { IfOk result (λ d. HasComponents d.device) }
     ensures idle { IfOk result (λ d. d.device.phase ≡ Phase.Idle) }
     ensures unapplied { IfOk result (λ d. AllByRecursion IsUnapplied d.device.rows) }
@@ -78,42 +80,55 @@ fn device(alloc: Global, call: u64) -> Result<Device<FailBank>, AllocError>
     let mut components = ArrayVec::new();
     components.push(Component { key: KEY, index: 0 });
     let bank = FailBank::new(bank, call);
-    Ok(Device::new(descriptors(), components, bank))
+    Ok(Device::new(unit, descriptors(), components, bank))
 }
 
 /// The node of such a device.
 #[tactic(auto, using(crate::proofs::Opening::new_node))]
-fn node(alloc: Global, eid: u8, call: u64) -> Result<DeviceNode<FailBank>, AllocError>
+fn node(alloc: Global, unit: Unit, eid: u8, call: u64) -> Result<DeviceNode<FailBank>, AllocError>
     requires { IsEid eid }
-    ensures new { IfOk result (IsNewNode 8) }
+    ensures new { IfOk result (IsNewNode unit 8) }
+    ensures unit { IfOk result (λ n. n.half.unit ≡ unit) }
     ensures eid { IfOk result (λ n. n.endpoint.eid ≡ eid) }
 {
-    let device = device(alloc, call)?;
+    let device = device(alloc, unit, call)?;
     Ok(DeviceNode::new(endpoint(eid), 8, device))
 }
 
 /// The nodes of one such device or of three: 9 to 11.
-fn nodes(alloc: Global, devices: usize, call: u64) -> Result<Vec<DeviceNode<FailBank>>, AllocError>
+fn nodes(
+    alloc: Global,
+    unit: Unit,
+    devices: usize,
+    call: u64,
+) -> Result<Vec<DeviceNode<FailBank>>, AllocError>
     ensures { IfOk result (λ ns. AreNewNodes 8 ns.items) }
 {
     let mut nodes = Vec::new(alloc);
-    nodes.push(node(alloc, DEVICE, call)?)?;
+    nodes.push(node(alloc, unit, DEVICE, call)?)?;
     if devices == 1 {
         return Ok(nodes);
     }
-    nodes.push(node(alloc, 10, call)?)?;
-    nodes.push(node(alloc, 11, call)?)?;
+    nodes.push(node(alloc, unit, 10, call)?)?;
+    nodes.push(node(alloc, unit, 11, call)?)?;
     Ok(nodes)
 }
 
-/// The world of the agent 8 and one device or three; a call of each one's bank fails, or at 0 none.
+/// The world of the agent 8 and one device or three on a network of this transmission unit; a call of each one's bank fails, or at
+/// 0 none.
 pub fn world<'a>(
     alloc: Global,
+    unit: Unit,
     packages: &'a [Package<'a>],
     devices: usize,
     call: u64,
 ) -> Result<Small<'a>, AllocError> {
-    World::new(alloc, endpoint(8), nodes(alloc, devices, call)?, packages)
+    World::new(
+        alloc,
+        endpoint(8),
+        nodes(alloc, unit, devices, call)?,
+        packages,
+    )
 }
 
 /// `World::step`: the proofs of the tests need nothing of its contract.

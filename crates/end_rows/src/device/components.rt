@@ -7,6 +7,7 @@ use crate::device::setup::{
 };
 use arrayvec::ArrayVec;
 use fd_core::{Bank, BankFault, Component, Device, Key, MemBank};
+use mctp_wire::Unit;
 use std::alloc::Global;
 
 /// The worked device's other component.
@@ -26,7 +27,7 @@ fn twofold(alloc: Global) -> Result<Device<MemBank>, BankFault> {
         key: OTHER,
         index: 1,
     });
-    Ok(Device::new(descriptors(), components, bank))
+    Ok(Device::new(Unit::U64, descriptors(), components, bank))
 }
 
 /// Whether that device does what the calls say.

@@ -11,7 +11,8 @@ use fwup_wire::code::command::{
     ACTIVATE_FIRMWARE, APPLY_COMPLETE, GET_STATUS, PASS_COMPONENT_TABLE, REQUEST_UPDATE,
     TRANSFER_COMPLETE, UPDATE_COMPONENT, VERIFY_COMPLETE,
 };
-use fwup_wire::{Answer, Command, Descriptor, DescriptorList, Text, Version, read};
+use fwup_wire::{Answer, Command, Descriptor, DescriptorList, MAX_TRANSFER, Text, Version, read};
+use mctp_wire::Unit;
 use pldm_base::Reply;
 use std::alloc::Global;
 
@@ -23,6 +24,9 @@ pub const KEY: Key = Key {
 
 /// RequestUpdate: 240 bytes at once, one component, set text `A`.
 pub const REQUEST: [u8; 12] = [0xF0, 0, 0, 0, 1, 0, 1, 0, 0, 1, 1, 0x41];
+
+/// The same with 496 bytes at once.
+pub const LONG_REQUEST: [u8; 12] = [0xF0, 1, 0, 0, 1, 0, 1, 0, 0, 1, 1, 0x41];
 
 /// PassComponentTable: (10, 1) alone, stamp 2, `v2`.
 pub const ENTRY: [u8; 14] = [5, 0x0A, 0, 1, 0, 0, 2, 0, 0, 0, 1, 2, 0x76, 0x32];
@@ -118,18 +122,38 @@ pub fn bank(alloc: Global, stamp: u32) -> Result<MemBank, BankFault>
     Ok(bank)
 }
 
-/// The worked device over this bank.
+/// The worked device over this bank, at the unit of 64 bytes.
 pub fn device<B: Bank>(bank: B) -> Device<B>
+    requires { map key_of (B.rows bank) ≡ KEY ∷ [] }
+{
+    device_at(Unit::U64, bank)
+}
+
+/// The same at this unit.
+fn device_at<B: Bank>(unit: Unit, bank: B) -> Device<B>
     requires { map key_of (B.rows bank) ≡ KEY ∷ [] }
 {
     let mut components = ArrayVec::new();
     components.push(Component { key: KEY, index: 0 });
-    Device::new(descriptors(), components, bank)
+    Device::new(unit, descriptors(), components, bank)
 }
 
 /// The worked device: stamp 1.
 pub fn worked(alloc: Global) -> Result<Device<MemBank>, BankFault> {
-    Ok(device(bank(alloc, 1)?))
+    worked_at(alloc, Unit::U64)
+}
+
+/// The same at this unit.
+pub fn worked_at(alloc: Global, unit: Unit) -> Result<Device<MemBank>, BankFault> {
+    Ok(device_at(unit, bank(alloc, 1)?))
+}
+
+/// RequestUpdate as an agent of this unit says it.
+pub fn request(unit: Unit) -> [u8; 12] {
+    match unit {
+        Unit::U64 => REQUEST,
+        Unit::U128 => LONG_REQUEST,
+    }
 }
 
 /// The reply to a command and its request data.
@@ -153,7 +177,7 @@ pub fn transfer<B: Bank>(device: &mut Device<B>, size: u32) -> (u32, u32, u32) {
             return (count, last.0, last.1);
         };
         last = (offset, length);
-        let mut piece: ArrayVec<u8, 240> = ArrayVec::new();
+        let mut piece: ArrayVec<u8, MAX_TRANSFER> = ArrayVec::new();
         for i in 0..length {
             let place = offset.wrapping_add(i);
             let _ = piece.try_push(if place < size {
@@ -171,7 +195,7 @@ pub fn transfer<B: Bank>(device: &mut Device<B>, size: u32) -> (u32, u32, u32) {
 fn step<B: Bank>(device: &mut Device<B>, place: usize, size: u32) {
     match place {
         IDLE => {
-            let _ = ask(device, REQUEST_UPDATE, &REQUEST, true);
+            let _ = ask(device, REQUEST_UPDATE, &request(device.unit()), true);
         }
         LEARN => {
             let _ = ask(device, PASS_COMPONENT_TABLE, &ENTRY, true);

@@ -3,6 +3,7 @@
 use crate::session::packages::file;
 use crate::session::situations::{ONE, go_on, session_after};
 use fw_package::Package;
+use mctp_wire::Unit;
 use std::alloc::Global;
 use std::test::Fail;
 use ua_core::{Cause, Lent, Session, SessionState, StartFault};
@@ -81,7 +82,7 @@ fn refused_memory_starts_nothing(rt: HostRuntime) -> Result<(), Fail> {
     let bytes = file(ONE);
     let package = Package::read(bytes.as_slice())?;
     let lent = Lent::some(&package);
-    let mut session = Session::new(rt.alloc());
+    let mut session = Session::new(rt.alloc(), Unit::U64);
     for number in 1..4usize {
         assert!(rt; starts(&mut session, &lent, number));
     }

@@ -5,7 +5,8 @@ use arrayvec::ArrayVec;
 /// A file that a test puts together.
 pub type File = ArrayVec<u8, 1024>;
 
-/// A component of a package: key, stamp, options, version text and the size of its image, at most 241. Byte i of each image is i.
+/// A component of a package: key, stamp, options, version text and the size of its image, at most 500. Byte i of each image is
+/// i modulo 256.
 #[derive(Clone, Copy)]
 pub struct Item<'a> {
     pub key: (u16, u16),
@@ -44,7 +45,7 @@ fn length(text: &[u8]) -> u8 {
     u8::try_from(text.len()).unwrap_or(0)
 }
 
-/// The file of a draft: the header, and an image of 241 bytes, of which each component has the first ones.
+/// The file of a draft: the header, and an image of 500 bytes, of which each component has the first ones.
 pub fn file(draft: Draft<'_>) -> File {
     let mut header = HEADER.wrapping_add(u16::from(length(draft.set_text)));
     let mut bitmap = 0u16;
@@ -73,8 +74,8 @@ pub fn file(draft: Draft<'_>) -> File {
     }
     let sum = sum_by_bits(out.as_slice());
     put(&mut out, &sum.to_le_bytes());
-    for byte in 0..241u8 {
-        put(&mut out, &[byte]);
+    for place in 0..500usize {
+        put(&mut out, &[(place % 256) as u8]);
     }
     out
 }

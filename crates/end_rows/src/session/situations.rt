@@ -5,6 +5,7 @@ use fwup_wire::code::command::GET_FIRMWARE_PARAMETERS;
 use fwup_wire::{
     Answer, Command, Descriptor, DescriptorList, OfferResponse, TableResponse, read_answer,
 };
+use mctp_wire::Unit;
 use std::alloc::Global;
 use ua_core::{Lent, Session, SessionState};
 
@@ -124,9 +125,14 @@ pub fn go_on(session: &mut Session, lent: &Lent<'_>) {
     }
 }
 
-/// A session with package 1 that was led on so many times.
+/// A session with package 1 at the unit of 64 bytes that was led on so many times.
 pub fn session_after(alloc: Global, lent: &Lent<'_>, turns: usize) -> Session {
-    let mut session = Session::new(alloc);
+    session_at(alloc, Unit::U64, lent, turns)
+}
+
+/// The same at this unit.
+pub fn session_at(alloc: Global, unit: Unit, lent: &Lent<'_>, turns: usize) -> Session {
+    let mut session = Session::new(alloc, unit);
     let _ = session.start(1);
     for _ in 0..turns {
         go_on(&mut session, lent);

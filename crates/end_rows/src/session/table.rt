@@ -1,9 +1,10 @@
 //! The device's commands in every state, and the data that it is served.
 
 use crate::session::packages::{Draft, Item, file};
-use crate::session::situations::{ITEM, ONE, session_after, session_in};
+use crate::session::situations::{ITEM, ONE, session_after, session_at, session_in};
 use fw_package::Package;
 use fwup_wire::Command;
+use mctp_wire::Unit;
 use std::alloc::Global;
 use std::test::Fail;
 use ua_core::{Cause, Lent, Session, SessionState};
@@ -160,9 +161,22 @@ const PIECES: [Asked; 22] = [
     ("behind nothing", 0, (1, 32), 0x82, 0),
 ];
 
+/// The same at the unit of 128 bytes.
+const LONG_PIECES: [Asked; 9] = [
+    ("fewer than 32 bytes", 500, (0, 31), 0x83, 0),
+    ("more than 496 bytes", 500, (0, 497), 0x83, 0),
+    ("the greatest numbers", 500, (u32::MAX, u32::MAX), 0x83, 0),
+    ("beginning", 500, (0, 496), 0, 496),
+    ("beginning of 496", 496, (0, 496), 0, 496),
+    ("more than at 64", 500, (100, 241), 0, 241),
+    ("end", 500, (496, 32), 0, 4),
+    ("past the end by 32", 500, (36, 496), 0, 464),
+    ("past the end by 33", 500, (37, 496), 0x82, 0),
+];
+
 /// Whether a request of data in Download is answered as a row says: a code alone, or as many bytes as were asked for, those of the
 /// image and zeros after them.
-fn serves(alloc: Global, row: &Asked) -> bool {
+fn serves(alloc: Global, unit: Unit, row: &Asked) -> bool {
     let (_, size, (offset, length), code, known) = *row;
     let items = [Item { size, ..ITEM }];
     let bytes = file(Draft {
@@ -173,7 +187,7 @@ fn serves(alloc: Global, row: &Asked) -> bool {
         return false;
     };
     let lent = Lent::some(&package);
-    let mut session = session_after(alloc, &lent, 6);
+    let mut session = session_at(alloc, unit, &lent, 6);
     let reply = session.take(&Command::RequestFirmwareData { offset, length }, &lent);
     let [told, piece @ ..] = reply.as_slice() else {
         return false;
@@ -200,6 +214,9 @@ fn is_piece(piece: &[u8], offset: usize, known: usize) -> bool {
 #[test]
 fn serves_the_image_and_zeros_past_its_end(rt: HostRuntime) {
     for row in &PIECES {
-        assert!(rt; serves(rt.alloc(), row), "{}", row.0);
+        assert!(rt; serves(rt.alloc(), Unit::U64, row), "{}", row.0);
+    }
+    for row in &LONG_PIECES {
+        assert!(rt; serves(rt.alloc(), Unit::U128, row), "{} at 128", row.0);
     }
 }

@@ -2,10 +2,11 @@
 
 use crate::session::packages::{Draft, Item, file};
 use crate::session::situations::{
-    ITEM, ONE, TWO, go_on, learn, learn_descriptors, learn_response, session_after,
+    ITEM, ONE, TWO, go_on, learn, learn_descriptors, learn_response, session_after, session_at,
 };
 use fw_package::Package;
 use fwup_wire::{Answer, Command, Malformed, TransferFlag, write};
+use mctp_wire::Unit;
 use std::alloc::Global;
 use std::test::Fail;
 use ua_core::{Cause, Lent, Session, SessionState};
@@ -84,7 +85,7 @@ fn records_all(alloc: Global, count: usize) -> bool {
         return false;
     };
     let lent = Lent::some(&package);
-    let mut session = Session::new(alloc);
+    let mut session = Session::new(alloc, Unit::U64);
     let _ = session.start(3);
     finish(&mut session, &lent);
     session.state() == SessionState::Done
@@ -115,7 +116,7 @@ fn a_session_starts_with_a_hundred_records(rt: HostRuntime) -> Result<(), Fail> 
     let bytes = file(first(8));
     let package = Package::read(bytes.as_slice())?;
     let lent = Lent::some(&package);
-    let mut session = Session::new(rt.alloc());
+    let mut session = Session::new(rt.alloc(), Unit::U64);
     for number in 1..14usize {
         assert!(rt;
             records_eight(&mut session, &lent, number),
@@ -171,9 +172,9 @@ fn only_what_is_to_be_done_is_updated(rt: HostRuntime) -> Result<(), Fail> {
     Ok(())
 }
 
-/// Whether a session that was led on so many times wishes the command that is written so; none, if no bytes are given.
-fn wishes(alloc: Global, lent: &Lent<'_>, turns: usize, expected: &[u8]) -> bool {
-    let session = session_after(alloc, lent, turns);
+/// Whether a session at this unit that was led on so many times wishes the command that is written so; none, if no bytes are given.
+fn wishes(alloc: Global, unit: Unit, lent: &Lent<'_>, turns: usize, expected: &[u8]) -> bool {
+    let session = session_at(alloc, unit, lent, turns);
     let Some(command) = session.wish(lent) else {
         return expected.is_empty();
     };
@@ -208,14 +209,21 @@ const WISHES: [(usize, &[u8]); 11] = [
     (15, &[0x1A, 1]),
 ];
 
+/// The fourth of them at the unit of 128 bytes: 496 bytes at once.
+const LONG_REQUEST: [u8; 13] = [0x10, 240, 1, 0, 0, 2, 0, 1, 0, 0, 1, 1, b'A'];
+
 #[test]
 fn wishes_each_command_with_its_fields(rt: HostRuntime) -> Result<(), Fail> {
     let bytes = file(TWO);
     let package = Package::read(bytes.as_slice())?;
     let lent = Lent::some(&package);
     for (turns, expected) in &WISHES {
-        assert!(rt; wishes(rt.alloc(), &lent, *turns, expected), "turn {turns}");
+        assert!(rt;
+            wishes(rt.alloc(), Unit::U64, &lent, *turns, expected),
+            "turn {turns}"
+        );
     }
+    assert!(rt; wishes(rt.alloc(), Unit::U128, &lent, 3, &LONG_REQUEST));
     Ok(())
 }
 

@@ -2,6 +2,7 @@
 
 use super::answer_to;
 use mctp_reasm::Message;
+use mctp_wire::Unit;
 use pldm_exch::{Answerer, Asked};
 
 /// A step of a row.
@@ -20,7 +21,7 @@ use Step::{Ask, Keep, Ticks};
 /// The request of a tag and an identifier.
 fn request(tag: u8, identifier: u8) -> Option<Message> {
     let bytes = [0x01, 0x80 | (identifier % 32), 0x05, 0x1B];
-    Message::new(9, 8, true, tag % 8, &bytes).ok()
+    Message::new(Unit::U64, 9, 8, true, tag % 8, &bytes).ok()
 }
 
 /// Whether the request of a tag and an identifier is answered again with this field, or is new.

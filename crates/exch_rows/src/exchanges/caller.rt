@@ -2,6 +2,7 @@
 
 use super::answer_to;
 use mctp_reasm::Message;
+use mctp_wire::Unit;
 use pldm_exch::{CallTick, Caller};
 
 /// A caller and its last request.
@@ -44,7 +45,7 @@ impl Run {
         if !self.caller.can_begin() {
             return b'!';
         }
-        self.request = Some(self.caller.begin(5, 0x1B, &[]));
+        self.request = Some(self.caller.begin(Unit::U64, 5, 0x1B, &[]));
         self.state()
     }
 
@@ -168,7 +169,7 @@ fn heard(to: bool, tag: u8, bytes: &[u8]) -> Option<u8> {
     for call in b"xxb" {
         let _ = run.call(*call);
     }
-    let Ok(message) = Message::new(8, 9, to, tag % 8, bytes) else {
+    let Ok(message) = Message::new(Unit::U64, 8, 9, to, tag % 8, bytes) else {
         return None;
     };
     match run.caller.on_answer(&message) {

@@ -2,7 +2,7 @@
 
 ghost use Rattle.std.specs.Prelude.{◌≡◌, ◌≤◌, true, false};
 ghost use Rattle.fd_core.specs.Banks.{Rose};
-ghost use Rattle.fd_core.specs.Commands.{IsTaken, answer_works, cancel_take, declined as offer_declined, may_activate, offer_take, request_take, return_take, switch_take, table_take, taken_up as offer_taken_up};
+ghost use Rattle.fd_core.specs.Commands.{IsShort, IsTaken, answer_works, cancel_take, declined as offer_declined, may_activate, offer_take, request_take, return_take, switch_take, table_take, taken_up as offer_taken_up};
 ghost use Rattle.fwup_wire.specs.Answers.{IsAnswerWritable};
 ghost use Rattle.fwup_wire.specs.Values.{AnswerOf};
 ghost use Rattle.fwup_wire.specs.Lent.{answer_of, entry_of, offer_of, request_of};
@@ -36,6 +36,7 @@ impl<B: Bank> Device<B> {
         ensures taken { IsTaken self.old self.new (answer_of result) (request_take self.old.device (request_of request.now) quiet) }
         ensures faults { self.new.faults ≡ self.old.faults }
         ensures writable { IsAnswerWritable (answer_of result) }
+        ensures short { IsShort (answer_of result) }
     {
         let State::Idle = self.course.state else {
             return refused(completion::ALREADY_IN_UPDATE_MODE);
@@ -64,6 +65,7 @@ impl<B: Bank> Device<B> {
         ensures taken { IsTaken self.old self.new (answer_of result) (table_take self.old.device (entry_of entry.now)) }
         ensures faults { self.new.faults ≡ self.old.faults }
         ensures writable { IsAnswerWritable (answer_of result) }
+        ensures short { IsShort (answer_of result) }
     {
         match self.course.state {
             State::Idle => return refused(completion::NOT_IN_UPDATE_MODE),
@@ -103,6 +105,7 @@ impl<B: Bank> Device<B> {
         ensures worked { answer_works (answer_of result) ≡ true → self.new.faults ≡ self.old.faults }
         ensures failed { answer_works (answer_of result) ≡ false → Rose self.old.faults self.new.faults }
         ensures writable { IsAnswerWritable (answer_of result) }
+        ensures short { IsShort (answer_of result) }
     {
         match self.course.state {
             State::Idle => return refused(completion::NOT_IN_UPDATE_MODE),
@@ -136,6 +139,7 @@ impl<B: Bank> Device<B> {
         ensures taken { IsTaken self.old self.new (answer_of result) (return_take self.old.device) }
         ensures faults { self.new.faults ≡ self.old.faults }
         ensures writable { IsAnswerWritable (answer_of result) }
+        ensures short { IsShort (answer_of result) }
     {
         match self.course.state {
             State::Idle => return refused(completion::NOT_IN_UPDATE_MODE),
@@ -152,6 +156,7 @@ impl<B: Bank> Device<B> {
         ensures worked { answer_works (answer_of result) ≡ true → self.new.faults ≡ self.old.faults }
         ensures failed { answer_works (answer_of result) ≡ false → Rose self.old.faults self.new.faults }
         ensures writable { IsAnswerWritable (answer_of result) }
+        ensures short { IsShort (answer_of result) }
     {
         match self.course.state {
             State::Idle => return refused(completion::NOT_IN_UPDATE_MODE),
@@ -186,6 +191,7 @@ impl<B: Bank> Device<B> {
         ensures taken { IsTaken self.old self.new (answer_of result) (cancel_take self.old.device) }
         ensures faults { self.new.faults ≡ self.old.faults }
         ensures writable { IsAnswerWritable (answer_of result) }
+        ensures short { IsShort (answer_of result) }
     {
         match self.course.state {
             State::Idle => return refused(completion::NOT_IN_UPDATE_MODE),
@@ -201,6 +207,7 @@ impl<B: Bank> Device<B> {
 fn declined(code: u8) -> Answer<'static>
     ensures answer { answer_of result ≡ AnswerOf.UpdateComponent (offer_declined code) }
     ensures writable { IsAnswerWritable (answer_of result) }
+    ensures short { IsShort (answer_of result) }
 {
     Answer::UpdateComponent(OfferResponse {
         compatibility: CANNOT_BE_UPDATED,
@@ -214,6 +221,7 @@ fn declined(code: u8) -> Answer<'static>
 fn taken_up(force: bool) -> Answer<'static>
     ensures answer { answer_of result ≡ AnswerOf.UpdateComponent (offer_taken_up force) }
     ensures writable { IsAnswerWritable (answer_of result) }
+    ensures short { IsShort (answer_of result) }
 {
     Answer::UpdateComponent(OfferResponse {
         compatibility: CAN_BE_UPDATED,
@@ -228,6 +236,7 @@ pub(super) fn refused(code: u8) -> Answer<'static>
     requires { 1 ≤ code }
     ensures answer { answer_of result ≡ AnswerOf.Refused code }
     ensures writable { IsAnswerWritable (answer_of result) }
+    ensures short { IsShort (answer_of result) }
 {
     Answer::Refused { code }
 }

@@ -51,7 +51,7 @@ impl<B: Bank> Device<B> {
             return;
         };
         let missing = self.work.size - self.work.received;
-        if bytes.len() != length_to_ask(self.update.transfer_size, missing) as usize {
+        if bytes.len() != length_to_ask(self.unit, self.update.transfer_size, missing) as usize {
             return;
         }
         let piece = &bytes[..bytes.len().min(missing as usize)];

@@ -4,12 +4,14 @@ ghost use Rattle.std.specs.Prelude.{◌≡◌, ◌≤◌, IfSome, max, min, opti
 ghost use Rattle.fwup_wire.specs.Commands.{IsSpoken};
 ghost use Rattle.fd_core.specs.Wishes.{device_wish, report_of};
 ghost use Rattle.fwup_wire.specs.Lent.{command_of};
+ghost use Rattle.fwup_wire.specs.Transfers.{transfer_size};
 
 use crate::bank::Bank;
 use crate::device::Device;
 use crate::device::reports::{APPLICATION_FAILED, TRANSFER_FAILED, VERIFICATION_FAILED};
 use crate::states::{Progress, State};
-use fwup_wire::{Command, MAX_TRANSFER, MIN_TRANSFER};
+use fwup_wire::{Command, MAX_TRANSFER, MIN_TRANSFER, transfer_size};
+use mctp_wire::Unit;
 
 /// The result of work that succeeded.
 const SUCCEEDED: u8 = 0;
@@ -29,6 +31,7 @@ impl<B: Bank> Device<B> {
                 Progress::InProgress => Some(Command::RequestFirmwareData {
                     offset: self.work.received,
                     length: length_to_ask(
+                        self.unit,
                         self.update.transfer_size,
                         self.work.size - self.work.received,
                     ),
@@ -65,12 +68,12 @@ fn report(progress: Progress, failure: u8) -> Option<u8>
     }
 }
 
-/// How many bytes are asked for at once: what is missing, at most as many as the agent gives and as fit a message, and
-/// never fewer than the least length.
-pub(super) fn length_to_ask(transfer_size: u32, missing: u32) -> u32
-    ensures length { result ≡ max MIN_TRANSFER (min MAX_TRANSFER (min transfer_size missing)) }
+/// How many bytes are asked for at once: what is missing, at most as many as the agent gives and as fit a message of this
+/// unit, and never fewer than the least length.
+pub(super) fn length_to_ask(unit: Unit, given: u32, missing: u32) -> u32
+    ensures length { result ≡ max MIN_TRANSFER (min (transfer_size unit) (min given missing)) }
     ensures most { result ≤ MAX_TRANSFER }
 {
-    let fitting = (MAX_TRANSFER as u32).min(transfer_size.min(missing));
+    let fitting = (transfer_size(unit) as u32).min(given.min(missing));
     fitting.max(MIN_TRANSFER as u32)
 }

@@ -2,6 +2,7 @@
 use Rattle.std.specs.Prelude.{◌≡◌, ◌<◌, ◌≤◌, ◌==◌, ◌||◌, not, nat_lt, ℕ, Bool, true, false, if◌then◌else◌, List, [], length, Option, Some, None}
 use Rattle.std.proofs.Common.{refl, subst, ap, arith}
 use Rattle.std.proofs.lemmas.Bool.{ltb-true, ltb-false, cond_both}
+use Rattle.mctp_wire.specs.declared.unit.Unit.{«Unit»}
 use Rattle.fw_package.specs.Package.{ComponentOf, DescriptorOf, PackageText}
 use Rattle.fwup_wire.specs.Values.{AnswerOf, CommandOf, EntryOf as ListedOf, OfferOf, RequestOf, VersionOf}
 use Rattle.fd_core.specs.Commands.{OfferRow, RequestRow, SwitchRow, TableRow, download_progress, flag_at, in_table, is_flag, offer_by, offer_restriction, offer_row, offer_take, offer_under, request_by, request_row, request_take, restriction, switch_by, switch_row, switch_take, table_by, table_response, table_row, table_take, with_entry, work_begun, declined}
@@ -113,8 +114,8 @@ passed m x a l p previous =
     record m { device = record m.device { phase = p; previous = previous }; down = Some (cell (CommandOf.PassComponentTable x) (Some a) l) }
 
 abbrev IsTableTime : Phase → Type 0
-IsTableTime (Phase.Learn u) = Unit {0}
-IsTableTime (Phase.Ready u) = Unit {0}
+IsTableTime (Phase.Learn u) = Prim.Unit {0}
+IsTableTime (Phase.Ready u) = Prim.Unit {0}
 IsTableTime p = ⊥
 
 still_time : (rows : List RowOf) (p : Phase) → IsTableTime p → NoneApplied rows → TableTime rows p
@@ -122,10 +123,10 @@ still_time rows (Phase.Learn u) t h = h
 still_time rows (Phase.Ready u) t h = h
 still_time rows p t h = absurd t
 
-time_own : (p : Phase) (have : ℕ) (c : Option CommandOf) → IsTableTime p → Holds None c → OwnStands p (wish_at p have) c
-time_own (Phase.Learn u) have c t h = h
-time_own (Phase.Ready u) have c t h = h
-time_own p have c t h = absurd t
+time_own : (unit : «Unit») (p : Phase) (have : ℕ) (c : Option CommandOf) → IsTableTime p → Holds None c → OwnStands p (wish_at unit p have) c
+time_own unit (Phase.Learn u) have c t h = h
+time_own unit (Phase.Ready u) have c t h = h
+time_own unit p have c t h = absurd t
 
 time_form : (p : Phase) (have : ℕ) → IsTableTime p → StageForm p have
 time_form (Phase.Learn u) have t = tt
@@ -133,13 +134,13 @@ time_form (Phase.Ready u) have t = tt
 time_form p have t = absurd t
 
 -- in a phase that wishes nothing
-own_at : (p q : Phase) (have : ℕ) (c : Option CommandOf) → p ≡ q → OwnStands p (wish_at p have) c → OwnStands q (wish_at q have) c
-own_at p q have c e h = subst (λ (x : Phase). OwnStands x (wish_at x have) c) e h
+own_at : (unit : «Unit») (p q : Phase) (have : ℕ) (c : Option CommandOf) → p ≡ q → OwnStands p (wish_at unit p have) c → OwnStands q (wish_at unit q have) c
+own_at unit p q have c e h = subst (λ (x : Phase). OwnStands x (wish_at unit x have) c) e h
 
 module _ (ps : List PackageText) (ds : List DescriptorOf) where
   -- RequestUpdate
   begun_together : (rs : List Recorded) (m : PairOf) (n : ℕ) (r : RequestOf) (l : Bool) (g : Stage)
-      → CommandStands g (stage_wish (package_at ps n) g) (Some (cell (CommandOf.RequestUpdate r) None l))
+      → CommandStands g (stage_wish m.session.unit (package_at ps n) g) (Some (cell (CommandOf.RequestUpdate r) None l))
       → Together ps ds rs (taken m (CommandOf.RequestUpdate r) l (request_by m.device r RequestRow.BeginUpdate)).after n g
   unfolding down_taken
   begun_together rs m n r l Stage.Idle c = tt
@@ -152,14 +153,14 @@ module _ (ps : List PackageText) (ds : List DescriptorOf) where
 
   -- a command that is wished is not wished in Apply
   no_pending : (es : List EntryOf) (m : PairOf) (n : ℕ) (c : CommandOf) (l : Bool) (g : Stage)
-      → CommandStands g (stage_wish (package_at ps n) g) (Some (cell c None l)) → Pending ps es m n g
+      → CommandStands g (stage_wish m.session.unit (package_at ps n) g) (Some (cell c None l)) → Pending ps es m n g
   no_pending es m n c l (Stage.Apply t) s = absurd (let e = s.1 in cc)
   no_pending es m n c l g s = tt
 
   -- PassComponentTable
   table_together : (rs : List Recorded) (m : PairOf) (n : ℕ) (x : ListedOf) (a : AnswerOf) (l : Bool) (u : UpdateOf) (p : Phase) (previous : State) (g : Stage)
       → m.device.phase ≡ Phase.Learn u → IsTableTime p
-      → CommandStands g (stage_wish (package_at ps n) g) (Some (cell (CommandOf.PassComponentTable x) None l))
+      → CommandStands g (stage_wish m.session.unit (package_at ps n) g) (Some (cell (CommandOf.PassComponentTable x) None l))
       → Together ps ds rs (asking m (CommandOf.PassComponentTable x) l) n g
       → Together ps ds rs (passed m x a l p previous) n g
   table_together rs m n x a l u p previous Stage.Idle e t c h = tt
@@ -173,7 +174,7 @@ module _ (ps : List PackageText) (ds : List DescriptorOf) where
 
   -- UpdateComponent
   declined_told : (rs : List Recorded) (m : PairOf) (n : ℕ) (o : OfferOf) (code : ℕ) (l : Bool) (g : Stage)
-      → CommandStands g (stage_wish (package_at ps n) g) (Some (cell (CommandOf.UpdateComponent o) None l))
+      → CommandStands g (stage_wish m.session.unit (package_at ps n) g) (Some (cell (CommandOf.UpdateComponent o) None l))
       → Together ps ds rs (asking m (CommandOf.UpdateComponent o) l) n g
       → Together ps ds rs (with_down m (Some (cell (CommandOf.UpdateComponent o) (Some (AnswerOf.UpdateComponent (declined code))) l))) n g
   declined_told rs m n o code l (Stage.ClearOld j) c h = absurd (let e = c.1 in cc)
@@ -189,7 +190,7 @@ module _ (ps : List PackageText) (ds : List DescriptorOf) where
 
   offered_together : (rs : List Recorded) (m : PairOf) (n : ℕ) (o : OfferOf) (quiet l : Bool) (u : UpdateOf) (g : Stage)
       → Begins m.device.phase o quiet u → m.up ≡ None
-      → CommandStands g (stage_wish (package_at ps n) g) (Some (cell (CommandOf.UpdateComponent o) None l))
+      → CommandStands g (stage_wish m.session.unit (package_at ps n) g) (Some (cell (CommandOf.UpdateComponent o) None l))
       → Together ps ds rs (asking m (CommandOf.UpdateComponent o) l) n g → Together ps ds rs (working m o l u) n g
   offered_together rs m n o quiet l u Stage.Idle b q c h = tt
   offered_together rs m n o quiet l u Stage.Query b q c h = tt
@@ -210,7 +211,7 @@ module _ (ps : List PackageText) (ds : List DescriptorOf) where
 
   -- ActivateFirmware
   switched_together : (rs : List Recorded) (m : PairOf) (n : ℕ) (b l : Bool) (g : Stage)
-      → CommandStands g (stage_wish (package_at ps n) g) (Some (cell (CommandOf.ActivateFirmware b) None l))
+      → CommandStands g (stage_wish m.session.unit (package_at ps n) g) (Some (cell (CommandOf.ActivateFirmware b) None l))
       → Together ps ds rs (taken m (CommandOf.ActivateFirmware b) l (switch_by m.device SwitchRow.Switch)).after n g
   unfolding down_taken
   switched_together rs m n b l Stage.Idle c = tt
@@ -255,7 +256,7 @@ module _ (ps : List PackageText) (ds : List DescriptorOf) where
         → IsStanding ps ds first es (passed m x a l p previous)
     table_at m x a l u p previous e t told s =
         record {
-          own = time_own p (length m.device.stage) (command_of m.up) t (own_at m.device.phase (Phase.Learn u) (length m.device.stage) (command_of m.up) e s.own);
+          own = time_own m.device.unit p (length m.device.stage) (command_of m.up) t (own_at m.device.unit m.device.phase (Phase.Learn u) (length m.device.stage) (command_of m.up) e s.own);
           command = told_command ps m (CommandOf.PassComponentTable x) a l s.command;
           form = time_form p (length m.device.stage) t;
           together = table_together (since es) m m.session.number x a l u p previous m.session.stage e t s.command s.together;
@@ -301,7 +302,7 @@ module _ (ps : List PackageText) (ds : List DescriptorOf) where
     offer_by_row m o l quiet works q s (OfferRow.BeginWork u) e =
         let b = offer_begins m.device.rows m.device.phase o quiet works u e in
         record {
-          own = holds_empty (wish_at (Phase.Download u (work_begun o) (download_progress 0 o.size)) 0) m.up (q b.quiet_is);
+          own = holds_empty (wish_at m.device.unit (Phase.Download u (work_begun o) (download_progress 0 o.size)) 0) m.up (q b.quiet_is);
           command = told_command ps m (CommandOf.UpdateComponent o) (offer_by m.device o (OfferRow.BeginWork u)).answer l s.command;
           form = begun_form u (work_begun o);
           together = offered_together (since es) m m.session.number o quiet l u m.session.stage b (q b.quiet_is) s.command s.together;
@@ -329,7 +330,7 @@ module _ (ps : List PackageText) (ds : List DescriptorOf) where
         let ready = switch_ready m.device.components m.device.rows m.device.phase works e in
         let after = taken m (CommandOf.ActivateFirmware b) l (switch_by m.device SwitchRow.Switch) in
         record {
-          own = own_at m.device.phase (Phase.Ready ready.0) (length m.device.stage) (command_of m.up) ready.1 s.own;
+          own = own_at m.device.unit m.device.phase (Phase.Ready ready.0) (length m.device.stage) (command_of m.up) ready.1 s.own;
           command = told_command ps m (CommandOf.ActivateFirmware b) (AnswerOf.ActivateFirmware 0) l s.command;
           form = tt;
           together = switched_together (since (noted es after.noted)) m m.session.number b l m.session.stage s.command;

@@ -1,6 +1,7 @@
 -- Cells that are filled, emptied and closed keep what stands.
 use Rattle.std.specs.Prelude.{◌≡◌, ℕ, Bool, true, false, if◌then◌else◌, List, length, Option, Some, None}
 use Rattle.std.proofs.Common.{refl, sym, subst, inl, inr}
+use Rattle.mctp_wire.specs.declared.unit.Unit.{«Unit»}
 use Rattle.fw_package.specs.Package.{ComponentOf, DescriptorOf, PackageText}
 use Rattle.fwup_wire.specs.Values.{AnswerOf, CommandOf}
 use Rattle.fd_core.specs.Images.{RowOf}
@@ -28,20 +29,20 @@ own_asks Phase.Idle wish c e = tt
 own_asks p wish c e = e
 
 -- only what is sealed is told to be applied
-applied_sealed : (p : Phase) (have : ℕ) → is_applied (wish_at p have) ≡ true → is_sealed p ≡ true
-applied_sealed (Phase.Apply u w progress.InProgress) have e = absurd (cc)
-applied_sealed (Phase.Apply u w progress.Succeeded) have e = refl
-applied_sealed (Phase.Apply u w (progress.Failed true)) have e = absurd (cc)
-applied_sealed (Phase.Apply u w (progress.Failed false)) have e = absurd (cc)
-applied_sealed (Phase.Verify u w progress.InProgress) have e = absurd (cc)
-applied_sealed (Phase.Verify u w progress.Succeeded) have e = absurd (cc)
-applied_sealed (Phase.Verify u w (progress.Failed true)) have e = absurd (cc)
-applied_sealed (Phase.Verify u w (progress.Failed false)) have e = absurd (cc)
-applied_sealed (Phase.Download u w progress.InProgress) have e = absurd (cc)
-applied_sealed (Phase.Download u w progress.Succeeded) have e = absurd (cc)
-applied_sealed (Phase.Download u w (progress.Failed true)) have e = absurd (cc)
-applied_sealed (Phase.Download u w (progress.Failed false)) have e = absurd (cc)
-applied_sealed p have e = absurd (cc)
+applied_sealed : (unit : «Unit») (p : Phase) (have : ℕ) → is_applied (wish_at unit p have) ≡ true → is_sealed p ≡ true
+applied_sealed unit (Phase.Apply u w progress.InProgress) have e = absurd (cc)
+applied_sealed unit (Phase.Apply u w progress.Succeeded) have e = refl
+applied_sealed unit (Phase.Apply u w (progress.Failed true)) have e = absurd (cc)
+applied_sealed unit (Phase.Apply u w (progress.Failed false)) have e = absurd (cc)
+applied_sealed unit (Phase.Verify u w progress.InProgress) have e = absurd (cc)
+applied_sealed unit (Phase.Verify u w progress.Succeeded) have e = absurd (cc)
+applied_sealed unit (Phase.Verify u w (progress.Failed true)) have e = absurd (cc)
+applied_sealed unit (Phase.Verify u w (progress.Failed false)) have e = absurd (cc)
+applied_sealed unit (Phase.Download u w progress.InProgress) have e = absurd (cc)
+applied_sealed unit (Phase.Download u w progress.Succeeded) have e = absurd (cc)
+applied_sealed unit (Phase.Download u w (progress.Failed true)) have e = absurd (cc)
+applied_sealed unit (Phase.Download u w (progress.Failed false)) have e = absurd (cc)
+applied_sealed unit p have e = absurd (cc)
 
 module _ (ps : List PackageText) (ds : List DescriptorOf) where
   module _ (n : ℕ) (rs : List Recorded) (c : ComponentOf) (rows : List RowOf) (bytes : List ℕ) where
@@ -112,13 +113,13 @@ module _ (ps : List PackageText) (ds : List DescriptorOf) where
       → Pending ps es (with_up m None) n g → Pending ps es (with_up m (Some (fresh_cell c))) n g
   asked_pending es m c n (Stage.Apply t) e h = λ k. elim k [
     | inl sealed ↦ h (inl sealed)
-    | inr told ↦ h (inl (applied_sealed m.device.phase (length m.device.stage) (subst (λ (x : Option CommandOf). is_applied x ≡ true) (sym e) told)))
+    | inr told ↦ h (inl (applied_sealed m.device.unit m.device.phase (length m.device.stage) (subst (λ (x : Option CommandOf). is_applied x ≡ true) (sym e) told)))
   ]
   asked_pending es m c n g e h = tt
 
   -- the agent's cell is emptied where nobody waits for it
   dropped_down : (rs : List Recorded) (m : PairOf) (c : CommandOf) (r : Option AnswerOf) (n : ℕ) (g : Stage)
-      → CommandStands g (stage_wish (package_at ps n) g) (Some (record { command = c; reply = r; live = false }))
+      → CommandStands g (stage_wish m.session.unit (package_at ps n) g) (Some (record { command = c; reply = r; live = false }))
       → Together ps ds rs (with_down m (Some (record { command = c; reply = r; live = false }))) n g
       → Together ps ds rs (with_down m None) n g
   dropped_down rs m c r n (Stage.ClearOld j) s h = absurd (let e = s.0 in cc)
@@ -221,7 +222,7 @@ module _ (ps : List PackageText) (ds : List DescriptorOf) where
     drop_dead m c r s =
         record {
           own = s.own;
-          command = none_command m.session.stage (stage_wish (package_at ps m.session.number) m.session.stage);
+          command = none_command m.session.stage (stage_wish m.session.unit (package_at ps m.session.number) m.session.stage);
           form = s.form;
           together = dropped_down (since es) m c r m.session.number m.session.stage s.command s.together;
           pending = s.pending;

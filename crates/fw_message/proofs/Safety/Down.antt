@@ -2,6 +2,7 @@
 use Rattle.std.specs.Prelude.{◌≡◌, ℕ, ◌&&◌, not, Bool, true, false, if◌then◌else◌, List, Option, Some, None}
 use Rattle.std.specs.Option.{IfSome}
 use Rattle.std.proofs.Common.{refl, sym, subst}
+use Rattle.mctp_wire.specs.declared.unit.Unit.{«Unit»}
 use Rattle.fw_package.specs.Package.{DescriptorOf, PackageText}
 use Rattle.fwup_wire.specs.Values.{AnswerOf, CommandOf}
 use Rattle.fd_core.specs.Commands.{all_parameters, device_take, status_of}
@@ -72,14 +73,14 @@ module _ (ps : List PackageText) (ds : List DescriptorOf) (first : List RowOf) (
   device_takes m quiet works s = take_cell m m.down quiet works s
 
   -- Ask
-  ask_command : (g : Stage) (c : CommandOf) (n : ℕ) → stage_wish (package_at ps n) g ≡ Some c
-      → CommandStands g (stage_wish (package_at ps n) g) (Some (fresh_cell c))
-  ask_command Stage.Idle c n e = tt
-  ask_command Stage.Query c n e = tt
-  ask_command Stage.Done c n e = tt
-  ask_command Stage.Cancelling c n e = tt
-  ask_command (Stage.Failed x) c n e = tt
-  ask_command g c n e = (refl, e)
+  ask_command : (unit : «Unit») (g : Stage) (c : CommandOf) (n : ℕ) → stage_wish unit (package_at ps n) g ≡ Some c
+      → CommandStands g (stage_wish unit (package_at ps n) g) (Some (fresh_cell c))
+  ask_command unit Stage.Idle c n e = tt
+  ask_command unit Stage.Query c n e = tt
+  ask_command unit Stage.Done c n e = tt
+  ask_command unit Stage.Cancelling c n e = tt
+  ask_command unit (Stage.Failed x) c n e = tt
+  ask_command unit g c n e = (refl, e)
 
   ask_together : (rs : List Recorded) (m : PairOf) (n : ℕ) (c : CommandOf) (g : Stage) → Together ps ds rs (with_down m None) n g
       → Together ps ds rs (with_down m (Some (fresh_cell c))) n g
@@ -89,7 +90,7 @@ module _ (ps : List PackageText) (ds : List DescriptorOf) (first : List RowOf) (
   StrayIn rs m c = Stray ps ds rs m.device.rows m.device.phase c
 
   ask_stray : (rs : List Recorded) (m : PairOf) (n : ℕ) (g : Stage) → Together ps ds rs (with_down m None) n g
-      → StrayIn rs m (stage_wish (package_at ps n) g)
+      → StrayIn rs m (stage_wish m.session.unit (package_at ps n) g)
   ask_stray rs m n (Stage.Activate j) h = (n, h)
   ask_stray rs m n g h = tt
 
@@ -99,7 +100,7 @@ module _ (ps : List PackageText) (ds : List DescriptorOf) (first : List RowOf) (
   asks m (Some c) e s =
       record {
         own = s.own;
-        command = ask_command m.session.stage c m.session.number (sym e);
+        command = ask_command m.session.unit m.session.stage c m.session.number (sym e);
         form = s.form;
         together = ask_together (since es) m m.session.number c m.session.stage s.together;
         pending = s.pending;

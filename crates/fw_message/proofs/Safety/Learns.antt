@@ -179,7 +179,7 @@ module _ (ps : List PackageText) (ds : List DescriptorOf) (es : List EntryOf) wh
     learn_by_row m d LearnRow.Stay s p h =
         record {
           own = s.own;
-          command = none_command m.session.stage (stage_wish (package_at ps m.session.number) m.session.stage);
+          command = none_command m.session.stage (stage_wish m.session.unit (package_at ps m.session.number) m.session.stage);
           form = s.form;
           together = h;
           pending = s.pending;
@@ -193,7 +193,7 @@ module _ (ps : List PackageText) (ds : List DescriptorOf) (es : List EntryOf) wh
     learn_by_row m d (LearnRow.Go g) s p h =
         record {
           own = s.own;
-          command = none_command g (stage_wish (package_at ps m.session.number) g);
+          command = none_command g (stage_wish m.session.unit (package_at ps m.session.number) g);
           form = s.form;
           together = h.0;
           pending = h.1;

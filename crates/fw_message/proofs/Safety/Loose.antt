@@ -28,7 +28,7 @@ idle_device v bytes previous reason =
 
 -- the session in another state, and perhaps with another package
 abbrev pub loosened : PairOf → Stage → ℕ → Option HeldOf → PairOf
-loosened m g n down = record m { session = record { stage = g; number = n; records = m.session.records }; down = down }
+loosened m g n down = record m { session = record { unit = m.session.unit; stage = g; number = n; records = m.session.records }; down = down }
 
 -- an empty cell
 pub none_command : (g : Stage) (wish : Option CommandOf) → CommandStands g wish None
@@ -141,7 +141,7 @@ module _ (ps : List PackageText) (ds : List DescriptorOf) where
   loose_stands first es m g n down l stray told s =
       record {
         own = s.own;
-        command = loose_command g (stage_wish (package_at ps n) g) down l;
+        command = loose_command g (stage_wish m.session.unit (package_at ps n) g) down l;
         form = s.form;
         together = loose_together (since es) (loosened m g n down) n g l;
         pending = loose_pending es (loosened m g n down) n g l;

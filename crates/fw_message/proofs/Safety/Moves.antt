@@ -89,7 +89,7 @@ module _ (ps : List PackageText) (ds : List DescriptorOf) where
     -- a move of a device that keeps its rows
     pub moves_stand : (m : PairOf) (v : DeviceState) (p : Phase) (bytes : List ℕ) (previous : State) (u x : Option HeldOf)
         → IsMove (since es) v (at_phase v p bytes previous) u x
-        → OwnStands p (wish_at p (length bytes)) (command_of x) → StageForm p (length bytes) → (IsUnderWay p x → IsUnderWay v.phase u)
+        → OwnStands p (wish_at v.unit p (length bytes)) (command_of x) → StageForm p (length bytes) → (IsUnderWay p x → IsUnderWay v.phase u)
         → IsStanding ps ds first es (with_device m v u) → IsStanding ps ds first es (with_device m (at_phase v p bytes previous) x)
     moves_stand m v p bytes previous u x k own form under s =
         record {

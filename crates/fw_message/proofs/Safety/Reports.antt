@@ -172,7 +172,7 @@ module _ (ps : List PackageText) (ds : List DescriptorOf) where
     piece_learnt law m v u w d bytes l works s =
         let now = record v { phase = Phase.Download u w progress.InProgress } in
         let held = Some (cell d (Some (AnswerOf.RequestFirmwareData bytes)) l) in
-        let asked = asked_length u w (length v.stage) in
+        let asked = asked_length v.unit u w (length v.stage) in
         let lt : length v.stage < w.size = s.form in
         let is : CommandOf.RequestFirmwareData (length v.stage) asked ≡ d = let own = s.own in cc in
         let more = stage_with v w bytes in

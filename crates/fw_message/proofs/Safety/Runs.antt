@@ -122,7 +122,7 @@ history_nothing ps ds rows h = record {
 }
 
 begins : (ps : List PackageText) (v : DeviceState) → All IsUnapplied v.rows
-    → IsStanding ps (map told_descriptor v.descriptors) v.rows [] (record { device = record v { phase = Phase.Idle }; session = new_session.session; down = None; up = None })
+    → IsStanding ps (map told_descriptor v.descriptors) v.rows [] (record { device = record v { phase = Phase.Idle }; session = (new_session v.unit).session; down = None; up = None })
 begins ps v h = record {
   own = tt;
   command = tt;
@@ -143,8 +143,8 @@ opening_stands ps r h =
     let v = r.pair.device in
     let P : Phase → SessionOf → Option HeldOf → Option HeldOf → List EntryOf → Type 0 = λ p s d u es.
     IsStanding ps (map told_descriptor v.descriptors) v.rows es (record { device = record v { phase = p }; session = s; down = d; up = u }) in
-    let a : P Phase.Idle new_session.session None None [] = begins ps v h.unapplied in
-    let b : P r.pair.device.phase new_session.session None None [] = subst (λ (x : Phase). P x new_session.session None None []) (sym h.idle) a in
+    let a : P Phase.Idle (new_session v.unit).session None None [] = begins ps v h.unapplied in
+    let b : P r.pair.device.phase (new_session v.unit).session None None [] = subst (λ (x : Phase). P x (new_session v.unit).session None None []) (sym h.idle) a in
     let c : P r.pair.device.phase r.pair.session None None [] = subst (λ (x : SessionOf). P r.pair.device.phase x None None []) (sym h.session) b in
     let d : P r.pair.device.phase r.pair.session r.pair.down None [] = subst (λ (x : Option HeldOf). P r.pair.device.phase r.pair.session x None []) (sym h.down) c in
     let e : P r.pair.device.phase r.pair.session r.pair.down r.pair.up [] = subst (λ (x : Option HeldOf). P r.pair.device.phase r.pair.session r.pair.down x []) (sym h.up) d in

@@ -3,6 +3,7 @@ use Rattle.std.specs.Prelude.{◌≡◌, ℕ, ◌==◌, ◌++◌, Bool, true, fa
 use Rattle.std.proofs.Common.{◌∙◌, ap, arith}
 use Rattle.std.proofs.lemmas.Bool.{eqb-true}
 use Rattle.std.proofs.Math.Seq.{take-length}
+use Rattle.mctp_wire.specs.declared.unit.Unit.{«Unit»}
 use Rattle.fw_package.specs.Choice.{component_at}
 use Rattle.fw_package.specs.Package.{ComponentOf, DescriptorOf, PackageText}
 use Rattle.fwup_wire.specs.Values.{AnswerOf, CommandOf}
@@ -52,41 +53,41 @@ module _ (ps : List PackageText) (ds : List DescriptorOf) (n : ℕ) (rs : List R
   application_refused p r k h = absurd h
 
   -- a good result that is told again
-  begun_again : (p : Phase) (have result methods : ℕ) (r : Option AnswerOf)
-      → OwnStands p (wish_at p have) (Some (CommandOf.ApplyComplete result methods))
+  begun_again : (unit : «Unit») (p : Phase) (have result methods : ℕ) (r : Option AnswerOf)
+      → OwnStands p (wish_at unit p have) (Some (CommandOf.ApplyComplete result methods))
       → IsBegunAt ps ds n rs c rows bytes p None → IsBegunAt ps ds n rs c rows bytes p r
-  begun_again Phase.Idle have result methods r own h = tt
-  begun_again (Phase.Download u w progress.InProgress) have result methods r own h = absurd (cc)
-  begun_again (Phase.Download u w progress.Succeeded) have result methods r own h = absurd (cc)
-  begun_again p have result methods r own h = absurd h
+  begun_again unit Phase.Idle have result methods r own h = tt
+  begun_again unit (Phase.Download u w progress.InProgress) have result methods r own h = absurd (cc)
+  begun_again unit (Phase.Download u w progress.Succeeded) have result methods r own h = absurd (cc)
+  begun_again unit p have result methods r own h = absurd h
 
-  pub offered_again : (p : Phase) (have result methods : ℕ) (r : Option AnswerOf) (b : Bool)
-      → OwnStands p (wish_at p have) (Some (CommandOf.ApplyComplete result methods))
+  pub offered_again : (unit : «Unit») (p : Phase) (have result methods : ℕ) (r : Option AnswerOf) (b : Bool)
+      → OwnStands p (wish_at unit p have) (Some (CommandOf.ApplyComplete result methods))
       → UpdateOffered ps ds n rs c rows bytes p None b → UpdateOffered ps ds n rs c rows bytes p r b
-  offered_again p have result methods r true own h = begun_again p have result methods r own h
-  offered_again p have result methods r false own h = h
+  offered_again unit p have result methods r true own h = begun_again unit p have result methods r own h
+  offered_again unit p have result methods r false own h = h
 
-  pub verification_again : (p : Phase) (have result : ℕ) (r : Option AnswerOf)
-      → OwnStands p (wish_at p have) (Some (CommandOf.TransferComplete result))
+  pub verification_again : (unit : «Unit») (p : Phase) (have result : ℕ) (r : Option AnswerOf)
+      → OwnStands p (wish_at unit p have) (Some (CommandOf.TransferComplete result))
       → Verification ps ds n rs c rows bytes p None → Verification ps ds n rs c rows bytes p r
-  verification_again Phase.Idle have result r own h = tt
-  verification_again (Phase.Download u w progress.Succeeded) have result r own h = h
-  verification_again (Phase.Verify u w progress.InProgress) have result r own h = absurd (cc)
-  verification_again (Phase.Verify u w progress.Succeeded) have result r own h = absurd (cc)
-  verification_again (Phase.Verify u w (progress.Failed true)) have result r own h = absurd (cc)
-  verification_again (Phase.Verify u w (progress.Failed false)) have result r own h = absurd (cc)
-  verification_again p have result r own h = absurd h
+  verification_again unit Phase.Idle have result r own h = tt
+  verification_again unit (Phase.Download u w progress.Succeeded) have result r own h = h
+  verification_again unit (Phase.Verify u w progress.InProgress) have result r own h = absurd (cc)
+  verification_again unit (Phase.Verify u w progress.Succeeded) have result r own h = absurd (cc)
+  verification_again unit (Phase.Verify u w (progress.Failed true)) have result r own h = absurd (cc)
+  verification_again unit (Phase.Verify u w (progress.Failed false)) have result r own h = absurd (cc)
+  verification_again unit p have result r own h = absurd h
 
-  pub application_again : (p : Phase) (have result : ℕ) (r : Option AnswerOf)
-      → OwnStands p (wish_at p have) (Some (CommandOf.VerifyComplete result))
+  pub application_again : (unit : «Unit») (p : Phase) (have result : ℕ) (r : Option AnswerOf)
+      → OwnStands p (wish_at unit p have) (Some (CommandOf.VerifyComplete result))
       → Application ps ds n rs c rows bytes p None → Application ps ds n rs c rows bytes p r
-  application_again Phase.Idle have result r own h = tt
-  application_again (Phase.Verify u w progress.Succeeded) have result r own h = h
-  application_again (Phase.Apply u w progress.InProgress) have result r own h = absurd (cc)
-  application_again (Phase.Apply u w progress.Succeeded) have result r own h = absurd (cc)
-  application_again (Phase.Apply u w (progress.Failed true)) have result r own h = absurd (cc)
-  application_again (Phase.Apply u w (progress.Failed false)) have result r own h = absurd (cc)
-  application_again p have result r own h = absurd h
+  application_again unit Phase.Idle have result r own h = tt
+  application_again unit (Phase.Verify u w progress.Succeeded) have result r own h = h
+  application_again unit (Phase.Apply u w progress.InProgress) have result r own h = absurd (cc)
+  application_again unit (Phase.Apply u w progress.Succeeded) have result r own h = absurd (cc)
+  application_again unit (Phase.Apply u w (progress.Failed true)) have result r own h = absurd (cc)
+  application_again unit (Phase.Apply u w (progress.Failed false)) have result r own h = absurd (cc)
+  application_again unit p have result r own h = absurd h
 
   -- TransferComplete(0): the stage is the image
   held_full : (w : WorkOf) (d : Option CommandOf) → length bytes ≡ w.size → IsTransfer ps ds n rs c rows bytes w d None
@@ -97,46 +98,46 @@ module _ (ps : List PackageText) (ds : List DescriptorOf) (n : ℕ) (rs : List R
     backed = h.backed;
   }
 
-  pub transfer_done : (p : Phase) (result : ℕ) (r : Option AnswerOf) → (result == 0) ≡ true
-      → OwnStands p (wish_at p (length bytes)) (Some (CommandOf.TransferComplete result)) → StageForm p (length bytes)
+  pub transfer_done : (unit : «Unit») (p : Phase) (result : ℕ) (r : Option AnswerOf) → (result == 0) ≡ true
+      → OwnStands p (wish_at unit p (length bytes)) (Some (CommandOf.TransferComplete result)) → StageForm p (length bytes)
       → Transfer ps ds n rs c rows bytes p (Some (CommandOf.TransferComplete result)) None → Verification ps ds n rs c rows bytes p r
-  transfer_done Phase.Idle result r z own form h = tt
-  transfer_done (Phase.Download u w progress.InProgress) result r z own form h = absurd (cc)
-  transfer_done (Phase.Download u w progress.Succeeded) result r z own form h =
+  transfer_done unit Phase.Idle result r z own form h = tt
+  transfer_done unit (Phase.Download u w progress.InProgress) result r z own form h = absurd (cc)
+  transfer_done unit (Phase.Download u w progress.Succeeded) result r z own form h =
       held_full w (Some (CommandOf.TransferComplete result)) form h
-  transfer_done (Phase.Download u w (progress.Failed true)) result r z own form h = absurd (cc)
-  transfer_done (Phase.Download u w (progress.Failed false)) result r z own form h =
+  transfer_done unit (Phase.Download u w (progress.Failed true)) result r z own form h = absurd (cc)
+  transfer_done unit (Phase.Download u w (progress.Failed false)) result r z own form h =
       absurd (let is : 0x70 ≡ result = cc in let zero = eqb-true result 0 z in omega arith)
-  transfer_done p result r z own form h = absurd h
+  transfer_done unit p result r z own form h = absurd h
 
   -- VerifyComplete(0)
-  pub verified : (p : Phase) (have result : ℕ) (r : Option AnswerOf) → (result == 0) ≡ true
-      → OwnStands p (wish_at p have) (Some (CommandOf.VerifyComplete result))
+  pub verified : (unit : «Unit») (p : Phase) (have result : ℕ) (r : Option AnswerOf) → (result == 0) ≡ true
+      → OwnStands p (wish_at unit p have) (Some (CommandOf.VerifyComplete result))
       → Verification ps ds n rs c rows bytes p None → Application ps ds n rs c rows bytes p r
-  verified Phase.Idle have result r z own h = tt
-  verified (Phase.Download u w progress.Succeeded) have result r z own h = absurd (cc)
-  verified (Phase.Verify u w progress.InProgress) have result r z own h = absurd (cc)
-  verified (Phase.Verify u w progress.Succeeded) have result r z own h = h.0
-  verified (Phase.Verify u w (progress.Failed true)) have result r z own h = absurd (cc)
-  verified (Phase.Verify u w (progress.Failed false)) have result r z own h =
+  verified unit Phase.Idle have result r z own h = tt
+  verified unit (Phase.Download u w progress.Succeeded) have result r z own h = absurd (cc)
+  verified unit (Phase.Verify u w progress.InProgress) have result r z own h = absurd (cc)
+  verified unit (Phase.Verify u w progress.Succeeded) have result r z own h = h.0
+  verified unit (Phase.Verify u w (progress.Failed true)) have result r z own h = absurd (cc)
+  verified unit (Phase.Verify u w (progress.Failed false)) have result r z own h =
       absurd (let is : 0x90 ≡ result = cc in let zero = eqb-true result 0 z in omega arith)
-  verified p have result r z own h = absurd h
+  verified unit p have result r z own h = absurd h
 
   pub verify_unsealed : (p : Phase) → Verification ps ds n rs c rows bytes p None → is_sealed p ≡ true → ⊥
   verify_unsealed (Phase.Apply u w a) h e = h
   verify_unsealed p h e = absurd (cc)
 
   -- ApplyComplete(0): what is sealed is recorded
-  pub sealed_settles : (p : Phase) (have result methods : ℕ) (r : Recorded) → (result == 0) ≡ true
-      → OwnStands p (wish_at p have) (Some (CommandOf.ApplyComplete result methods))
+  pub sealed_settles : (unit : «Unit») (p : Phase) (have result methods : ℕ) (r : Recorded) → (result == 0) ≡ true
+      → OwnStands p (wish_at unit p have) (Some (CommandOf.ApplyComplete result methods))
       → r.«package» ≡ n → key_of (component_at (package_at ps r.«package») r.component) ≡ key_of c → Names ps ds n (key_of c) c.image
       → Application ps ds n rs c rows bytes p None → Settled ps ds n (rs ++ r ∷ []) rows p
-  sealed_settles Phase.Idle have result methods r z own e k names h = tt
-  sealed_settles (Phase.Verify u w progress.Succeeded) have result methods r z own e k names h = absurd (cc)
-  sealed_settles (Phase.Apply u w progress.InProgress) have result methods r z own e k names h = absurd (cc)
-  sealed_settles (Phase.Apply u w (progress.Failed true)) have result methods r z own e k names h = absurd (cc)
-  sealed_settles (Phase.Apply u w (progress.Failed false)) have result methods r z own e k names h =
+  sealed_settles unit Phase.Idle have result methods r z own e k names h = tt
+  sealed_settles unit (Phase.Verify u w progress.Succeeded) have result methods r z own e k names h = absurd (cc)
+  sealed_settles unit (Phase.Apply u w progress.InProgress) have result methods r z own e k names h = absurd (cc)
+  sealed_settles unit (Phase.Apply u w (progress.Failed true)) have result methods r z own e k names h = absurd (cc)
+  sealed_settles unit (Phase.Apply u w (progress.Failed false)) have result methods r z own e k names h =
       absurd (let is : 0xB0 ≡ result = cc in let zero = eqb-true result 0 z in omega arith)
-  sealed_settles (Phase.Apply u w progress.Succeeded) have result methods r z own e k names h =
+  sealed_settles unit (Phase.Apply u w progress.Succeeded) have result methods r z own e k names h =
       backed_recorded ps ds n rs r (key_of c) c.image rows e k names h.0.applied h.0.others
-  sealed_settles p have result methods r z own e k names h = absurd h
+  sealed_settles unit p have result methods r z own e k names h = absurd h

@@ -71,7 +71,7 @@ refused_cancel p code e c = absurd (cc)
 
 module _ (ps : List PackageText) (ds : List DescriptorOf) where
   other_told : (rs : List Recorded) (m : PairOf) (n : ℕ) (c : CommandOf) (a : AnswerOf) (l : Bool) (g : Stage) → IsOther c
-      → CommandStands g (stage_wish (package_at ps n) g) (Some (cell c None l))
+      → CommandStands g (stage_wish m.session.unit (package_at ps n) g) (Some (cell c None l))
       → Together ps ds rs (asking m c l) n g → Together ps ds rs (with_down m (Some (cell c (Some a) l))) n g
   other_told rs m n c a l (Stage.ClearOld j) o s h = absurd (subst OtherIn (sym s.1) o)
   other_told rs m n c a l (Stage.Request j) o s h = absurd (subst OtherIn (sym s.1) o)
@@ -80,7 +80,7 @@ module _ (ps : List PackageText) (ds : List DescriptorOf) where
   other_told rs m n c a l g o s h = h
 
   refused_told : (rs : List Recorded) (m : PairOf) (n : ℕ) (c : CommandOf) (code : ℕ) (l : Bool) (g : Stage) → IsNoCancel c
-      → CommandStands g (stage_wish (package_at ps n) g) (Some (cell c None l))
+      → CommandStands g (stage_wish m.session.unit (package_at ps n) g) (Some (cell c None l))
       → Together ps ds rs (asking m c l) n g
       → Together ps ds rs (with_down m (Some (cell c (Some (AnswerOf.Refused code)) l))) n g
   refused_told rs m n c code l (Stage.ClearOld j) o s h = absurd (subst NoCancelIn (sym s.1) o)

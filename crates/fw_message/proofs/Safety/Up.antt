@@ -2,6 +2,7 @@
 use Rattle.std.specs.Prelude.{◌≡◌, ℕ, ◌==◌, ◌&&◌, ◌++◌, nat_lt, Bool, true, if◌then◌else◌, List, [], ◌∷◌, length, map, Option, Some, None}
 use Rattle.std.proofs.Common.{refl, inl, inr}
 use Rattle.std.proofs.lemmas.Bool.{cond_both}
+use Rattle.mctp_wire.specs.declared.unit.Unit.{«Unit»}
 use Rattle.fw_package.specs.Laws.{PlansNamedImages}
 use Rattle.fw_package.specs.Package.{DescriptorOf, PackageText}
 use Rattle.fwup_wire.specs.Values.{AnswerOf, CommandOf}
@@ -39,7 +40,7 @@ module _ (ps : List PackageText) (ds : List DescriptorOf) (es : List EntryOf) wh
   -- what is known as the session takes a command
   pub record IsAsking (m : PairOf) (c : CommandOf) (l : Bool) (n : ℕ) (g : Stage) : Type 0 where
     pub own : OwnStands m.device.phase (device_wish m.device) (Some c)
-    pub command : CommandStands g (stage_wish (package_at ps n) g) m.down
+    pub command : CommandStands g (stage_wish m.session.unit (package_at ps n) g) m.down
     pub form : StageForm m.device.phase (length m.device.stage)
     pub together : Together ps ds (since es) (with_up m (Some (cell c None l))) n g
     pub pending : Pending ps es (with_up m (Some (cell c None l))) n g
@@ -56,7 +57,7 @@ module _ (ps : List PackageText) (ds : List DescriptorOf) (es : List EntryOf) wh
 
   abbrev Moved : PairOf → SessionOf → CommandOf → Bool → ℕ → AnswerOf → Stage → Type 0
   Moved m s c l n a k = Together ps ds (since es) (served m s c a l) n k × Pending ps es (served m s c a l) n k
-      × HasChosen (package_at ps n) ds k × CommandStands k (stage_wish (package_at ps n) k) m.down
+      × HasChosen (package_at ps n) ds k × CommandStands k (stage_wish m.session.unit (package_at ps n) k) m.down
 
   abbrev Serves : PairOf → SessionOf → CommandOf → Bool → ℕ → Stage → ServeRow → Type 0
   Serves m s c l n g (ServeRow.Say a) = Together ps ds (since es) (served m s c a l) n g
@@ -81,13 +82,13 @@ module _ (ps : List PackageText) (ds : List DescriptorOf) (es : List EntryOf) wh
   -- RequestFirmwareData
   data_serves : (m : PairOf) (s : SessionOf) (l : Bool) (n offset size : ℕ) (g : Stage)
       → IsAsking m (CommandOf.RequestFirmwareData offset size) l n g
-      → Serves m s (CommandOf.RequestFirmwareData offset size) l n g (serve_row (package_at ps n) g (CommandOf.RequestFirmwareData offset size))
+      → Serves m s (CommandOf.RequestFirmwareData offset size) l n g (serve_row m.session.unit (package_at ps n) g (CommandOf.RequestFirmwareData offset size))
   data_serves m s l n offset size (Stage.Update t) k =
       refused_up m s (CommandOf.RequestFirmwareData offset size) l n 0x89 (Stage.Update t) k.together
   data_serves m s l n offset size (Stage.Download t) k =
       let c = CommandOf.RequestFirmwareData offset size in
       let image = (at_hand (package_at ps n) t).image in
-      cond_both (is_bad_length size) (refuses 0x83) (if is_past_end image offset size then refuses 0x82 else ServeRow.Give (window image offset size))
+      cond_both (is_bad_length m.session.unit size) (refuses 0x83) (if is_past_end image offset size then refuses 0x82 else ServeRow.Give (window image offset size))
       (Serves m s c l n (Stage.Download t)) (λ e. refused_up m s c l n 0x83 (Stage.Download t) k.together)
       (λ e. cond_both (is_past_end image offset size) (refuses 0x82) (ServeRow.Give (window image offset size)) (Serves m s c l n (Stage.Download t))
       (λ f. refused_up m s c l n 0x82 (Stage.Download t) k.together)
@@ -96,14 +97,14 @@ module _ (ps : List PackageText) (ds : List DescriptorOf) (es : List EntryOf) wh
 
   -- TransferComplete
   transfer_serves : (m : PairOf) (s : SessionOf) (l : Bool) (n r : ℕ) (g : Stage) → IsAsking m (CommandOf.TransferComplete r) l n g
-      → Serves m s (CommandOf.TransferComplete r) l n g (serve_row (package_at ps n) g (CommandOf.TransferComplete r))
+      → Serves m s (CommandOf.TransferComplete r) l n g (serve_row m.session.unit (package_at ps n) g (CommandOf.TransferComplete r))
   transfer_serves m s l n r (Stage.Download t) k =
       cond_both (r == 0) (Stage.Verify t) (Stage.Failed causes.Transfer) (Moved m s (CommandOf.TransferComplete r) l n AnswerOf.TransferComplete)
-      (λ z. (transfer_done ps ds n (since es) (at_hand (package_at ps n) t) m.device.rows m.device.stage m.device.phase r (Some AnswerOf.TransferComplete) z k.own k.form k.together, tt, k.chosen, k.command))
+      (λ z. (transfer_done ps ds n (since es) (at_hand (package_at ps n) t) m.device.rows m.device.stage m.device.unit m.device.phase r (Some AnswerOf.TransferComplete) z k.own k.form k.together, tt, k.chosen, k.command))
       (λ z. (tt, tt, tt, tt))
   transfer_serves m s l n r (Stage.Verify t) k =
       cond_both (r == 0) (ServeRow.Say AnswerOf.TransferComplete) unexpected (Serves m s (CommandOf.TransferComplete r) l n (Stage.Verify t))
-      (λ z. verification_again ps ds n (since es) (at_hand (package_at ps n) t) m.device.rows m.device.stage m.device.phase (length m.device.stage) r (Some AnswerOf.TransferComplete) k.own k.together)
+      (λ z. verification_again ps ds n (since es) (at_hand (package_at ps n) t) m.device.rows m.device.stage m.device.unit m.device.phase (length m.device.stage) r (Some AnswerOf.TransferComplete) k.own k.together)
       (λ z. refused_up m s (CommandOf.TransferComplete r) l n 0x88 (Stage.Verify t) k.together)
   transfer_serves m s l n r g k = refused_up m s (CommandOf.TransferComplete r) l n 0x88 g k.together
 
@@ -116,11 +117,11 @@ module _ (ps : List PackageText) (ds : List DescriptorOf) (es : List EntryOf) wh
   ]
 
   verify_serves : (m : PairOf) (s : SessionOf) (l : Bool) (n r : ℕ) (g : Stage) → IsAsking m (CommandOf.VerifyComplete r) l n g
-      → Serves m s (CommandOf.VerifyComplete r) l n g (serve_row (package_at ps n) g (CommandOf.VerifyComplete r))
+      → Serves m s (CommandOf.VerifyComplete r) l n g (serve_row m.session.unit (package_at ps n) g (CommandOf.VerifyComplete r))
   verify_serves m s l n r (Stage.Verify t) k =
       cond_both (r == 0) (Stage.Apply t) (Stage.Failed causes.Verify) (Moved m s (CommandOf.VerifyComplete r) l n AnswerOf.VerifyComplete)
       (λ z. (
-        verified ps ds n (since es) (at_hand (package_at ps n) t) m.device.rows m.device.stage m.device.phase (length m.device.stage) r (Some AnswerOf.VerifyComplete) z k.own k.together,
+        verified ps ds n (since es) (at_hand (package_at ps n) t) m.device.rows m.device.stage m.device.unit m.device.phase (length m.device.stage) r (Some AnswerOf.VerifyComplete) z k.own k.together,
         not_yet m s (CommandOf.VerifyComplete r) AnswerOf.VerifyComplete l n t k.together,
         k.chosen,
         k.command,
@@ -128,35 +129,35 @@ module _ (ps : List PackageText) (ds : List DescriptorOf) (es : List EntryOf) wh
       (λ z. (tt, tt, tt, tt))
   verify_serves m s l n r (Stage.Apply t) k =
       cond_both (r == 0) (ServeRow.Say AnswerOf.VerifyComplete) unexpected (Serves m s (CommandOf.VerifyComplete r) l n (Stage.Apply t))
-      (λ z. application_again ps ds n (since es) (at_hand (package_at ps n) t) m.device.rows m.device.stage m.device.phase (length m.device.stage) r (Some AnswerOf.VerifyComplete) k.own k.together)
+      (λ z. application_again ps ds n (since es) (at_hand (package_at ps n) t) m.device.rows m.device.stage m.device.unit m.device.phase (length m.device.stage) r (Some AnswerOf.VerifyComplete) k.own k.together)
       (λ z. refused_up m s (CommandOf.VerifyComplete r) l n 0x88 (Stage.Apply t) k.together)
   verify_serves m s l n r g k = refused_up m s (CommandOf.VerifyComplete r) l n 0x88 g k.together
 
   -- ApplyComplete
-  none_asked : (n : ℕ) (t : TaskOf) (down : Option HeldOf)
-      → CommandStands (Stage.Apply t) (stage_wish (package_at ps n) (Stage.Apply t)) down → down ≡ None
-  none_asked n t None h = refl
-  none_asked n t (Some h) s = absurd (let e = s.1 in cc)
+  none_asked : (unit : «Unit») (n : ℕ) (t : TaskOf) (down : Option HeldOf)
+      → CommandStands (Stage.Apply t) (stage_wish unit (package_at ps n) (Stage.Apply t)) down → down ≡ None
+  none_asked unit n t None h = refl
+  none_asked unit n t (Some h) s = absurd (let e = s.1 in cc)
 
   recordable : (law : PlansNamedImages) (m : PairOf) (l : Bool) (n r x : ℕ) (t : TaskOf) → (r == 0) ≡ true
       → IsAsking m (CommandOf.ApplyComplete r x) l n (Stage.Apply t) → IsRecordable m n t
   recordable law m l n r x t z k = record {
     settled =
-        sealed_settles ps ds n (since es) (at_hand (package_at ps n) t) m.device.rows m.device.stage m.device.phase (length m.device.stage)
+        sealed_settles ps ds n (since es) (at_hand (package_at ps n) t) m.device.rows m.device.stage m.device.unit m.device.phase (length m.device.stage)
         r x (record_at n t) z k.own refl refl
         (task_names law ps ds n t k.chosen k.plan) k.together;
     pending = k.pending (inr z);
     named = task_named ps ds n t k.chosen k.plan;
-    none = none_asked n t m.down k.command;
+    none = none_asked m.session.unit n t m.down k.command;
     chosen = k.chosen;
   }
 
   apply_serves : (law : PlansNamedImages) (m : PairOf) (s : SessionOf) (l : Bool) (n r x : ℕ) (g : Stage)
       → IsAsking m (CommandOf.ApplyComplete r x) l n g
-      → Serves m s (CommandOf.ApplyComplete r x) l n g (serve_row (package_at ps n) g (CommandOf.ApplyComplete r x))
+      → Serves m s (CommandOf.ApplyComplete r x) l n g (serve_row m.session.unit (package_at ps n) g (CommandOf.ApplyComplete r x))
   apply_serves law m s l n r x (Stage.Update t) k =
       cond_both ((r == 0) && nat_lt 0 t.made) (ServeRow.Say AnswerOf.ApplyComplete) unexpected (Serves m s (CommandOf.ApplyComplete r x) l n (Stage.Update t))
-      (λ z. offered_again ps ds n (since es) (at_hand (package_at ps n) t) m.device.rows m.device.stage m.device.phase (length m.device.stage) r x (Some AnswerOf.ApplyComplete) (is_offered (reply_of m.down)) k.own k.together)
+      (λ z. offered_again ps ds n (since es) (at_hand (package_at ps n) t) m.device.rows m.device.stage m.device.unit m.device.phase (length m.device.stage) r x (Some AnswerOf.ApplyComplete) (is_offered (reply_of m.down)) k.own k.together)
       (λ z. refused_up m s (CommandOf.ApplyComplete r x) l n 0x88 (Stage.Update t) k.together)
   apply_serves law m s l n r x (Stage.Apply t) k =
       cond_both (r == 0) (ServeRow.Record t) (ServeRow.Move (Stage.Failed causes.Apply) AnswerOf.ApplyComplete) (Serves m s (CommandOf.ApplyComplete r x) l n (Stage.Apply t))
@@ -169,7 +170,7 @@ module _ (ps : List PackageText) (ds : List DescriptorOf) (es : List EntryOf) wh
   apply_serves law m s l n r x g k = refused_up m s (CommandOf.ApplyComplete r x) l n 0x88 g k.together
 
   serves : (law : PlansNamedImages) (m : PairOf) (s : SessionOf) (l : Bool) (n : ℕ) (g : Stage) (c : CommandOf) → IsAsking m c l n g
-      → Serves m s c l n g (serve_row (package_at ps n) g c)
+      → Serves m s c l n g (serve_row m.session.unit (package_at ps n) g c)
   serves law m s l n g (CommandOf.RequestFirmwareData offset size) k = data_serves m s l n offset size g k
   serves law m s l n g (CommandOf.TransferComplete r) k = transfer_serves m s l n r g k
   serves law m s l n g (CommandOf.VerifyComplete r) k = verify_serves m s l n r g k
@@ -181,10 +182,10 @@ module _ (ps : List PackageText) (ds : List DescriptorOf) (es : List EntryOf) wh
   pending_answered m s c a l n (Stage.Apply t) h = λ e. elim e [ inl sealed ↦ h (inl sealed) | inr told ↦ absurd (cc) ]
   pending_answered m s c a l n g h = tt
 
-  after_command : (n : ℕ) (t : TaskOf) (todo : List Planned)
-      → CommandStands (task_after t todo) (stage_wish (package_at ps n) (task_after t todo)) None
-  after_command n t [] = tt
-  after_command n t (i ∷ is) = tt
+  after_command : (unit : «Unit») (n : ℕ) (t : TaskOf) (todo : List Planned)
+      → CommandStands (task_after t todo) (stage_wish unit (package_at ps n) (task_after t todo)) None
+  after_command unit n t [] = tt
+  after_command unit n t (i ∷ is) = tt
 
   after_pending : (m : PairOf) (xs : List EntryOf) (n : ℕ) (t : TaskOf) (todo : List Planned) → Pending ps xs m n (task_after t todo)
   after_pending m xs n t [] = tt
@@ -257,7 +258,7 @@ module _ (ps : List PackageText) (ds : List DescriptorOf) (es : List EntryOf) wh
         let after = served m (after_by m.session (ServeRow.Record t)) c AnswerOf.ApplyComplete l in
         record {
           own = s.own;
-          command = rw h.none (after_command m.session.number t t.todo);
+          command = rw h.none (after_command m.session.unit m.session.number t t.todo);
           form = s.form;
           together = rw (since_recorded es r) (after_together (since es ++ r ∷ []) after m.session.number t t.todo h.none h.settled);
           pending = after_pending after xs m.session.number t t.todo;
@@ -275,7 +276,7 @@ module _ (ps : List PackageText) (ds : List DescriptorOf) (es : List EntryOf) wh
     unfolding up_taken
     take_command serves_law names_law m c l s =
         let p = package_at ps m.session.number in
-        let row = serve_row p m.session.stage c in
+        let row = serve_row m.session.unit p m.session.stage c in
         serve_by_row m c l row s (serves_law p m.session c s.plan)
         (serves names_law m (after_by m.session row) l m.session.number m.session.stage c
         (record { own = s.own; command = s.command; form = s.form; together = s.together; pending = s.pending; plan = s.plan; chosen = s.chosen }))

@@ -115,7 +115,7 @@ module _ (ps : List PackageText) (ds : List DescriptorOf) where
         let now = record v { phase = Phase.Apply u w progress.InProgress } in
         let p = put_of w.key (written_image v w) in
         record {
-          own = nothing_own (command_of m.up) (wish_at (Phase.Apply u w progress.Succeeded) 0) s.own;
+          own = nothing_own (command_of m.up) (wish_at v.unit (Phase.Apply u w progress.Succeeded) 0) s.own;
           command = s.command;
           form = tt;
           together = rw (since_applied es p) (together_moves ps ds (since es) m now (sealing v u w) m.up m.up m.session.number m.session.stage (apply_sealed (since es) v u w m.up) s.together);
@@ -133,14 +133,14 @@ module _ (ps : List PackageText) (ds : List DescriptorOf) where
         → IsStanding ps ds first es (record m { device = record v { phase = Phase.Verify u w q } })
     verify_verdict m v u w q s =
         moves_stand ps ds first es m (record v { phase = Phase.Verify u w progress.InProgress }) (Phase.Verify u w q) v.stage v.previous m.up m.up (verify_judged (since es) v u w q m.up)
-        (nothing_own (command_of m.up) (wish_at (Phase.Verify u w q) (length v.stage)) s.own) tt (still_told u w q progress.InProgress m.up) s
+        (nothing_own (command_of m.up) (wish_at v.unit (Phase.Verify u w q) (length v.stage)) s.own) tt (still_told u w q progress.InProgress m.up) s
 
     failed_verdict : (m : PairOf) (v : DeviceState) (u : UpdateOf) (w : WorkOf)
         → IsStanding ps ds first es (record m { device = record v { phase = Phase.Apply u w progress.InProgress } })
         → IsStanding ps ds first es (record m { device = record v { phase = Phase.Apply u w (progress.Failed false) } })
     failed_verdict m v u w s =
         moves_stand ps ds first es m (record v { phase = Phase.Apply u w progress.InProgress }) (Phase.Apply u w (progress.Failed false)) v.stage v.previous m.up m.up (apply_failed (since es) v u w m.up)
-        (nothing_own (command_of m.up) (wish_at (Phase.Apply u w (progress.Failed false)) (length v.stage)) s.own) tt (failing_told u w progress.InProgress m.up) s
+        (nothing_own (command_of m.up) (wish_at v.unit (Phase.Apply u w (progress.Failed false)) (length v.stage)) s.own) tt (failing_told u w progress.InProgress m.up) s
 
     verdict_stands : (m : PairOf) (v : DeviceState) (p : Phase) (verdict : Verdict) (works : Bool)
         → IsStanding ps ds first es (record m { device = record v { phase = p } })

@@ -150,7 +150,7 @@ at_device_node works faults w bytes node eid x site passes =
 
 at_agent_node : (w : WorldOf) (bytes : List ℕ) (eid : ℕ) (x : SiteOf) → site_for w.sites eid ≡ Some x → SiteIs x.node.endpoint x.node.tid x.node.faults (site_for (at_agent w bytes).sites eid)
 at_agent_node w bytes eid x site =
-    let sent = all_packets (agent_hears w.packages w.agent bytes w.now).sent in
+    let sent = (agent_hears w.packages w.agent bytes w.now).sent in
     site_is x.node.endpoint x.node.tid x.node.faults _ (with_packets w.now (filter (is_to eid) sent) x)
     (posts_at w.now sent w.sites eid ∙ ap (option_map (with_packets w.now (filter (is_to eid) sent))) site)
     (record { endpoint = refl; tid = refl; faults = refl })

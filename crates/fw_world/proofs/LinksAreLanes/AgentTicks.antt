@@ -107,7 +107,7 @@ pub record IsHalfOf (deaf : ℕ) (h : HalfOf TimedOf) : Type 0 where
 
 -- the packets of a half's tick, and those of its last part
 abbrev pub ticked_packets : List PackageText → HalfOf TimedOf → List (List ℕ)
-ticked_packets packages h = all_packets (half_ticks (session_core packages) true h).sent
+ticked_packets packages h = all_packets h.unit (half_ticks (session_core packages) true h).sent
 
 abbrev pub last_packets : List PackageText → HalfOf TimedOf → List (List ℕ)
 last_packets packages h = ended_packets packages (grown packages h)
@@ -118,7 +118,7 @@ parts_sent packages deaf h soon k = agent_half_sends packages h (rw k.asking soo
 parts_home : (packages : List PackageText) (deaf : ℕ) (h : HalfOf TimedOf) → deaf ≤ 1 → IsHalfOf deaf h → AllByRecursion (GoesTo h.peer) (again_packets h ++ last_packets packages h)
 parts_home packages deaf h soon k =
     subst (AllByRecursion (GoesTo h.peer)) (parts_sent packages deaf h soon k)
-    (packets_to h.peer (half_ticks (session_core packages) true h).sent (tick_sends_to (session_core packages) h k.routed))
+    (packets_to h.unit h.peer (half_ticks (session_core packages) true h).sent (tick_sends_to (session_core packages) h k.routed))
 
 all_front : {A : Type 0} (P : A → Type 0) (xs ys : List A) → AllByRecursion P (xs ++ ys) → AllByRecursion P xs
 all_front P [] ys h = tt
@@ -144,7 +144,7 @@ parts_for packages deaf (Some h) soon k = sym (parts_sent packages deaf h soon k
 
 silent_for : (packages : List PackageText) (deaf : ℕ) (o : Option (HalfOf TimedOf)) → 1 < deaf → IfSome o (IsHalfOf deaf) → [] ≡ sent_for (ticked_packets packages) o
 silent_for packages deaf None more k = refl
-silent_for packages deaf (Some h) more k = ap all_packets (sym (deaf_sends_nothing (session_core packages) h (rw k.asking more)))
+silent_for packages deaf (Some h) more k = ap (all_packets h.unit) (sym (deaf_sends_nothing (session_core packages) h (rw k.asking more)))
 
 hearing_sends : (packages : List PackageText) (deaf : ℕ) (hs : List (HalfOf TimedOf)) (eid : ℕ) → deaf ≤ 1 → AllByRecursion (IsHalfOf deaf) hs → AreApart hs
     → filter (is_to eid) (flat_map again_packets hs ++ flat_map (ended_packets packages) (map (grown packages) hs)) ≡ sent_for (ticked_packets packages) (first_half hs eid)
@@ -187,5 +187,5 @@ pub agent_ticks_at : (packages : List PackageText) (now : ℕ) (n : AgentOf) (ei
 agent_ticks_at packages now n eid k =
     half_is_first (agent_ticks packages now n).halves eid
     ∙ ap (λ hs. first_half hs eid) (halves_after_tick packages now n k)
-    ∙ first_changed half_peer (half_after_tick packages) (λ h. (same_ticked (session_core packages) h).1) n.halves eid
+    ∙ first_changed half_peer (half_after_tick packages) (λ h. (same_ticked (session_core packages) h).2) n.halves eid
     ∙ ap (option_map (half_after_tick packages)) (sym (half_is_first n.halves eid))

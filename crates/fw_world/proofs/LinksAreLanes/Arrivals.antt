@@ -69,13 +69,13 @@ rows_peer core works h (AskerRow.Learns replies caller heard) answers = refl
 abbrev pub heard_site : Bool → (faults now : ℕ) → List ℕ → SiteOf → SiteOf
 heard_site works faults now bytes x = record x {
   node = node_becomes x.node faults (device_hears works x.node bytes).tid (device_hears works x.node bytes).half;
-  packets = x.packets ++ sent_now now (all_packets (device_hears works x.node bytes).sent);
+  packets = x.packets ++ sent_now now (all_packets x.node.half.unit (device_hears works x.node bytes).sent);
 }
 
 abbrev pub heard_on_device : Bool → (now : ℕ) → List ℕ → LinkOf → LinkOf
 heard_on_device works now bytes l = record l {
   device = half_in (half_hears device_core works l.device bytes);
-  packets = posted now l.packets (sent_in (half_hears device_core works l.device bytes));
+  packets = posted l.device.unit now l.packets (sent_in (half_hears device_core works l.device bytes));
 }
 
 pub device_put : (works : Bool) (faults : ℕ) (w : WorldOf) (bytes : List ℕ) (o : Option ℕ) (s : Option SiteOf)
@@ -101,10 +101,10 @@ heard_device since works faults now bytes None s k = refl
 heard_device since works faults now bytes (Some h) None k = refl
 heard_device since works faults now bytes (Some h) (Some x) k =
     let heard = half_hears device_core works x.node.half bytes in
-    ap (λ d. Some (record { agent = h; device = d; packets = x.packets ++ sent_now now (all_packets (device_hears works x.node bytes).sent); agent_since_miss = since; device_since_miss = x.since_miss }))
+    ap (λ d. Some (record { agent = h; device = d; packets = x.packets ++ sent_now now (all_packets x.node.half.unit (device_hears works x.node bytes).sent); agent_since_miss = since; device_since_miss = x.since_miss }))
     (finished_half roles.Device x.node.endpoint x.node.tid heard k)
     ∙ ap (λ ps. Some (record { agent = h; device = half_in heard; packets = ps; agent_since_miss = since; device_since_miss = x.since_miss }))
-    (ap (λ ms. x.packets ++ sent_now now (all_packets ms)) (finished_sent roles.Device x.node.endpoint x.node.tid heard k) ∙ sym (posted_behind now x.packets (sent_in heard)))
+    (ap (λ ms. x.packets ++ sent_now now (all_packets x.node.half.unit ms)) (finished_sent roles.Device x.node.endpoint x.node.tid heard k) ∙ sym (posted_behind x.node.half.unit now x.packets (sent_in heard)))
 
 heard_device_if : (since : ℕ) (here : Bool) (works : Bool) (faults now : ℕ) (bytes : List ℕ) (o : Option (HalfOf TimedOf)) (s : Option SiteOf)
     → (here ≡ true → IfSome (link_from since o s) (λ l. IsPassed (half_hears device_core works l.device bytes)))

@@ -4,14 +4,13 @@ use Rattle.std.specs.List.{AllByRecursion}
 use Rattle.std.specs.Option.{option_map}
 use Rattle.std.proofs.lemmas.Bool.{le-ltb}
 use Rattle.std.proofs.lemmas.Bool.Decides.{eqb_tells}
-use Rattle.mctp_wire.specs.Packet as wire
 use Rattle.mctp_wire.specs.declared.layout.Head.{Head}
 use Rattle.exch_lane.specs.Lanes.{Sent, numbered}
 use Rattle.exch_lane.specs.Laws.{LaneIsACell}
 use Rattle.fw_package.specs.Package.{PackageText}
 use Rattle.ua_core.specs.Session.{TimedOf}
 use Rattle.fw_message.specs.declared.side.Side.TheVariants as sides
-use Rattle.fw_node.specs.Agents.{half_for}
+use Rattle.fw_node.specs.Agents.{any_packet, half_for}
 use Rattle.fw_node.specs.Cores.{TimedDevice, device_core, session_core}
 use Rattle.fw_node.specs.Halves.{HalfHeard, half_hears}
 use Rattle.fw_node.specs.Packets.{all_packets}
@@ -23,7 +22,7 @@ use Rattle.fw_world.proofs.LinksAreLanes.AgentArrivals.{agent_hears_at, deaf_age
 use Rattle.fw_world.proofs.LinksAreLanes.Arrivals.{device_hears_at, heard_on_device}
 use Rattle.fw_world.proofs.LinksAreLanes.Comings.{hears_in_lane}
 use Rattle.fw_world.proofs.LinksAreLanes.Hears.{IsPassed, half_in, sent_in}
-use Rattle.fw_world.proofs.LinksAreLanes.InLanes.{ways_of}
+use Rattle.fw_world.proofs.LinksAreLanes.InLanes.{told_any, told_fits, ways_of}
 use Rattle.fw_world.proofs.LinksAreLanes.Misses.{GoesBetween, deaf_hears_nothing, link_packet_between, others_packet}
 use Rattle.fw_world.proofs.LinksAreLanes.Projected.{StepsTo, comes_as, leads_to, link_half, link_site, where_mine}
 use Rattle.fw_world.proofs.LinksAreLanes.Projection.{link_at}
@@ -42,23 +41,23 @@ pub record IsLinkOf (w : WorldOf) (eid : ℕ) (l : LinkOf) : Type 0 where
 agent_passed : (law : LaneIsACell) (now : ℕ) (packages : List PackageText) (l : LinkOf) (number : ℕ) (p : Sent) → LinkExplained now l
     → numbered l.packets number ≡ Some p → now ≤ p.date + 8 → IsToldOn packages l sides.Agent true p.bytes → IsPassed (half_hears (session_core packages) true l.agent p.bytes)
 agent_passed law now packages l number p e is soon told =
-    (hears_in_lane law (session_core packages) true (times_of now l) l.agent l.device l.packets (ways_of now l e) number p is soon told).passed
+    (hears_in_lane law (session_core packages) true (times_of now l) l.agent l.device l.packets (ways_of now l e) number p is soon (told_fits l.agent.core.session.unit l.agent.unit _ e.session_unit told)).passed
 
 device_passed : (law : LaneIsACell) (now : ℕ) (packages : List PackageText) (l : LinkOf) (works : Bool) (number : ℕ) (p : Sent) → LinkExplained now l
     → numbered l.packets number ≡ Some p → now ≤ p.date + 8 → IsToldOn packages l sides.Device works p.bytes → IsPassed (half_hears device_core works l.device p.bytes)
 device_passed law now packages l works number p e is soon told =
-    (hears_in_lane law device_core works (turned_times (times_of now l)) l.device l.agent l.packets (turned (times_of now l) l.agent l.device l.packets (ways_of now l e)) number p is soon told).passed
+    (hears_in_lane law device_core works (turned_times (times_of now l)) l.device l.agent l.packets (turned (times_of now l) l.agent l.device l.packets (ways_of now l e)) number p is soon (told_any l.device.unit (half_hears device_core works l.device p.bytes) told)).passed
 
 -- the link's own step
 agent_heard_after : (now : ℕ) (packages : List PackageText) (l : LinkOf) (heard : HalfHeard TimedOf) → IsPassed heard
-    → IsSomeAnd (agent_heard now packages l heard) (λ t. record l { agent = half_in heard; packets = posted now l.packets (sent_in heard) } ≡ t.after)
+    → IsSomeAnd (agent_heard now packages l heard) (λ t. record l { agent = half_in heard; packets = posted l.agent.unit now l.packets (sent_in heard) } ≡ t.after)
 agent_heard_after now packages l (HalfHeard.Went h sent) k = refl
 agent_heard_after now packages l (HalfHeard.Took h sent c answer) k = refl
 agent_heard_after now packages l (HalfHeard.Asks h m head body) k = absurd k
 agent_heard_after now packages l (HalfHeard.Strayed h m) k = absurd k
 
 device_heard_after : (now : ℕ) (works : Bool) (l : LinkOf) (heard : HalfHeard TimedDevice) → IsPassed heard
-    → IsSomeAnd (device_heard now works l heard) (λ t. record l { device = half_in heard; packets = posted now l.packets (sent_in heard) } ≡ t.after)
+    → IsSomeAnd (device_heard now works l heard) (λ t. record l { device = half_in heard; packets = posted l.device.unit now l.packets (sent_in heard) } ≡ t.after)
 device_heard_after now works l (HalfHeard.Went h sent) k = refl
 device_heard_after now works l (HalfHeard.Took h sent c answer) k = refl
 device_heard_after now works l (HalfHeard.Asks h m head body) k = absurd k
@@ -81,11 +80,11 @@ device_deliver now packages l works number p is soon k =
 -- where a half hears nothing, its link stays
 agent_same : (packages : List PackageText) (now : ℕ) (bytes : List ℕ) (l : LinkOf) → half_hears (session_core packages) true l.agent bytes ≡ HalfHeard.Went l.agent []
     → heard_on_agent packages now bytes l ≡ l
-agent_same packages now bytes l e = ap (λ heard. record l { agent = half_in heard; packets = posted now l.packets (sent_in heard) }) e
+agent_same packages now bytes l e = ap (λ heard. record l { agent = half_in heard; packets = posted l.agent.unit now l.packets (sent_in heard) }) e
 
 device_same : (works : Bool) (now : ℕ) (bytes : List ℕ) (l : LinkOf) → half_hears device_core works l.device bytes ≡ HalfHeard.Went l.device []
     → heard_on_device works now bytes l ≡ l
-device_same works now bytes l e = ap (λ heard. record l { device = half_in heard; packets = posted now l.packets (sent_in heard) }) e
+device_same works now bytes l e = ap (λ heard. record l { device = half_in heard; packets = posted l.device.unit now l.packets (sent_in heard) }) e
 
 -- the packets of a device are those of its link
 link_packets : (s : Option SiteOf) (l : LinkOf) → IsSomeAnd s (λ x. (x.node.half ≡ l.device) × (x.packets ≡ l.packets)) → packets_at s ≡ l.packets
@@ -107,7 +106,7 @@ on_its_link w packages bytes device eid d there e = elim (eqb_tells device eid) 
 ]
 
 from_end : (w : WorldOf) (bytes : List ℕ) (device eid : ℕ) (d : LinkOf) (p : Head × List ℕ) → IsLinkOf w device d → link_at w device ≡ Some d → half_for w.agent w.agent.endpoint.eid ≡ None
-    → w.agent.deaf ≡ 0 → wire.packet_of bytes ≡ Ok p → IsPassed (half_hears (session_core w.packages) true d.agent bytes)
+    → w.agent.deaf ≡ 0 → any_packet bytes ≡ Ok p → IsPassed (half_hears (session_core w.packages) true d.agent bytes)
     → ((p.0.source ≡ d.agent.own) × (p.0.dest ≡ d.device.own)) ⊎ ((p.0.source ≡ d.device.own) × (p.0.dest ≡ d.agent.own))
     → link_at (at_agent w bytes) eid ≡ (if device == eid then option_map (heard_on_agent w.packages w.now bytes) (link_at w eid) else link_at w eid)
 from_end w bytes device eid d p k there own hears reads passed (inl away) =
@@ -120,7 +119,7 @@ from_end w bytes device eid d p k there own hears reads passed (inl away) =
 from_end w bytes device eid d p k there own hears reads passed (inr home) =
     let source : p.0.source ≡ device = home.0 ∙ k.device in
     let half : half_for w.agent p.0.source ≡ Some d.agent = ap (half_for w.agent) source ∙ link_half _ (half_for w.agent device) (site_for w.sites device) d there in
-    let goes = subst (λ e. AllByRecursion (GoesTo e) (all_packets (sent_in (half_hears (session_core w.packages) true d.agent bytes)))) (sym home.0) (agent_heard_to w.now w.packages d true bytes k.explained) in
+    let goes = subst (λ e. AllByRecursion (GoesTo e) (all_packets d.agent.unit (sent_in (half_hears (session_core w.packages) true d.agent bytes)))) (sym home.0) (agent_heard_to w.now w.packages d true bytes k.explained) in
     subst (λ e. link_at (at_agent w bytes) eid ≡ (if e == eid then option_map (heard_on_agent w.packages w.now bytes) (link_at w eid) else link_at w eid)) source
     (agent_hears_at w bytes p d.agent eid hears reads half passed goes)
 

@@ -1,4 +1,5 @@
 -- A lane that is explained goes on by steps that may be taken, and its cell goes along.
+use Rattle.mctp_wire.specs.declared.unit.Unit.{«Unit»}
 use Rattle.std.proofs.Common.{◌≡◌, ◌∙◌, ℕ, List, [], ◌∷◌, ◌++◌, Option, Some, None, IsSomeAnd, refl, sym, ap, subst}
 use Rattle.std.specs.Option.{option_and_then}
 use Rattle.exch_lane.specs.Cells.{CellRun, cell_along, cells_along, no_cell_yet}
@@ -31,47 +32,47 @@ follows_to w ss was None along h = absurd h
 follows_to w ss was (Some run) along h = record { run = run; along = along; cell = h }
 
 -- a lane to which steps led, and its cell
-follows_from : (law : LaneIsACell) (asker taker : ℕ) (before : List StepOf) (w : LaneOf) (was : CellRun) (ss : List StepOf) → AreEnds asker taker
-    → MayRun (lane_new asker taker) before → lane_run (lane_new asker taker) before ≡ w → cells_along (lane_new asker taker) before (Some no_cell_yet) ≡ Some was
+follows_from : (law : LaneIsACell) (u : «Unit») (asker taker : ℕ) (before : List StepOf) (w : LaneOf) (was : CellRun) (ss : List StepOf) → AreEnds asker taker
+    → MayRun (lane_new u asker taker) before → lane_run (lane_new u asker taker) before ≡ w → cells_along (lane_new u asker taker) before (Some no_cell_yet) ≡ Some was
     → MayRun w ss → Follows w ss was
-follows_from law asker taker before w was ss ends may is along more =
-    let start = lane_new asker taker in
+follows_from law u asker taker before w was ss ends may is along more =
+    let start = lane_new u asker taker in
     let runs : lane_run start (before ++ ss) ≡ lane_run w ss = run_behind start before ss ∙ ap (λ v. lane_run v ss) is in
     let cells : cells_along start (before ++ ss) (Some no_cell_yet) ≡ cells_along w ss (Some was) =
     cells_behind start before ss (Some no_cell_yet) ∙ ap (λ v. cells_along v ss (cells_along start before (Some no_cell_yet))) is ∙ ap (cells_along w ss) along in
     follows_to w ss was (cells_along w ss (Some was)) refl
     (subst (λ r. IsSomeAnd r (IsCellOf (lane_run w ss))) cells
     (subst (λ v. IsSomeAnd (cells_along start (before ++ ss) (Some no_cell_yet)) (IsCellOf v)) runs
-    (law asker taker (before ++ ss) ends (may_behind start before ss may (subst (λ v. MayRun v ss) (sym is) more)))))
+    (law u asker taker (before ++ ss) ends (may_behind start before ss may (subst (λ v. MayRun v ss) (sym is) more)))))
 
 -- What is explained goes on.
-pub follows : (law : LaneIsACell) (asker taker : ℕ) (lane : List EntryOf → LaneOf) (e : Explained asker taker lane) (ss : List StepOf) → AreEnds asker taker
+pub follows : (law : LaneIsACell) (u : «Unit») (asker taker : ℕ) (lane : List EntryOf → LaneOf) (e : Explained u asker taker lane) (ss : List StepOf) → AreEnds asker taker
     → MayRun (lane e.run.entries) ss → Follows (lane e.run.entries) ss e.run
-follows law asker taker lane e ss ends may = follows_from law asker taker e.steps (lane e.run.entries) e.run ss ends e.may e.is e.along may
+follows law u asker taker lane e ss ends may = follows_from law u asker taker e.steps (lane e.run.entries) e.run ss ends e.may e.is e.along may
 
 -- And it is explained again, where these steps lead to a lane.
-pub record LaneGoes (asker taker : ℕ) (before after : List EntryOf → LaneOf) (ss : List StepOf) (was : CellRun) : Type 0 where
-  pub explained : Explained asker taker after
+pub record LaneGoes (u : «Unit») (asker taker : ℕ) (before after : List EntryOf → LaneOf) (ss : List StepOf) (was : CellRun) : Type 0 where
+  pub explained : Explained u asker taker after
   pub goes : GoesAlong before after ss was explained.run
 
-pub goes_on : (law : LaneIsACell) (asker taker : ℕ) (lane after : List EntryOf → LaneOf) (e : Explained asker taker lane) (ss : List StepOf) (es : List EntryOf)
+pub goes_on : (law : LaneIsACell) (u : «Unit») (asker taker : ℕ) (lane after : List EntryOf → LaneOf) (e : Explained u asker taker lane) (ss : List StepOf) (es : List EntryOf)
     → AreEnds asker taker → MayRun (lane e.run.entries) ss → lane_run (lane e.run.entries) ss ≡ after es → ((x : List EntryOf) → (after x).entries ≡ x)
-    → LaneGoes asker taker lane after ss e.run
-goes_on law asker taker lane after e ss es ends may leads entries =
-    let f = follows law asker taker lane e ss ends may in
-    let before = follows law asker taker lane e [] ends tt in
+    → LaneGoes u asker taker lane after ss e.run
+goes_on law u asker taker lane after e ss es ends may leads entries =
+    let f = follows law u asker taker lane e ss ends may in
+    let before = follows law u asker taker lane e [] ends tt in
     let was : before.run ≡ e.run = let some : Some e.run ≡ Some before.run = before.along in cc in
     let same : f.run.entries ≡ es = f.cell.entries ∙ ap (λ w. w.entries) leads ∙ entries es in
     let to : lane_run (lane e.run.entries) ss ≡ after f.run.entries = leads ∙ ap after (sym same) in
     record {
       explained = record {
         steps = e.steps ++ ss;
-        may = may_behind (lane_new asker taker) e.steps ss e.may (subst (λ v. MayRun v ss) (sym e.is) may);
+        may = may_behind (lane_new u asker taker) e.steps ss e.may (subst (λ v. MayRun v ss) (sym e.is) may);
         run = f.run;
-        along = cells_behind (lane_new asker taker) e.steps ss (Some no_cell_yet)
-            ∙ ap (λ v. cells_along v ss (cells_along (lane_new asker taker) e.steps (Some no_cell_yet))) e.is
+        along = cells_behind (lane_new u asker taker) e.steps ss (Some no_cell_yet)
+            ∙ ap (λ v. cells_along v ss (cells_along (lane_new u asker taker) e.steps (Some no_cell_yet))) e.is
             ∙ ap (cells_along (lane e.run.entries) ss) e.along ∙ f.along;
-        is = run_behind (lane_new asker taker) e.steps ss ∙ ap (λ v. lane_run v ss) e.is ∙ to;
+        is = run_behind (lane_new u asker taker) e.steps ss ∙ ap (λ v. lane_run v ss) e.is ∙ to;
       };
       goes = record {
         may = may;

@@ -1,6 +1,8 @@
 -- A packet at a half, in the lane in which it asks and in the lane in which it answers.
 use Rattle.std.proofs.Common.{◌≡◌, ℕ, ◌==◌, ◌≤◌, Bool, true, false, List, [], ◌∷◌, ◌++◌, length, Option, Some, None, Ok, Err, Result, is_some, refl, arith}
 use Rattle.std.proofs.lemmas.List.{append-nil}
+use Rattle.mctp_wire.specs.declared.unit.Unit.{«Unit»}
+use Rattle.mctp_wire.specs.declared.unit.Unit.TheVariants.{U64, U128}
 use Rattle.mctp_reasm.specs.Held.{Held}
 use Rattle.mctp_reasm.specs.Pieces.{MessageOf}
 use Rattle.pldm_base.specs.Limits.{reply_limit}
@@ -30,8 +32,8 @@ sent_in heard = []
 
 -- it is no request of another PLDM type, and no stray
 abbrev pub IsPassed : {C : Type 0} → HalfHeard C → Type 0
-IsPassed (HalfHeard.Went h sent) = Unit {0}
-IsPassed (HalfHeard.Took h sent c answer) = Unit {0}
+IsPassed (HalfHeard.Went h sent) = Prim.Unit {0}
+IsPassed (HalfHeard.Took h sent c answer) = Prim.Unit {0}
 IsPassed heard = ⊥
 
 -- what isn't wished is given up
@@ -62,25 +64,32 @@ pub may_settle : {A B : Type 0} (core : CoreOf A) (x : A) (now : Times) (a : Hal
     → MayRun (lane_of now a b ps es) (settle_steps core a.asker.caller.asked x)
 may_settle core x now a b ps es = abandons_may (core.wish x) a.asker.caller.asked (lane_of now a b ps es) refl
 
+-- what fits the smaller transmission unit fits each
+pub fits_each : (u : «Unit») (n : ℕ) → n ≤ reply_limit U64 → n ≤ reply_limit u
+fits_each U64 n fits = fits
+fits_each U128 n fits = omega (arith, fits)
+
 -- A request at a half: in the lane in which it answers, it is taken with the half's reply; in the lane in which it asks, what
 -- isn't wished any more is given up.
 pub record TakesIn {A B : Type 0} (now : Times) (a : HalfOf A) (b : HalfOf B) (row : TakerRow) (reply : List ℕ) (settles : List StepOf) (heard : HalfHeard A) : Type 0 where
   pub passed : IsPassed heard
+  pub unit : (half_in heard).unit ≡ a.unit
   pub own : (half_in heard).own ≡ a.own
   pub peer : (half_in heard).peer ≡ a.peer
-  pub few : length reply ≤ reply_limit
+  pub few : length reply ≤ reply_limit a.unit
   pub more : List EntryOf
-  pub answers : (ps : List Sent) (es : List EntryOf) → taker_does (lane_of (turned_times now) b a ps es) reply row ≡ lane_of (turned_times now) b (half_in heard) (posted now.now ps (sent_in heard)) (es ++ more)
+  pub answers : (ps : List Sent) (es : List EntryOf) → taker_does (lane_of (turned_times now) b a ps es) reply row ≡ lane_of (turned_times now) b (half_in heard) (posted b.unit now.now ps (sent_in heard)) (es ++ more)
   pub asks : (ps : List Sent) (es : List EntryOf) → lane_run (lane_of now a b ps es) settles ≡ lane_of now (half_in heard) b ps es
   pub may : (ps : List Sent) (es : List EntryOf) → MayRun (lane_of now a b ps es) settles
 
 takes_read_in : {A B : Type 0} (core : CoreOf A) (quiet works : Bool) (now : Times) (a : HalfOf A) (b : HalfOf B)
     (requests : List (Option Held)) (m : MessageOf) (head : PldmHead) (body : List ℕ) (c : Result CommandOf ℕ)
-    → IsTold (takes_read core quiet works a requests m head c)
+    → IsTold a.unit (takes_read core quiet works a requests m head c)
     → TakesIn now a b (TakerRow.TakesUp requests m head body) (reply_read core quiet works a.core c).reply
     (settle_steps core a.asker.caller.asked (reply_read core quiet works a.core c).core) (takes_read core quiet works a requests m head c)
 takes_read_in core quiet works now a b requests m head body (Ok c) told = record {
   passed = tt;
+  unit = refl;
   own = refl;
   peer = refl;
   few = told.fits;
@@ -91,9 +100,10 @@ takes_read_in core quiet works now a b requests m head body (Ok c) told = record
 }
 takes_read_in core quiet works now a b requests m head body (Err code) told = record {
   passed = tt;
+  unit = refl;
   own = refl;
   peer = refl;
-  few = omega arith;
+  few = fits_each a.unit 1 (omega arith);
   more = EntryOf.Taken head.command body (code ∷ []) ∷ [];
   answers = λ ps es. refl;
   asks = λ ps es. settles_in_lane core a.core now a b ps es;
@@ -102,7 +112,7 @@ takes_read_in core quiet works now a b requests m head body (Err code) told = re
 
 takes_if_in : {A B : Type 0} (five : Bool) (core : CoreOf A) (works : Bool) (now : Times) (a : HalfOf A) (b : HalfOf B)
     (requests : List (Option Held)) (m : MessageOf) (head : PldmHead) (body : List ℕ)
-    → five ≡ true → IsTold (takes_if five core works a requests m head body)
+    → five ≡ true → IsTold a.unit (takes_if five core works a requests m head body)
     → TakesIn now a b (TakerRow.TakesUp requests m head body) (reply_read core (is_quiet a.asker.caller) works a.core (read_by core head.command body)).reply
     (settle_steps core a.asker.caller.asked (reply_read core (is_quiet a.asker.caller) works a.core (read_by core head.command body)).core)
     (takes_if five core works a requests m head body)
@@ -112,16 +122,17 @@ takes_if_in false core works now a b requests m head body five told = absurd (cc
 
 -- the row is one that a link knows
 abbrev pub IsServed : TakerRow → Type 0
-IsServed (TakerRow.Silent requests) = Unit {0}
-IsServed (TakerRow.Repeats requests answer) = Unit {0}
+IsServed (TakerRow.Silent requests) = Prim.Unit {0}
+IsServed (TakerRow.Repeats requests answer) = Prim.Unit {0}
 IsServed (TakerRow.TakesUp requests m head body) = (head.pldm_type == 5) ≡ true
 IsServed (TakerRow.Strays requests m) = ⊥
 
 pub takes_in : {A B : Type 0} (core : CoreOf A) (works : Bool) (now : Times) (a : HalfOf A) (b : HalfOf B) (row : TakerRow)
-    → IsServed row → IsTold (half_takes core works a row)
+    → IsServed row → IsTold a.unit (half_takes core works a row)
     → TakesIn now a b row (reply_in core works a row) (take_steps core works a row) (half_takes core works a row)
 takes_in core works now a b (TakerRow.Silent requests) served told = record {
   passed = tt;
+  unit = refl;
   own = refl;
   peer = refl;
   few = omega arith;
@@ -132,6 +143,7 @@ takes_in core works now a b (TakerRow.Silent requests) served told = record {
 }
 takes_in core works now a b (TakerRow.Repeats requests answer) served told = record {
   passed = tt;
+  unit = refl;
   own = refl;
   peer = refl;
   few = omega arith;
@@ -148,6 +160,7 @@ takes_in core works now a b (TakerRow.Strays requests m) served told = absurd se
 -- which it answers, nothing happens.
 pub record LearnsIn {A B : Type 0} (now : Times) (a : HalfOf A) (b : HalfOf B) (row : AskerRow) (settles : List StepOf) (heard : HalfHeard A) : Type 0 where
   pub passed : IsPassed heard
+  pub unit : (half_in heard).unit ≡ a.unit
   pub own : (half_in heard).own ≡ a.own
   pub peer : (half_in heard).peer ≡ a.peer
   pub none : sent_in heard ≡ []
@@ -160,6 +173,7 @@ pub learns_in : {A B : Type 0} (core : CoreOf A) (works : Bool) (now : Times) (a
     → LearnsIn now a b row (learn_steps core works a row) (half_hears_by core works a row (TakerRow.Silent a.taker.requests))
 learns_in core works now a b (AskerRow.Ignores replies) = record {
   passed = tt;
+  unit = refl;
   own = refl;
   peer = refl;
   none = refl;
@@ -170,6 +184,7 @@ learns_in core works now a b (AskerRow.Ignores replies) = record {
 }
 learns_in core works now a b (AskerRow.Learns replies caller heard) = record {
   passed = tt;
+  unit = refl;
   own = refl;
   peer = refl;
   none = refl;

@@ -2,9 +2,8 @@
 use Rattle.std.proofs.Common.{◌≡◌, ◌∙◌, ◌+◌, ◌==◌, ℕ, Bool, true, false, if◌then◌else◌, List, [], ◌∷◌, map, Option, Some, None, refl, sym, ap}
 use Rattle.std.specs.List.{AllByRecursion}
 use Rattle.exch_lane.specs.Lanes.{Sent, numbered}
-use Rattle.mctp_wire.specs.Packet as wire
 use Rattle.ua_core.specs.Session.{SessionOf, TimedOf}
-use Rattle.fw_node.specs.Agents.{agent_hears, agent_unmoved, activates, cancels, half_at, half_for, hears_at, place_heard, place_of as half_place, ready_for, starts}
+use Rattle.fw_node.specs.Agents.{any_packet, agent_hears, agent_unmoved, activates, cancels, half_at, half_for, hears_at, place_heard, place_of as half_place, ready_for, starts}
 use Rattle.fw_node.specs.Cores.{session_core}
 use Rattle.fw_node.specs.Halves.{HalfOf, half_restarts}
 use Rattle.fw_node.specs.Nodes.{device_restarts}
@@ -65,7 +64,7 @@ comes_keeps : (works : Bool) (faults : ℕ) (w : WorldOf) (node : ℕ) (o : Opti
 comes_keeps works faults w node None = refl
 comes_keeps works faults w node (Some p) =
     comes_if (node == w.agent.endpoint.eid) w (at_agent w p.bytes) (at_device works faults w p.bytes (place_of w.sites node) (site_for w.sites node))
-    (posts_keep w.now (all_packets (agent_hears w.packages w.agent p.bytes w.now).sent) w.sites) (device_keeps works faults w p.bytes node)
+    (posts_keep w.now (agent_hears w.packages w.agent p.bytes w.now).sent w.sites) (device_keeps works faults w p.bytes node)
 
 activates_keeps : (w : WorldOf) (device : ℕ) (o : Option SessionOf) → eids_of (activates_on w device o) ≡ eids_of w
 activates_keeps w device None = refl
@@ -99,11 +98,11 @@ put_half : (g : HalfOf TimedOf → HalfOf TimedOf) → ((h : HalfOf TimedOf) →
 put_half g same hs o = put_keys half_peer g same hs o (half_at hs o) (sym (same_half hs o))
 
 agent_hears_if : (hears : Bool) (w : WorldOf) (bytes : List ℕ)
-    → map half_peer (if hears then hears_at w.packages w.agent bytes w.now (place_heard w.agent.halves (wire.packet_of bytes)) (half_at w.agent.halves (place_heard w.agent.halves (wire.packet_of bytes))) else agent_unmoved w.agent).agent.halves
+    → map half_peer (if hears then hears_at w.packages w.agent bytes w.now (place_heard w.agent.halves (any_packet bytes)) (half_at w.agent.halves (place_heard w.agent.halves (any_packet bytes))) else agent_unmoved w.agent).agent.halves
     ≡ peers_of w
 agent_hears_if true w bytes =
-    ap (map half_peer) (hears_put w bytes (place_heard w.agent.halves (wire.packet_of bytes)) (half_at w.agent.halves (place_heard w.agent.halves (wire.packet_of bytes))))
-    ∙ put_half (heard_half w bytes) (heard_half_peer w bytes) w.agent.halves (place_heard w.agent.halves (wire.packet_of bytes))
+    ap (map half_peer) (hears_put w bytes (place_heard w.agent.halves (any_packet bytes)) (half_at w.agent.halves (place_heard w.agent.halves (any_packet bytes))))
+    ∙ put_half (heard_half w bytes) (heard_half_peer w bytes) w.agent.halves (place_heard w.agent.halves (any_packet bytes))
 agent_hears_if false w bytes = refl
 
 peers_if : (agent : Bool) (w u v : WorldOf) → peers_of u ≡ peers_of w → peers_of v ≡ peers_of w → peers_of (if agent then u else v) ≡ peers_of w
@@ -130,7 +129,7 @@ log_stays w (command ∷ bytes) = refl
 
 passes_stay : (counts : Bool) (w : WorldOf) → AllByRecursion (IsHalfOf w.agent.deaf) w.agent.halves → map half_peer (agent_passes counts w.packages (w.now + 1) w.agent).halves ≡ peers_of w
 passes_stay true w k =
-    ap (map half_peer) (halves_after_tick w.packages (w.now + 1) w.agent k) ∙ map_keys half_peer (half_after_tick w.packages) (λ h. (same_ticked (session_core w.packages) h).1) w.agent.halves
+    ap (map half_peer) (halves_after_tick w.packages (w.now + 1) w.agent k) ∙ map_keys half_peer (half_after_tick w.packages) (λ h. (same_ticked (session_core w.packages) h).2) w.agent.halves
 passes_stay false w k = refl
 
 pub peers_stay : (works : Bool) (faults : ℕ) (w : WorldOf) (s : Step) → AllByRecursion (IsHalfOf w.agent.deaf) w.agent.halves → peers_of (world_after works faults w s) ≡ peers_of w

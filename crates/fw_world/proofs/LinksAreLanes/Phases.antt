@@ -34,10 +34,10 @@ pub agent_half_after : (packages : List PackageText) (h : HalfOf TimedOf) → h.
 agent_half_after packages h ask take = rw (agent_half_ticks packages h ask take) refl
 
 pub agent_half_sends : (packages : List PackageText) (h : HalfOf TimedOf) → h.asker.deaf ≤ 1 → h.taker.deaf ≤ 1
-    → all_packets (half_ticks (session_core packages) true h).sent ≡ again_packets h ++ ended_packets packages (grown packages h)
+    → all_packets h.unit (half_ticks (session_core packages) true h).sent ≡ again_packets h ++ ended_packets packages (grown packages h)
 agent_half_sends packages h ask take =
-    ap (λ t. all_packets t.sent) (agent_half_ticks packages h ask take)
-    ∙ flat_map-append packets_of (sent_by (caller_tick h.asker.caller).1) (last_part (session_core packages) (waited packages (grown packages h)) []).sent
+    ap (λ t. all_packets h.unit t.sent) (agent_half_ticks packages h ask take)
+    ∙ flat_map-append (packets_of h.unit) (sent_by (caller_tick h.asker.caller).1) (last_part (session_core packages) (waited packages (grown packages h)) []).sent
 
 -- all halves
 abbrev pub AreSoon : List (HalfOf TimedOf) → Type 0

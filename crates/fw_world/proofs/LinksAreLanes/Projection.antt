@@ -33,15 +33,15 @@ abbrev half_after : Bool → List PackageText → HalfOf TimedOf → HalfOf Time
 half_after counts packages h = (half_ticks (session_core packages) counts h).half
 
 abbrev half_packets : Bool → List PackageText → HalfOf TimedOf → List (List ℕ)
-half_packets counts packages h = all_packets (half_ticks (session_core packages) counts h).sent
+half_packets counts packages h = all_packets h.unit (half_ticks (session_core packages) counts h).sent
 
 -- the packets of a link, whoever counts it
 tick_packets : (agent device : Bool) (packages : List PackageText) (now : ℕ) (h : HalfOf TimedOf) (x : SiteOf)
-    → (x.packets ++ sent_now (now + 1) (half_packets agent packages h)) ++ sent_now (now + 1) (all_packets (half_ticks device_core device x.node.half).sent)
-    ≡ posted (now + 1) (posted (now + 1) x.packets (half_ticks (session_core packages) agent h).sent) (half_ticks device_core device x.node.half).sent
+    → (x.packets ++ sent_now (now + 1) (half_packets agent packages h)) ++ sent_now (now + 1) (all_packets x.node.half.unit (half_ticks device_core device x.node.half).sent)
+    ≡ posted x.node.half.unit (now + 1) (posted h.unit (now + 1) x.packets (half_ticks (session_core packages) agent h).sent) (half_ticks device_core device x.node.half).sent
 tick_packets agent device packages now h x =
-    sym (posted_behind (now + 1) (posted (now + 1) x.packets (half_ticks (session_core packages) agent h).sent) (half_ticks device_core device x.node.half).sent
-    ∙ ap (λ ps. ps ++ sent_now (now + 1) (all_packets (half_ticks device_core device x.node.half).sent)) (posted_behind (now + 1) x.packets (half_ticks (session_core packages) agent h).sent))
+    sym (posted_behind x.node.half.unit (now + 1) (posted h.unit (now + 1) x.packets (half_ticks (session_core packages) agent h).sent) (half_ticks device_core device x.node.half).sent
+    ∙ ap (λ ps. ps ++ sent_now (now + 1) (all_packets x.node.half.unit (half_ticks device_core device x.node.half).sent)) (posted_behind h.unit (now + 1) x.packets (half_ticks (session_core packages) agent h).sent))
 
 -- the link of a device that counts it, or misses it
 abbrev pub ticked_link : (agent device : Bool) → (since : ℕ) → List PackageText → (now : ℕ) → HalfOf TimedOf → SiteOf → LinkOf
@@ -56,7 +56,7 @@ tick_link agent true since packages now h x =
     (tick_packets agent true packages now h x)
 tick_link agent false since packages now h x =
     ap (λ ps. Some (record { agent = half_after agent packages h; device = x.node.half; packets = ps; agent_since_miss = since_after agent since; device_since_miss = since_after false x.since_miss }))
-    (sym (posted_behind (now + 1) x.packets (half_ticks (session_core packages) agent h).sent))
+    (sym (posted_behind h.unit (now + 1) x.packets (half_ticks (session_core packages) agent h).sent))
 
 tick_links : (agent device : Bool) (since : ℕ) (packages : List PackageText) (now : ℕ) (o : Option (HalfOf TimedOf)) (s : Option SiteOf)
     → link_from (since_after agent since) (option_map (half_after agent packages) o) (option_map (site_passes device (now + 1)) (option_map (with_packets (now + 1) (sent_for (half_packets agent packages) o)) s))

@@ -2,6 +2,7 @@
 use Rattle.std.proofs.Common.{◌≡◌, ◌+◌, ◌==◌, ◌&&◌, ℕ, zero, suc, Bool, true, false, if◌then◌else◌, List, [], ◌∷◌, get_or, nat_le, nat_lt, map, replicate, slice_set, Option, Some, None, IfSome, Ok, Err, Result, refl}
 use Rattle.std.specs.List.{AllByRecursion}
 use Rattle.std.proofs.lemmas.Bool.{eqb-true}
+use Rattle.mctp_wire.specs.declared.unit.Unit.{«Unit»}
 use Rattle.mctp_wire.specs.Packet as wire
 use Rattle.mctp_wire.specs.declared.fault.WireFault.{WireFault}
 use Rattle.mctp_wire.specs.declared.layout.Head.{Head}
@@ -50,7 +51,7 @@ pub record IsRouted (w : LaneOf) : Type 0 where
 -- what a tick of the requests sends again
 abbrev pub SendsTo : ℕ → CallTick → Type 0
 SendsTo peer (ticks.Send m) = m.dest ≡ peer
-SendsTo peer t = Unit {0}
+SendsTo peer t = Prim.Unit {0}
 
 -- a tick of the requests
 abbrev TicksTo : ℕ → CallerState × CallTick → Type 0
@@ -94,7 +95,7 @@ heard_to peer c (Some o) m h = closed_to peer c o (answer_body o m) h
 
 -- the row of a packet at the node that asks
 abbrev LearnsTo : ℕ → AskerRow → Type 0
-LearnsTo peer (AskerRow.Ignores replies) = Unit {0}
+LearnsTo peer (AskerRow.Ignores replies) = Prim.Unit {0}
 LearnsTo peer (AskerRow.Learns replies caller heard) = AsksPeer peer caller
 
 learnt_to : (peer : ℕ) (replies : List (Option Held)) (c : CallerState) (heard : Option Heard) → AsksPeer peer c → LearnsTo peer (asker_answered replies c heard)
@@ -106,12 +107,12 @@ asker_fed_to peer replies c (outcomes.Whole m) h = learnt_to peer replies (answe
 asker_fed_to peer replies c outcomes.Open h = tt
 asker_fed_to peer replies c (outcomes.Dropped cause) h = tt
 
-asker_packet_to : (peer : ℕ) (a : AskerOf) (p : Option PacketOf) → AsksPeer peer a.caller → LearnsTo peer (asker_packet a p)
-asker_packet_to peer a None h = tt
-asker_packet_to peer a (Some p) h = asker_fed_to peer (held_with a.replies p) a.caller (fed_at a.replies p) h
+asker_packet_to : (u : «Unit») (peer : ℕ) (a : AskerOf) (p : Option PacketOf) → AsksPeer peer a.caller → LearnsTo peer (asker_packet u a p)
+asker_packet_to u peer a None h = tt
+asker_packet_to u peer a (Some p) h = asker_fed_to peer (held_with u a.replies p) a.caller (fed_at u a.replies p) h
 
-asker_row_to : (own peer : ℕ) (a : AskerOf) (bytes : List ℕ) → AsksPeer peer a.caller → LearnsTo peer (asker_row own peer a bytes)
-asker_row_to own peer a bytes h = if_either (LearnsTo peer) (a.deaf == 0) _ _ (asker_packet_to peer a (packet_for own peer false bytes) h) tt
+asker_row_to : (u : «Unit») (own peer : ℕ) (a : AskerOf) (bytes : List ℕ) → AsksPeer peer a.caller → LearnsTo peer (asker_row u own peer a bytes)
+asker_row_to u own peer a bytes h = if_either (LearnsTo peer) (a.deaf == 0) _ _ (asker_packet_to u peer a (packet_for u own peer false bytes) h) tt
 
 -- kept answers
 kept_here : (peer : ℕ) (kept : List (Option Kept)) (i : ℕ) → AnswersPeer peer kept → IfSome (get_or kept i None) (λ x. x.reply.dest ≡ peer)
@@ -151,11 +152,11 @@ none_in peer (suc n) = (tt, none_in peer n)
 abbrev pub TakesFrom : ℕ → TakerRow → Type 0
 TakesFrom peer (TakerRow.Repeats requests answer) = answer.dest ≡ peer
 TakesFrom peer (TakerRow.TakesUp requests m head body) = m.source ≡ peer
-TakesFrom peer row = Unit {0}
+TakesFrom peer row = Prim.Unit {0}
 
 abbrev AskedFrom : ℕ → Asked → Type 0
 AskedFrom peer (asks.Again answer) = answer.dest ≡ peer
-AskedFrom peer asks.New = Unit {0}
+AskedFrom peer asks.New = Prim.Unit {0}
 
 asked_from : (peer : ℕ) (k : Option Kept) (identifier : Option ℕ) → IfSome k (λ x. x.reply.dest ≡ peer) → AskedFrom peer (asked_as k identifier)
 asked_from peer (Some k) (Some identifier) h = if_either (AskedFrom peer) (k.identifier == identifier) _ _ h tt
@@ -176,7 +177,7 @@ taker_read_from peer requests kept m (Err fault) from h = tt
 
 abbrev FedFrom : ℕ → Fed → Type 0
 FedFrom peer (outcomes.Whole m) = m.source ≡ peer
-FedFrom peer f = Unit {0}
+FedFrom peer f = Prim.Unit {0}
 
 fed_from : (peer : ℕ) (cause : Option DropCause) (last : Bool) (m : MessageOf) → m.source ≡ peer → FedFrom peer (fed_as cause last m)
 fed_from peer (Some cause) last m from = tt
@@ -188,11 +189,11 @@ taker_fed_from peer requests kept (outcomes.Whole m) from h = taker_read_from pe
 taker_fed_from peer requests kept outcomes.Open from h = tt
 taker_fed_from peer requests kept (outcomes.Dropped cause) from h = tt
 
-taker_packet_from : (peer : ℕ) (t : TakerOf) (o : Option PacketOf) → IfSome o (λ p. p.head.source ≡ peer) → AnswersPeer peer t.kept → TakesFrom peer (taker_packet t o)
-taker_packet_from peer t None from h = tt
-taker_packet_from peer t (Some p) from h =
-    taker_fed_from peer (held_with t.requests p) t.kept (fed_at t.requests p)
-    (fed_from peer (cause_of (held_at t.requests p.head.tag) p) p.head.eom (message_of p.head (joined (held_at t.requests p.head.tag) p)) from) h
+taker_packet_from : (u : «Unit») (peer : ℕ) (t : TakerOf) (o : Option PacketOf) → IfSome o (λ p. p.head.source ≡ peer) → AnswersPeer peer t.kept → TakesFrom peer (taker_packet u t o)
+taker_packet_from u peer t None from h = tt
+taker_packet_from u peer t (Some p) from h =
+    taker_fed_from peer (held_with u t.requests p) t.kept (fed_at u t.requests p)
+    (fed_from peer (cause_of u (held_at t.requests p.head.tag) p) p.head.eom (message_of p.head (joined (held_at t.requests p.head.tag) p)) from) h
 
 for_from : (own peer : ℕ) (for : Bool) (h : Head) (body : List ℕ) → is_for own peer true h ≡ for → IfSome (if for then Some (packet_of h body) else None) (λ p. p.head.source ≡ peer)
 for_from own peer true h body e = eqb-true h.source peer (both_hold (h.dest == own) (h.source == peer) (both_hold ((h.dest == own) && (h.source == peer)) h.to e).0).1
@@ -202,8 +203,8 @@ end_from : (own peer : ℕ) (r : Result (Head × List ℕ) WireFault) → IfSome
 end_from own peer (Ok p) = for_from own peer (is_for own peer true p.0) p.0 p.1 refl
 end_from own peer (Err fault) = tt
 
-pub taker_row_from : (own peer : ℕ) (t : TakerOf) (bytes : List ℕ) → AnswersPeer peer t.kept → TakesFrom peer (taker_row own peer t bytes)
-taker_row_from own peer t bytes h = if_either (TakesFrom peer) (t.deaf == 0) _ _ (taker_packet_from peer t (packet_for own peer true bytes) (end_from own peer (wire.packet_of bytes)) h) tt
+pub taker_row_from : (u : «Unit») (own peer : ℕ) (t : TakerOf) (bytes : List ℕ) → AnswersPeer peer t.kept → TakesFrom peer (taker_row u own peer t bytes)
+taker_row_from u own peer t bytes h = if_either (TakesFrom peer) (t.deaf == 0) _ _ (taker_packet_from u peer t (packet_for u own peer true bytes) (end_from own peer (wire.packet_of u bytes)) h) tt
 
 -- each step of a lane
 learns_routed : (w : LaneOf) (row : AskerRow) → IsRouted w → LearnsTo w.taker_eid row → IsRouted (asker_does w row)
@@ -226,8 +227,8 @@ ticks_routed w (AskerTick.GivesUp a) h k = record { asks = k; answers = h }
 
 delivered_routed : (w : LaneOf) (end : End) (reply : List ℕ) (o : Option Sent) → IsRouted w → IsRouted (delivers w end reply o)
 delivered_routed w end reply None h = h
-delivered_routed w ends.Asker reply (Some p) h = learns_routed w (asker_row w.asker_eid w.taker_eid w.asker p.bytes) h (asker_row_to w.asker_eid w.taker_eid w.asker p.bytes h.asks)
-delivered_routed w ends.Taker reply (Some p) h = takes_routed w reply (taker_row w.taker_eid w.asker_eid w.taker p.bytes) h (taker_row_from w.taker_eid w.asker_eid w.taker p.bytes h.answers)
+delivered_routed w ends.Asker reply (Some p) h = learns_routed w (asker_row w.unit w.asker_eid w.taker_eid w.asker p.bytes) h (asker_row_to w.unit w.asker_eid w.taker_eid w.asker p.bytes h.asks)
+delivered_routed w ends.Taker reply (Some p) h = takes_routed w reply (taker_row w.unit w.taker_eid w.asker_eid w.taker p.bytes) h (taker_row_from w.unit w.taker_eid w.asker_eid w.taker p.bytes h.answers)
 
 step_routed : (w : LaneOf) (s : StepOf) → IsRouted w → IsRouted (lane_after w s)
 step_routed w (StepOf.Begin command body) h = record { asks = record { to = h.asks.to; asked = h.asks.to }; answers = h.answers }
@@ -243,5 +244,5 @@ run_routed w [] h = h
 run_routed w (s ∷ ss) h = run_routed (lane_after w s) ss (step_routed w s h)
 
 -- Wherever steps lead a new lane, its nodes keep only what goes to the other.
-pub lane_routed : (asker taker : ℕ) (ss : List StepOf) → IsRouted (lane_run (lane_new asker taker) ss)
-lane_routed asker taker ss = run_routed (lane_new asker taker) ss (record { asks = record { to = refl; asked = tt }; answers = none_in asker 8 })
+pub lane_routed : (u : «Unit») (asker taker : ℕ) (ss : List StepOf) → IsRouted (lane_run (lane_new u asker taker) ss)
+lane_routed u asker taker ss = run_routed (lane_new u asker taker) ss (record { asks = record { to = refl; asked = tt }; answers = none_in asker 8 })

@@ -2,6 +2,7 @@
 use Rattle.std.proofs.Common.{◌≡◌, ◌≢◌, ◌∙◌, ℕ, ◌==◌, ◌&&◌, not, Bool, true, false, if◌then◌else◌, List, None, Ok, Err, Result, refl, sym, inl, inr}
 use Rattle.std.proofs.lemmas.Bool.{ne_eqb}
 use Rattle.std.proofs.lemmas.Bool.Decides.{eqb_tells}
+use Rattle.mctp_wire.specs.declared.unit.Unit.{«Unit»}
 use Rattle.mctp_wire.specs.Packet as wire
 use Rattle.mctp_wire.specs.declared.fault.WireFault.{WireFault}
 use Rattle.mctp_wire.specs.declared.layout.Head.{Head}
@@ -72,25 +73,25 @@ other_read x y (Ok p) differ e = other_head p.0.to p.0.dest p.0.source x y diffe
 other_read x y (Err fault) differ e = refl
 
 -- a packet is of one lane only
-pub other_lane : (x y : ℕ) (bytes : List ℕ) → x ≢ y → in_lane x y bytes ≡ true → in_lane y x bytes ≡ false
-other_lane x y bytes differ e = other_read x y (wire.packet_of bytes) differ e
+pub other_lane : (u : «Unit») (x y : ℕ) (bytes : List ℕ) → x ≢ y → in_lane u x y bytes ≡ true → in_lane u y x bytes ≡ false
+other_lane u x y bytes differ e = other_read x y (wire.packet_of u bytes) differ e
 
-pub silent_asker : (a : AskerOf) (own peer : ℕ) (bytes : List ℕ) → packet_for own peer false bytes ≡ None → asker_row own peer a bytes ≡ AskerRow.Ignores a.replies
-silent_asker a own peer bytes e = elim (eqb_tells a.deaf 0) [
+pub silent_asker : (u : «Unit») (a : AskerOf) (own peer : ℕ) (bytes : List ℕ) → packet_for u own peer false bytes ≡ None → asker_row u own peer a bytes ≡ AskerRow.Ignores a.replies
+silent_asker u a own peer bytes e = elim (eqb_tells a.deaf 0) [
   | inl same ↦ rw (same.0, e) refl
   | inr other ↦ rw other.0 refl
 ]
 
-pub silent_taker : (t : TakerOf) (own peer : ℕ) (bytes : List ℕ) → packet_for own peer true bytes ≡ None → taker_row own peer t bytes ≡ TakerRow.Silent t.requests
-silent_taker t own peer bytes e = elim (eqb_tells t.deaf 0) [
+pub silent_taker : (u : «Unit») (t : TakerOf) (own peer : ℕ) (bytes : List ℕ) → packet_for u own peer true bytes ≡ None → taker_row u own peer t bytes ≡ TakerRow.Silent t.requests
+silent_taker u t own peer bytes e = elim (eqb_tells t.deaf 0) [
   | inl same ↦ rw (same.0, e) refl
   | inr other ↦ rw other.0 refl
 ]
 
 -- A packet of the lane in which a node answers tells it nothing as the node that asks.
-pub asks_nothing : (a : AskerOf) (own peer : ℕ) (bytes : List ℕ) → peer ≢ own → in_lane peer own bytes ≡ true → asker_row own peer a bytes ≡ AskerRow.Ignores a.replies
-asks_nothing a own peer bytes differ e = silent_asker a own peer bytes (reply_misses peer own (wire.packet_of bytes) differ e)
+pub asks_nothing : (u : «Unit») (a : AskerOf) (own peer : ℕ) (bytes : List ℕ) → peer ≢ own → in_lane u peer own bytes ≡ true → asker_row u own peer a bytes ≡ AskerRow.Ignores a.replies
+asks_nothing u a own peer bytes differ e = silent_asker u a own peer bytes (reply_misses peer own (wire.packet_of u bytes) differ e)
 
 -- A packet of the lane in which it asks tells it nothing as the node that answers.
-pub answers_nothing : (t : TakerOf) (own peer : ℕ) (bytes : List ℕ) → own ≢ peer → in_lane own peer bytes ≡ true → taker_row own peer t bytes ≡ TakerRow.Silent t.requests
-answers_nothing t own peer bytes differ e = silent_taker t own peer bytes (request_misses own peer (wire.packet_of bytes) differ e)
+pub answers_nothing : (u : «Unit») (t : TakerOf) (own peer : ℕ) (bytes : List ℕ) → own ≢ peer → in_lane u own peer bytes ≡ true → taker_row u own peer t bytes ≡ TakerRow.Silent t.requests
+answers_nothing u t own peer bytes differ e = silent_taker u t own peer bytes (request_misses own peer (wire.packet_of u bytes) differ e)

@@ -1,7 +1,8 @@
 -- What a half sends goes to its peer.
 use Rattle.std.proofs.Common.{◌≡◌, ◌∙◌, ◌+◌, ◌==◌, ℕ, zero, suc, Bool, true, false, List, [], ◌∷◌, drop, length, map, nat_le, take, Option, Some, None, Ok, Err, Result, refl, sym, subst}
 use Rattle.std.specs.List.{AllByRecursion}
-use Rattle.mctp_wire.specs.declared.layout.TheConstants.{MAX_BODY}
+use Rattle.mctp_wire.specs.declared.unit.Unit.{«Unit»}
+use Rattle.mctp_wire.specs.Units.{bytes_of}
 use Rattle.mctp_reasm.specs.declared.messages.TheConstants.{MAX_PACKETS}
 use Rattle.mctp_reasm.specs.Held.{Held}
 use Rattle.mctp_reasm.specs.Pieces.{MessageOf, Route, message_route, piece, pieces_from, spelled}
@@ -27,14 +28,14 @@ pub record IsRoutedHalf {C : Type 0} (h : HalfOf C) : Type 0 where
   pub asks : AsksPeer h.peer h.asker.caller
   pub answers : AnswersPeer h.peer h.taker.kept
 
-routed_lane : (asker taker : ℕ) (lane : List EntryOf → LaneOf) (e : Explained asker taker lane) → IsRouted (lane e.run.entries)
-routed_lane asker taker lane e = subst IsRouted e.is (lane_routed asker taker e.steps)
+routed_lane : (u : «Unit») (asker taker : ℕ) (lane : List EntryOf → LaneOf) (e : Explained u asker taker lane) → IsRouted (lane e.run.entries)
+routed_lane u asker taker lane e = subst IsRouted e.is (lane_routed u asker taker e.steps)
 
 -- The first of two halves, between which all is explained.
 pub routed_half : {A B : Type 0} (now : Times) (a : HalfOf A) (b : HalfOf B) (ps : List Sent) → BothWays now a b ps → IsRoutedHalf a
 routed_half now a b ps h = record {
-  asks = (routed_lane a.own b.own _ h.asks).asks;
-  answers = subst (λ p. AnswersPeer p a.taker.kept) (sym h.peer) (routed_lane b.own a.own _ h.answers).answers;
+  asks = (routed_lane a.unit a.own b.own _ h.asks).asks;
+  answers = subst (λ p. AnswersPeer p a.taker.kept) (sym h.peer) (routed_lane b.unit b.own a.own _ h.answers).answers;
 }
 
 -- all these messages go there
@@ -96,39 +97,39 @@ hears_by_to peer core works h (AskerRow.Learns replies caller heard) answers k =
 
 pub heard_sends_to : {C : Type 0} (core : CoreOf C) (works : Bool) (h : HalfOf C) (bytes : List ℕ) → IsRoutedHalf h → AreTo h.peer (sent_in (half_hears core works h bytes))
 heard_sends_to core works h bytes k =
-    hears_by_to h.peer core works h (asker_row h.own h.peer h.asker bytes) (taker_row h.own h.peer h.taker bytes) (taker_row_from h.own h.peer h.taker bytes k.answers)
+    hears_by_to h.peer core works h (asker_row h.unit h.own h.peer h.asker bytes) (taker_row h.unit h.own h.peer h.taker bytes) (taker_row_from h.unit h.own h.peer h.taker bytes k.answers)
 
 -- the second byte of a packet says where it goes
 abbrev pub GoesTo : ℕ → List ℕ → Type 0
 GoesTo dest (version ∷ to ∷ rest) = to ≡ dest
 GoesTo dest bytes = ⊥
 
-pieces_to : (most : ℕ) (r : Route) (n : ℕ) (bytes : List ℕ) → AllByRecursion (GoesTo r.dest) (map spelled (pieces_from most r n bytes))
+pieces_to : (u : «Unit») (most : ℕ) (r : Route) (n : ℕ) (bytes : List ℕ) → AllByRecursion (GoesTo r.dest) (map spelled (pieces_from u most r n bytes))
 unfolding pieces_from
-pieces_to zero r n bytes = tt
-pieces_to (suc most) r n bytes =
-    if_either (λ ps. AllByRecursion (GoesTo r.dest) (map spelled ps)) (nat_le (length bytes) MAX_BODY) (piece r n true bytes ∷ [])
-    (piece r n false (take MAX_BODY bytes) ∷ pieces_from most r (n + 1) (drop MAX_BODY bytes))
-    (refl, tt) (refl, pieces_to most r (n + 1) (drop MAX_BODY bytes))
+pieces_to u zero r n bytes = tt
+pieces_to u (suc most) r n bytes =
+    if_either (λ ps. AllByRecursion (GoesTo r.dest) (map spelled ps)) (nat_le (length bytes) (bytes_of u)) (piece r n true bytes ∷ [])
+    (piece r n false (take (bytes_of u) bytes) ∷ pieces_from u most r (n + 1) (drop (bytes_of u) bytes))
+    (refl, tt) (refl, pieces_to u most r (n + 1) (drop (bytes_of u) bytes))
 
-pub packets_to : (peer : ℕ) (ms : List MessageOf) → AreTo peer ms → AllByRecursion (GoesTo peer) (all_packets ms)
-packets_to peer [] k = tt
-packets_to peer (m ∷ ms) k =
-    both_all (GoesTo peer) (packets_of m) (all_packets ms)
-    (subst (λ d. AllByRecursion (GoesTo d) (packets_of m)) k.0 (pieces_to MAX_PACKETS (message_route m) 0 m.bytes))
-    (packets_to peer ms k.1)
+pub packets_to : (u : «Unit») (peer : ℕ) (ms : List MessageOf) → AreTo peer ms → AllByRecursion (GoesTo peer) (all_packets u ms)
+packets_to u peer [] k = tt
+packets_to u peer (m ∷ ms) k =
+    both_all (GoesTo peer) (packets_of u m) (all_packets u ms)
+    (subst (λ d. AllByRecursion (GoesTo d) (packets_of u m)) k.0 (pieces_to u MAX_PACKETS (message_route m) 0 m.bytes))
+    (packets_to u peer ms k.1)
 
 -- Whatever is heard, and in every tick, an explained link's agent sends packets to its device, and the device to its agent.
 pub agent_tick_to : (now : ℕ) (packages : List PackageText) (l : LinkOf) → LinkExplained now l
-    → AllByRecursion (GoesTo l.device.own) (all_packets (half_ticks (session_core packages) true l.agent).sent)
+    → AllByRecursion (GoesTo l.device.own) (all_packets l.agent.unit (half_ticks (session_core packages) true l.agent).sent)
 agent_tick_to now packages l e =
-    packets_to l.device.own (half_ticks (session_core packages) true l.agent).sent
+    packets_to l.agent.unit l.device.own (half_ticks (session_core packages) true l.agent).sent
     (subst (λ p. AreTo p (half_ticks (session_core packages) true l.agent).sent) e.agent_peer
     (tick_sends_to (session_core packages) l.agent (routed_half (times_of now l) l.agent l.device l.packets (ways_of now l e))))
 
 pub agent_heard_to : (now : ℕ) (packages : List PackageText) (l : LinkOf) (works : Bool) (bytes : List ℕ) → LinkExplained now l
-    → AllByRecursion (GoesTo l.device.own) (all_packets (sent_in (half_hears (session_core packages) works l.agent bytes)))
+    → AllByRecursion (GoesTo l.device.own) (all_packets l.agent.unit (sent_in (half_hears (session_core packages) works l.agent bytes)))
 agent_heard_to now packages l works bytes e =
-    packets_to l.device.own (sent_in (half_hears (session_core packages) works l.agent bytes))
+    packets_to l.agent.unit l.device.own (sent_in (half_hears (session_core packages) works l.agent bytes))
     (subst (λ p. AreTo p (sent_in (half_hears (session_core packages) works l.agent bytes))) e.agent_peer
     (heard_sends_to (session_core packages) works l.agent bytes (routed_half (times_of now l) l.agent l.device l.packets (ways_of now l e))))

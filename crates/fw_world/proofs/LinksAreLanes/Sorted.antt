@@ -4,6 +4,7 @@ use Rattle.std.specs.List.{AllByRecursion, filter}
 use Rattle.std.proofs.lemmas.Bool.{lt-ltb}
 use Rattle.std.proofs.lemmas.List.{append-nil, append_assoc, map-append}
 use Rattle.std.proofs.lemmas.List.Elements.{filter-append}
+use Rattle.mctp_wire.specs.declared.unit.Unit.{«Unit»}
 use Rattle.mctp_reasm.specs.Pieces.{MessageOf}
 use Rattle.exch_lane.specs.Lanes.{LaneOf, Sent, numbered}
 use Rattle.exch_lane.specs.Laws.{IsOfLane, in_lane}
@@ -13,11 +14,11 @@ use Rattle.fw_world.specs.Lanes.{number_in}
 use Rattle.fw_world.specs.Links.{posted}
 
 -- What messages add are their packets, dated.
-pub posted_behind : (now : ℕ) (ps : List Sent) (ms : List MessageOf) → posted now ps ms ≡ ps ++ map (sent_at now) (all_packets ms)
-posted_behind now ps [] = sym (append-nil ps)
-posted_behind now ps (m ∷ ms) =
-    posted_behind now (ps ++ sendings now m) ms ∙ append_assoc ps (sendings now m) (map (sent_at now) (all_packets ms))
-    ∙ ap (λ qs. ps ++ qs) (sym (map-append (sent_at now) (packets_of m) (all_packets ms)))
+pub posted_behind : (u : «Unit») (now : ℕ) (ps : List Sent) (ms : List MessageOf) → posted u now ps ms ≡ ps ++ map (sent_at now) (all_packets u ms)
+posted_behind u now ps [] = sym (append-nil ps)
+posted_behind u now ps (m ∷ ms) =
+    posted_behind u now (ps ++ sendings u now m) ms ∙ append_assoc ps (sendings u now m) (map (sent_at now) (all_packets u ms))
+    ∙ ap (λ qs. ps ++ qs) (sym (map-append (sent_at now) (packets_of u m) (all_packets u ms)))
 
 -- facts of the elements of two lists
 pub all_behind : {A : Type 0} (P : A → Type 0) (xs ys : List A) → AllByRecursion P (xs ++ ys) → AllByRecursion P ys
@@ -34,16 +35,16 @@ each_all P Q (x ∷ xs) h f = (f x h.0, each_all P Q xs h.1 f)
 
 -- what is sent now can still come
 living_sent : (w : LaneOf) (now : ℕ) (bs : List (List ℕ)) → w.now ≤ now → AllByRecursion (IsOfLane w) (map (sent_at now) bs)
-    → AllByRecursion (λ s. in_lane w.asker_eid w.taker_eid s.bytes ≡ true) (map (sent_at now) bs)
+    → AllByRecursion (λ s. in_lane w.unit w.asker_eid w.taker_eid s.bytes ≡ true) (map (sent_at now) bs)
 living_sent w now [] soon h = tt
 living_sent w now (b ∷ bs) soon h = (h.0 (omega (arith, soon)), living_sent w now bs soon h.1)
 
 -- so what a lane sent is of the lane
-pub sent_in_lane : (w : LaneOf) (now : ℕ) (ps : List Sent) (ms : List MessageOf) → w.now ≤ now → w.packets ≡ posted now ps ms
-    → AllByRecursion (IsOfLane w) w.packets → AllByRecursion (λ s. in_lane w.asker_eid w.taker_eid s.bytes ≡ true) (map (sent_at now) (all_packets ms))
+pub sent_in_lane : (w : LaneOf) (now : ℕ) (ps : List Sent) (ms : List MessageOf) → w.now ≤ now → w.packets ≡ posted w.unit now ps ms
+    → AllByRecursion (IsOfLane w) w.packets → AllByRecursion (λ s. in_lane w.unit w.asker_eid w.taker_eid s.bytes ≡ true) (map (sent_at now) (all_packets w.unit ms))
 sent_in_lane w now ps ms soon is h =
-    living_sent w now (all_packets ms) soon
-    (all_behind (IsOfLane w) ps (map (sent_at now) (all_packets ms)) (subst (AllByRecursion (IsOfLane w)) (is ∙ posted_behind now ps ms) h))
+    living_sent w now (all_packets w.unit ms) soon
+    (all_behind (IsOfLane w) ps (map (sent_at now) (all_packets w.unit ms)) (subst (AllByRecursion (IsOfLane w)) (is ∙ posted_behind w.unit now ps ms) h))
 
 -- a list of which all pass a test, or none
 all_pass : {A : Type 0} (test : A → Bool) (xs : List A) → AllByRecursion (λ x. test x ≡ true) xs → filter test xs ≡ xs
@@ -55,17 +56,17 @@ none_passes test [] h = refl
 none_passes test (x ∷ xs) h = rw (h.0) (none_passes test xs h.1)
 
 -- What is sent in a lane is behind the lane's packets, and changes none of another lane.
-pub sorted_in : (test : Sent → Bool) (now : ℕ) (ps : List Sent) (ms : List MessageOf) → AllByRecursion (λ s. test s ≡ true) (map (sent_at now) (all_packets ms))
-    → filter test (posted now ps ms) ≡ posted now (filter test ps) ms
-sorted_in test now ps ms h =
-    ap (filter test) (posted_behind now ps ms) ∙ filter-append test ps (map (sent_at now) (all_packets ms))
-    ∙ ap (λ qs. filter test ps ++ qs) (all_pass test (map (sent_at now) (all_packets ms)) h) ∙ sym (posted_behind now (filter test ps) ms)
+pub sorted_in : (u : «Unit») (test : Sent → Bool) (now : ℕ) (ps : List Sent) (ms : List MessageOf) → AllByRecursion (λ s. test s ≡ true) (map (sent_at now) (all_packets u ms))
+    → filter test (posted u now ps ms) ≡ posted u now (filter test ps) ms
+sorted_in u test now ps ms h =
+    ap (filter test) (posted_behind u now ps ms) ∙ filter-append test ps (map (sent_at now) (all_packets u ms))
+    ∙ ap (λ qs. filter test ps ++ qs) (all_pass test (map (sent_at now) (all_packets u ms)) h) ∙ sym (posted_behind u now (filter test ps) ms)
 
-pub sorted_out : (test : Sent → Bool) (now : ℕ) (ps : List Sent) (ms : List MessageOf) → AllByRecursion (λ s. test s ≡ false) (map (sent_at now) (all_packets ms))
-    → filter test (posted now ps ms) ≡ filter test ps
-sorted_out test now ps ms h =
-    ap (filter test) (posted_behind now ps ms) ∙ filter-append test ps (map (sent_at now) (all_packets ms))
-    ∙ ap (λ qs. filter test ps ++ qs) (none_passes test (map (sent_at now) (all_packets ms)) h) ∙ append-nil (filter test ps)
+pub sorted_out : (u : «Unit») (test : Sent → Bool) (now : ℕ) (ps : List Sent) (ms : List MessageOf) → AllByRecursion (λ s. test s ≡ false) (map (sent_at now) (all_packets u ms))
+    → filter test (posted u now ps ms) ≡ filter test ps
+sorted_out u test now ps ms h =
+    ap (filter test) (posted_behind u now ps ms) ∙ filter-append test ps (map (sent_at now) (all_packets u ms))
+    ∙ ap (λ qs. filter test ps ++ qs) (none_passes test (map (sent_at now) (all_packets u ms)) h) ∙ append-nil (filter test ps)
 
 -- the first is number 1
 pub numbered_at : {A : Type 0} (xs : List A) (n : ℕ) → numbered xs (suc n) ≡ slice_get xs n

@@ -1,4 +1,5 @@
 -- What the agent's half does, as steps of its pair over whole messages.
+use Rattle.mctp_wire.specs.declared.unit.Unit.{«Unit»}
 use Rattle.std.proofs.Common.{◌≡◌, ℕ, ◌+◌, ◌==◌, ◌&&◌, not, Bool, true, false, if◌then◌else◌, List, [], length, map, Option, Some, None, Ok, refl, sym, subst}
 use Rattle.fw_package.specs.Package.{PackageText}
 use Rattle.fwup_wire.specs.Values.{AnswerOf, CommandOf}
@@ -137,19 +138,19 @@ takes packages d x own h quiet works k new may =
     StepOf.TakeUp tt (rw new refl) (takes_closed packages d x own h k))
 
 -- what a session wishes is for a device
-wishes_at : (p : PackageText) (g : Stage) (c : CommandOf) → stage_wish p g ≡ Some c → IsFor false c
-wishes_at p Stage.Query c e = told_for false CommandOf.QueryDeviceIdentifiers c e refl
-wishes_at p (Stage.Params _) c e = told_for false CommandOf.GetFirmwareParameters c e refl
-wishes_at p (Stage.ClearOld _) c e = told_for false CommandOf.CancelUpdate c e refl
-wishes_at p (Stage.Request j) c e = told_for false (request_wish p j) c e refl
-wishes_at p (Stage.Pass j i left later) c e = told_for false (entry_wish p j i (length left)) c e refl
-wishes_at p (Stage.Update t) c e = told_for false (offer_wish p t.at_hand) c e refl
-wishes_at p (Stage.Activate _) c e = told_for false (CommandOf.ActivateFirmware true) c e refl
-wishes_at p Stage.Cancelling c e = told_for false CommandOf.CancelUpdate c e refl
-wishes_at p g c e = absurd (cc)
+wishes_at : (u : «Unit») (p : PackageText) (g : Stage) (c : CommandOf) → stage_wish u p g ≡ Some c → IsFor false c
+wishes_at u p Stage.Query c e = told_for false CommandOf.QueryDeviceIdentifiers c e refl
+wishes_at u p (Stage.Params _) c e = told_for false CommandOf.GetFirmwareParameters c e refl
+wishes_at u p (Stage.ClearOld _) c e = told_for false CommandOf.CancelUpdate c e refl
+wishes_at u p (Stage.Request j) c e = told_for false (request_wish u p j) c e refl
+wishes_at u p (Stage.Pass j i left later) c e = told_for false (entry_wish p j i (length left)) c e refl
+wishes_at u p (Stage.Update t) c e = told_for false (offer_wish p t.at_hand) c e refl
+wishes_at u p (Stage.Activate _) c e = told_for false (CommandOf.ActivateFirmware true) c e refl
+wishes_at u p Stage.Cancelling c e = told_for false CommandOf.CancelUpdate c e refl
+wishes_at u p g c e = absurd (cc)
 
 wishes : (packages : List PackageText) (x : TimedOf) (c : CommandOf) → (session_core packages).wish x ≡ Some c → IsFor false c
-wishes packages x c e = wishes_at (package_of packages x.session) x.session.stage c e
+wishes packages x c e = wishes_at x.session.unit (package_of packages x.session) x.session.stage c e
 
 pub agent_side : (packages : List PackageText) (d : DeviceState) → Sided packages (session_core packages) false (agent_place d) (device_wish d) (agent_notes packages)
 agent_side packages d = record {

@@ -1,4 +1,5 @@
 -- What a device's half does, as steps of its pair over whole messages.
+use Rattle.mctp_wire.specs.declared.unit.Unit.{«Unit»}
 use Rattle.std.proofs.Common.{◌≡◌, ℕ, ◌+◌, ◌&&◌, not, nat_lt, Bool, true, false, if◌then◌else◌, List, [], length, map, Option, Some, None, Ok, refl, sym, subst}
 use Rattle.fw_package.specs.Package.{PackageText}
 use Rattle.fwup_wire.specs.Commands.{command_code}
@@ -158,19 +159,19 @@ reports_at : (command : ℕ → CommandOf) (result : Option ℕ) (c : CommandOf)
 reports_at command None c e k = absurd (cc)
 reports_at command (Some n) c e k = told_for true (command n) c e (k n)
 
-download_at : (u : UpdateOf) (w : WorkOf) (p : Progress) (have : ℕ) (c : CommandOf) → download_wish u w p have ≡ Some c → IsFor true c
-download_at u w progress.InProgress have c e = told_for true (CommandOf.RequestFirmwareData have (asked_length u w have)) c e refl
-download_at u w progress.Succeeded have c e = reports_at CommandOf.TransferComplete (report_of progress.Succeeded transfer_failed) c e (λ n. refl)
-download_at u w (progress.Failed told) have c e = reports_at CommandOf.TransferComplete (report_of (progress.Failed told) transfer_failed) c e (λ n. refl)
+download_at : (n : «Unit») (u : UpdateOf) (w : WorkOf) (p : Progress) (have : ℕ) (c : CommandOf) → download_wish n u w p have ≡ Some c → IsFor true c
+download_at n u w progress.InProgress have c e = told_for true (CommandOf.RequestFirmwareData have (asked_length n u w have)) c e refl
+download_at n u w progress.Succeeded have c e = reports_at CommandOf.TransferComplete (report_of progress.Succeeded transfer_failed) c e (λ m. refl)
+download_at n u w (progress.Failed told) have c e = reports_at CommandOf.TransferComplete (report_of (progress.Failed told) transfer_failed) c e (λ m. refl)
 
-wishes_at : (p : Phase) (have : ℕ) (c : CommandOf) → wish_at p have ≡ Some c → IsFor true c
-wishes_at (Phase.Download u w p) have c e = download_at u w p have c e
-wishes_at (Phase.Verify u w p) have c e = reports_at CommandOf.VerifyComplete (report_of p verification_failed) c e (λ n. refl)
-wishes_at (Phase.Apply u w p) have c e = reports_at apply_report (report_of p application_failed) c e (λ n. refl)
-wishes_at p have c e = absurd (cc)
+wishes_at : (n : «Unit») (p : Phase) (have : ℕ) (c : CommandOf) → wish_at n p have ≡ Some c → IsFor true c
+wishes_at n (Phase.Download u w p) have c e = download_at n u w p have c e
+wishes_at n (Phase.Verify u w p) have c e = reports_at CommandOf.VerifyComplete (report_of p verification_failed) c e (λ m. refl)
+wishes_at n (Phase.Apply u w p) have c e = reports_at apply_report (report_of p application_failed) c e (λ m. refl)
+wishes_at n p have c e = absurd (cc)
 
 wishes : (x : TimedDevice) (c : CommandOf) → device_wish x.device ≡ Some c → IsFor true c
-wishes x c e = wishes_at x.device.phase (length x.device.stage) c e
+wishes x c e = wishes_at x.device.unit x.device.phase (length x.device.stage) c e
 
 serves : (c : CommandOf) → IsFor false c → device_core.serves (command_code c) ≡ true
 serves c k = rw k refl

@@ -1,6 +1,7 @@
 -- A reply that a half learns, as a step of its pair.
 use Rattle.std.proofs.Common.{◌≡◌, ◌∙◌, ℕ, ◌==◌, not, Bool, true, false, if◌then◌else◌, List, [], ◌∷◌, ◌++◌, Option, Some, None, refl, sym, ap, subst}
 use Rattle.std.specs.Option.{option_map}
+use Rattle.mctp_wire.specs.declared.unit.Unit.{«Unit»}
 use Rattle.mctp_reasm.specs.Held.{Held}
 use Rattle.mctp_reasm.specs.Inboxes.{fed_at, held_with, packet_for}
 use Rattle.mctp_reasm.specs.Pieces.{MessageOf, PacketOf}
@@ -33,11 +34,11 @@ pub record Answers (o : Option (ℕ × List ℕ)) (heard : Heard) : Type 0 where
   pub is : o ≡ Some (heard.command, body)
 
 abbrev pub RowAnswers : AskerRow → Option (ℕ × List ℕ) → Type 0
-RowAnswers (AskerRow.Ignores replies) o = Unit {0}
+RowAnswers (AskerRow.Ignores replies) o = Prim.Unit {0}
 RowAnswers (AskerRow.Learns replies caller heard) o = Answers o heard
 
 abbrev HeardAnswers : Option Heard → Option (ℕ × List ℕ) → Type 0
-HeardAnswers None o = Unit {0}
+HeardAnswers None o = Prim.Unit {0}
 HeardAnswers (Some heard) o = Answers o heard
 
 closed_answers : (c : CallerState) (o : Open) (body : Option (List ℕ)) → HeardAnswers (closed_by c o body).1 (Some (asking o))
@@ -58,16 +59,16 @@ fed_row replies caller (outcomes.Whole m) =
 fed_row replies caller outcomes.Open = tt
 fed_row replies caller (outcomes.Dropped cause) = tt
 
-packet_row : (a : AskerOf) (p : Option PacketOf) → RowAnswers (asker_packet a p) (option_map asking a.caller.asked)
-packet_row a None = tt
-packet_row a (Some p) = fed_row (held_with a.replies p) a.caller (fed_at a.replies p)
+packet_row : (u : «Unit») (a : AskerOf) (p : Option PacketOf) → RowAnswers (asker_packet u a p) (option_map asking a.caller.asked)
+packet_row u a None = tt
+packet_row u a (Some p) = fed_row (held_with u a.replies p) a.caller (fed_at u a.replies p)
 
-hearing_row : (hears : Bool) (a : AskerOf) (p : Option PacketOf) → RowAnswers (if hears then asker_packet a p else AskerRow.Ignores a.replies) (option_map asking a.caller.asked)
-hearing_row true a p = packet_row a p
-hearing_row false a p = tt
+hearing_row : (u : «Unit») (hears : Bool) (a : AskerOf) (p : Option PacketOf) → RowAnswers (if hears then asker_packet u a p else AskerRow.Ignores a.replies) (option_map asking a.caller.asked)
+hearing_row u true a p = packet_row u a p
+hearing_row u false a p = tt
 
-pub row_answers : (own peer : ℕ) (a : AskerOf) (bytes : List ℕ) → RowAnswers (asker_row own peer a bytes) (option_map asking a.caller.asked)
-row_answers own peer a bytes = hearing_row (a.deaf == 0) a (packet_for own peer false bytes)
+pub row_answers : (u : «Unit») (own peer : ℕ) (a : AskerOf) (bytes : List ℕ) → RowAnswers (asker_row u own peer a bytes) (option_map asking a.caller.asked)
+row_answers u own peer a bytes = hearing_row u (a.deaf == 0) a (packet_for u own peer false bytes)
 
 -- A HALF THAT HEARD
 

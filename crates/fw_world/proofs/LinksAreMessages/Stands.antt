@@ -61,9 +61,9 @@ same_cell run last e empty =
     let same : run ≡ last = cc in
     ap (λ r. r.cell) same ∙ empty
 
-new_way : {A B : Type 0} (law : LaneIsACell) (now : Times) (a : HalfOf A) (b : HalfOf B) (ps : List Sent) (e : Explained a.own b.own (way_of now a b ps)) → AreEnds a.own b.own → IsNewHalf a → e.run.cell ≡ Cell.Empty
+new_way : {A B : Type 0} (law : LaneIsACell) (now : Times) (a : HalfOf A) (b : HalfOf B) (ps : List Sent) (e : Explained a.unit a.own b.own (way_of now a b ps)) → AreEnds a.own b.own → IsNewHalf a → e.run.cell ≡ Cell.Empty
 new_way law now a b ps e ends new =
-    let f = follows law a.own b.own (way_of now a b ps) e [] ends tt in
+    let f = follows law a.unit a.own b.own (way_of now a b ps) e [] ends tt in
     same_cell e.run f.run f.along (new_cell a.own a.peer a.asker (way_of now a b ps e.run.entries) f.run new.asker refl f.cell)
 
 one_deaf : {C : Type 0} (h : HalfOf C) → IsNewHalf h → h.asker.deaf ≡ h.taker.deaf
@@ -73,10 +73,10 @@ nothing_asked : (cell : Cell) → cell ≡ Cell.Empty → StandsFor cell None
 nothing_asked cell e = rw e tt
 
 -- A link on which nothing was sent yet stands with a pair that has asked nothing.
-pub new_link_stands : LaneIsACell → (packages : List PackageText) (l : LinkOf) → AreEnds l.agent.own l.device.own → l.agent.peer ≡ l.device.own → l.device.peer ≡ l.agent.own
+pub new_link_stands : LaneIsACell → (packages : List PackageText) (l : LinkOf) → l.device.unit ≡ l.agent.unit → l.agent.core.session.unit ≡ l.agent.unit → AreEnds l.agent.own l.device.own → l.agent.peer ≡ l.device.own → l.device.peer ≡ l.agent.own
     → IsNewHalf l.agent → IsNewHalf l.device → l.packets ≡ [] → l.agent_since_miss ≡ 8 → l.device_since_miss ≡ 8 → Stands packages 0 l (pair_at l None None)
-new_link_stands law packages l ends peer back agent device none agent_misses device_misses =
-    let explained = new_link_explained l ends peer back agent device none agent_misses device_misses in
+new_link_stands law packages l unit session_unit ends peer back agent device none agent_misses device_misses =
+    let explained = new_link_explained l unit session_unit ends peer back agent device none agent_misses device_misses in
     record {
       explained = explained;
       joined = record {

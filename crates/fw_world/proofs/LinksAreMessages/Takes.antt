@@ -2,6 +2,7 @@
 use Rattle.std.proofs.Common.{◌≡◌, ◌∙◌, ℕ, ◌==◌, ◌&&◌, not, Bool, true, false, if◌then◌else◌, List, [], ◌∷◌, ◌++◌, Option, Some, None, Ok, Result, refl, sym, ap, subst, inl, inr}
 use Rattle.std.specs.Option.{option_map}
 use Rattle.std.proofs.lemmas.Bool.Decides.{eqb_tells}
+use Rattle.mctp_wire.specs.declared.unit.Unit.{«Unit»}
 use Rattle.mctp_reasm.specs.Held.{Held}
 use Rattle.mctp_reasm.specs.Inboxes.{packet_for}
 use Rattle.mctp_reasm.specs.Pieces.{MessageOf, PacketOf}
@@ -33,7 +34,7 @@ use Rattle.fw_world.proofs.LinksAreLanes.Routes.{both_hold}
 -- a row that takes a request is of a node that hears
 abbrev pub RowHears : TakerRow → TakerOf → Type 0
 RowHears (TakerRow.TakesUp requests m head body) t = t.deaf ≡ 0
-RowHears row t = Unit {0}
+RowHears row t = Prim.Unit {0}
 
 heard_row : (t : TakerOf) (row : TakerRow) → t.deaf ≡ 0 → RowHears row t
 heard_row t (TakerRow.Silent requests) e = tt
@@ -41,12 +42,12 @@ heard_row t (TakerRow.Repeats requests answer) e = tt
 heard_row t (TakerRow.TakesUp requests m head body) e = e
 heard_row t (TakerRow.Strays requests m) e = tt
 
-hearing_row : (hears : Bool) (t : TakerOf) (p : Option PacketOf) → (t.deaf == 0) ≡ hears → RowHears (if hears then taker_packet t p else TakerRow.Silent t.requests) t
-hearing_row true t p e = elim (eqb_tells t.deaf 0) [ inl same ↦ heard_row t (taker_packet t p) same.1 | inr other ↦ absurd (let o = other.0 in cc) ]
-hearing_row false t p e = tt
+hearing_row : (u : «Unit») (hears : Bool) (t : TakerOf) (p : Option PacketOf) → (t.deaf == 0) ≡ hears → RowHears (if hears then taker_packet u t p else TakerRow.Silent t.requests) t
+hearing_row u true t p e = elim (eqb_tells t.deaf 0) [ inl same ↦ heard_row t (taker_packet u t p) same.1 | inr other ↦ absurd (let o = other.0 in cc) ]
+hearing_row u false t p e = tt
 
-pub row_hears : (own peer : ℕ) (t : TakerOf) (bytes : List ℕ) → RowHears (taker_row own peer t bytes) t
-row_hears own peer t bytes = hearing_row (t.deaf == 0) t (packet_for own peer true bytes) refl
+pub row_hears : (u : «Unit») (own peer : ℕ) (t : TakerOf) (bytes : List ℕ) → RowHears (taker_row u own peer t bytes) t
+row_hears u own peer t bytes = hearing_row u (t.deaf == 0) t (packet_for u own peer true bytes) refl
 
 -- a half that is quiet asks nothing, so that it may be told so
 asks_none : (own : Option HeldOf) → StandsFor Cell.Empty own → is_empty own ≡ true
@@ -118,8 +119,8 @@ heard_as : {C : Type 0} (core : CoreOf C) (notes : Notes C) (works : Bool) (h : 
 heard_as core notes works h requests m head body c five r is_five is reads = rw (is_five, reads, is) (refl, refl)
 
 told_as : {C : Type 0} (core : CoreOf C) (works : Bool) (h : HalfOf C) (requests : List (Option Held)) (m : MessageOf) (head : PldmHead) (body : List ℕ) (c : CommandOf) (five : Bool)
-    → five ≡ true → read_by core head.command body ≡ Ok c → IsTold (takes_if five core works h requests m head body)
-    → IsHeardAgain c (core.take h.core c (is_quiet h.asker.caller) works).answer
+    → five ≡ true → read_by core head.command body ≡ Ok c → IsTold (core.unit h.core) (takes_if five core works h requests m head body)
+    → IsHeardAgain (core.unit h.core) c (core.take h.core c (is_quiet h.asker.caller) works).answer
 told_as core works h requests m head body c five is_five reads told = rw (is_five, reads) at told
 
 -- nothing is taken
@@ -144,7 +145,7 @@ nothing {C} {packages} {core} {agent} {place} {peer_wish} works h requests sent 
 takes_up : {C : Type 0} {packages : List PackageText} {core : CoreOf C} {agent : Bool} {place : Place C} {peer_wish : Option CommandOf} {notes : Notes C} (side : Sided packages core agent place peer_wish notes)
     (works : Bool) (h : HalfOf C) (requests : List (Option Held)) (m : MessageOf) (head : PldmHead) (body : List ℕ) (own other : Option HeldOf) (w : LaneOf) (run last other_run other_last : CellRun)
     → Holds core agent h.core run.cell own → Others (not agent) peer_wish other_run.cell other → IsOneDeaf h → awaited run.cell ≡ option_map asking h.asker.caller.asked
-    → (is_quiet h.asker.caller ≡ true → run.cell ≡ Cell.Empty) → IsTold (takes_if (head.pldm_type == 5) core works h requests m head body)
+    → (is_quiet h.asker.caller ≡ true → run.cell ≡ Cell.Empty) → IsTold (core.unit h.core) (takes_if (head.pldm_type == 5) core works h requests m head body)
     → cells_along w (settle_steps core h.asker.caller.asked (replied_by core works h head body).core) (Some run) ≡ Some last
     → (head.pldm_type == 5) ≡ true → Taken other head.command body (replied_by core works h head body).reply other_last
     → HeardGoes packages core agent place peer_wish notes (place h.core own other) h.core (is_quiet h.asker.caller) works (takes_if (head.pldm_type == 5) core works h requests m head body) last.cell other_last.cell
@@ -180,7 +181,7 @@ takes_up {C} {packages} {core} {agent} {place} {peer_wish} {notes} side works h 
 pub hears_request : {C : Type 0} {packages : List PackageText} {core : CoreOf C} {agent : Bool} {place : Place C} {peer_wish : Option CommandOf} {notes : Notes C} (side : Sided packages core agent place peer_wish notes)
     (works : Bool) (h : HalfOf C) (row : TakerRow) (own other : Option HeldOf) (w : LaneOf) (run last other_run other_last : CellRun)
     → Holds core agent h.core run.cell own → Others (not agent) peer_wish other_run.cell other → IsOneDeaf h → awaited run.cell ≡ option_map asking h.asker.caller.asked
-    → (h.asker.deaf ≡ 0 → is_quiet h.asker.caller ≡ true → run.cell ≡ Cell.Empty) → RowHears row h.taker → IsTold (half_takes core works h row)
+    → (h.asker.deaf ≡ 0 → is_quiet h.asker.caller ≡ true → run.cell ≡ Cell.Empty) → RowHears row h.taker → IsTold (core.unit h.core) (half_takes core works h row)
     → cells_along w (take_steps core works h row) (Some run) ≡ Some last → cell_at_taker (reply_in core works h row) row other_run ≡ Some other_last
     → HeardGoes packages core agent place peer_wish notes (place h.core own other) h.core (is_quiet h.asker.caller) works (half_takes core works h row) last.cell other_last.cell
 hears_request side works h (TakerRow.Silent requests) own other w run last other_run other_last holds theirs deaf waits rests hears told e f =

@@ -51,13 +51,13 @@ agent_hears : (packages : List PackageText) (now : ℕ) (l : LinkOf) (m : PairOf
     → HeardGoes packages (session_core packages) false (agent_place l.device.core.device) (device_wish l.device.core.device) (agent_notes packages) m l.agent.core quiet works heard down_cell up_cell
     → agent_heard now packages l heard ≡ Some t → l.device.asker.deaf ≡ l.device.taker.deaf → PairGoes packages m t down_cell up_cell
 agent_hears packages now l m quiet works (HalfHeard.Went half sent) t down_cell up_cell g e deaf =
-    let is : unnoted (record l { agent = half; packets = posted now l.packets sent }) ≡ t = cc in
+    let is : unnoted (record l { agent = half; packets = posted l.agent.unit now l.packets sent }) ≡ t = cc in
     subst (λ x. PairGoes packages m x down_cell up_cell) is
-    (agent_on packages l m l.agent.core quiet works (HalfHeard.Went half sent) half (posted now l.packets sent) [] down_cell up_cell g g.is.0 (sym g.is.1) deaf)
+    (agent_on packages l m l.agent.core quiet works (HalfHeard.Went half sent) half (posted l.agent.unit now l.packets sent) [] down_cell up_cell g g.is.0 (sym g.is.1) deaf)
 agent_hears packages now l m quiet works (HalfHeard.Took half sent command answer) t down_cell up_cell g e deaf =
-    let is : ◌≡◌ {A = LinkStepped} (record { after = record l { agent = half; packets = posted now l.packets sent }; noted = agent_notes packages l.agent.core command quiet works }) t = cc in
+    let is : ◌≡◌ {A = LinkStepped} (record { after = record l { agent = half; packets = posted l.agent.unit now l.packets sent }; noted = agent_notes packages l.agent.core command quiet works }) t = cc in
     subst (λ x. PairGoes packages m x down_cell up_cell) is
-    (agent_on packages l m l.agent.core quiet works (HalfHeard.Took half sent command answer) half (posted now l.packets sent) (agent_notes packages l.agent.core command quiet works) down_cell up_cell g g.is.0 (sym g.is.1) deaf)
+    (agent_on packages l m l.agent.core quiet works (HalfHeard.Took half sent command answer) half (posted l.agent.unit now l.packets sent) (agent_notes packages l.agent.core command quiet works) down_cell up_cell g g.is.0 (sym g.is.1) deaf)
 agent_hears packages now l m quiet works (HalfHeard.Asks half request head body) t down_cell up_cell g e deaf = absurd (cc)
 agent_hears packages now l m quiet works (HalfHeard.Strayed half message) t down_cell up_cell g e deaf = absurd (cc)
 
@@ -82,13 +82,13 @@ device_hears : (packages : List PackageText) (now : ℕ) (l : LinkOf) (m : PairO
     → HeardGoes packages device_core true (device_place l.agent.core.session) (down_wish packages l.agent.core.session) device_notes m l.device.core (is_quiet l.device.asker.caller) works heard up_cell down_cell
     → device_heard now works l heard ≡ Some t → l.agent.asker.deaf ≡ l.agent.taker.deaf → PairGoes packages m t down_cell up_cell
 device_hears packages now l m works (HalfHeard.Went half sent) t down_cell up_cell g e deaf =
-    let is : unnoted (record l { device = half; packets = posted now l.packets sent }) ≡ t = cc in
+    let is : unnoted (record l { device = half; packets = posted l.device.unit now l.packets sent }) ≡ t = cc in
     subst (λ x. PairGoes packages m x down_cell up_cell) is
-    (device_on packages l m l.device.core (is_quiet l.device.asker.caller) works (HalfHeard.Went half sent) half (posted now l.packets sent) [] down_cell up_cell g g.is.0 (sym g.is.1) deaf)
+    (device_on packages l m l.device.core (is_quiet l.device.asker.caller) works (HalfHeard.Went half sent) half (posted l.device.unit now l.packets sent) [] down_cell up_cell g g.is.0 (sym g.is.1) deaf)
 device_hears packages now l m works (HalfHeard.Took half sent command answer) t down_cell up_cell g e deaf =
-    let is : ◌≡◌ {A = LinkStepped} (record { after = record l { device = half; packets = posted now l.packets sent }; noted = device_notes l.device.core command (is_quiet l.device.asker.caller) works }) t = cc in
+    let is : ◌≡◌ {A = LinkStepped} (record { after = record l { device = half; packets = posted l.device.unit now l.packets sent }; noted = device_notes l.device.core command (is_quiet l.device.asker.caller) works }) t = cc in
     subst (λ x. PairGoes packages m x down_cell up_cell) is
-    (device_on packages l m l.device.core (is_quiet l.device.asker.caller) works (HalfHeard.Took half sent command answer) half (posted now l.packets sent) (device_notes l.device.core command (is_quiet l.device.asker.caller) works) down_cell up_cell g g.is.0 (sym g.is.1) deaf)
+    (device_on packages l m l.device.core (is_quiet l.device.asker.caller) works (HalfHeard.Took half sent command answer) half (posted l.device.unit now l.packets sent) (device_notes l.device.core command (is_quiet l.device.asker.caller) works) down_cell up_cell g g.is.0 (sym g.is.1) deaf)
 device_hears packages now l m works (HalfHeard.Asks half request head body) t down_cell up_cell g e deaf = absurd (cc)
 device_hears packages now l m works (HalfHeard.Strayed half message) t down_cell up_cell g e deaf = absurd (cc)
 
@@ -120,14 +120,14 @@ deliver_joins packages now l sides.Agent works number (Some p) t down up down_pa
     let way = fact_of {A = Sent} (λ q. now ≤ q.date + 8 → (is_down l q ≡ true) ⊎ (is_up l q ≡ true)) l.packets number p x.packets is live.0 in
     agent_hears packages now l (pair_at l down up) (is_quiet l.agent.asker.caller) true (half_hears (session_core packages) true l.agent p.bytes) t down_last.cell up_last.cell
     (half_comes (agent_side packages l.device.core.device) true (times_of now l) l.agent l.device l.packets down_past up_past number p down up down_run down_last up_run up_last
-    x.ends.differ x.agent_peer x.device_peer is way both.agent (record { stands = both.device.stands; wished = both.device.wished; is_for = both.device.is_for }) both.agent_deaf waits.down rests.down told e f)
+    x.unit x.ends.differ x.agent_peer x.device_peer is way both.agent (record { stands = both.device.stands; wished = both.device.wished; is_for = both.device.is_for }) both.agent_deaf waits.down rests.down told e f)
     live.1 both.device_deaf
 deliver_joins packages now l sides.Device works number (Some p) t down up down_past up_past down_run up_run down_last up_last x both waits rests is told s e f =
     let live = living (p.date + 8) now (hears_on now packages l sides.Device works p.bytes) t s in
     let way = fact_of {A = Sent} (λ q. now ≤ q.date + 8 → (is_down l q ≡ true) ⊎ (is_up l q ≡ true)) l.packets number p x.packets is live.0 in
     device_hears packages now l (pair_at l down up) works (half_hears device_core works l.device p.bytes) t down_last.cell up_last.cell
     (half_comes (device_side packages l.agent.core.session) works (turned_times (times_of now l)) l.device l.agent l.packets up_past down_past number p up down up_run up_last down_run down_last
-    (λ z. x.ends.differ (sym z)) x.device_peer x.agent_peer is (either_way way) both.device (record { stands = both.agent.stands; wished = both.agent.wished; is_for = both.agent.is_for }) both.device_deaf waits.up rests.up told f e)
+    (sym x.unit) (λ z. x.ends.differ (sym z)) x.device_peer x.agent_peer is (either_way way) both.device (record { stands = both.agent.stands; wished = both.agent.wished; is_for = both.agent.is_for }) both.device_deaf waits.up rests.up told f e)
     live.1 both.agent_deaf
 
 -- ALL STEPS

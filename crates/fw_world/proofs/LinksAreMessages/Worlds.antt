@@ -23,6 +23,8 @@ use Rattle.fw_world.proofs.LinksAreLanes.Openings.{IsNewHalf}
 
 -- a link on which nothing was sent yet
 pub record IsNewLink (l : LinkOf) : Type 0 where
+  pub unit : l.device.unit ≡ l.agent.unit
+  pub session_unit : l.agent.core.session.unit ≡ l.agent.unit
   pub ends : AreEnds l.agent.own l.device.own
   pub peer : l.agent.peer ≡ l.device.own
   pub back : l.device.peer ≡ l.agent.own
@@ -43,7 +45,7 @@ opening_node l = node_of l.device.own (pair_at l None None)
 new_all_stand : LaneIsACell → (packages : List PackageText) (ls : List LinkOf) → AreNewLinks ls → AllStand packages 0 ls (map opening_node ls)
 new_all_stand law packages [] new = tt
 new_all_stand law packages (l ∷ ls) new = (
-  new_link_stands law packages l new.0.ends new.0.peer new.0.back new.0.agent new.0.device new.0.none new.0.agent_misses new.0.device_misses,
+  new_link_stands law packages l new.0.unit new.0.session_unit new.0.ends new.0.peer new.0.back new.0.agent new.0.device new.0.none new.0.agent_misses new.0.device_misses,
   new_all_stand law packages ls new.1,
 )
 

@@ -2,6 +2,7 @@
 use Rattle.std.proofs.Common.{◌≡◌, ◌≢◌, ◌∙◌, ℕ, List, [], ◌∷◌, map, None, refl, ap, subst, sym}
 use Rattle.std.specs.List.{AllByRecursion}
 use Rattle.std.proofs.lemmas.Bool.{ne_eqb}
+use Rattle.mctp_wire.specs.declared.unit.Unit.{«Unit»}
 use Rattle.mctp_ctl.specs.declared.answers.Endpoint.{Endpoint}
 use Rattle.exch_lane.specs.Laws.{LaneIsACell}
 use Rattle.fw_package.specs.Package.{PackageText}
@@ -11,7 +12,7 @@ use Rattle.fw_message.proofs.Counted.{named_run, no_failures}
 use Rattle.fw_node.specs.Agents.{new_half}
 use Rattle.fw_node.specs.Halves.{HalfOf}
 use Rattle.fw_node.specs.Nodes.{DeviceNodeOf}
-use Rattle.fw_world.specs.Headline.{AreNewNodes, IsOpeningWorld, PacketsAreMessages, new_world}
+use Rattle.fw_world.specs.Headline.{AreNewNodes, IsOpeningWorld, PacketsAreMessages, new_world, unit_of}
 use Rattle.fw_world.specs.LinksAreMessages.{LinksAreMessages}
 use Rattle.fw_world.specs.LinksAreLanes.{LinksAreLanes}
 use Rattle.fw_world.specs.Messages.{IsSameWorld}
@@ -62,28 +63,28 @@ same_world opening w k = record {
 
 -- AS IT BEGINS
 
-abbrev opening_nodes : ℕ → List DeviceNodeOf → List NodeOf
-opening_nodes agent nodes = map opening_node (links_for agent nodes)
+abbrev opening_nodes : «Unit» → ℕ → List DeviceNodeOf → List NodeOf
+opening_nodes u agent nodes = map opening_node (links_for u agent nodes)
 
-first_devices : (agent : ℕ) (nodes : List DeviceNodeOf) → map (λ n. n.pair.device) (opening_nodes agent nodes) ≡ map (λ x. x.node.half.core.device) (sites_for nodes)
-first_devices agent [] = refl
-first_devices agent (n ∷ ns) = ap (λ ds. n.half.core.device ∷ ds) (first_devices agent ns)
+first_devices : (u : «Unit») (agent : ℕ) (nodes : List DeviceNodeOf) → map (λ n. n.pair.device) (opening_nodes u agent nodes) ≡ map (λ x. x.node.half.core.device) (sites_for nodes)
+first_devices u agent [] = refl
+first_devices u agent (n ∷ ns) = ap (λ ds. n.half.core.device ∷ ds) (first_devices u agent ns)
 
-first_sessions : (agent : ℕ) (nodes : List DeviceNodeOf) → map (λ n. n.pair.session) (opening_nodes agent nodes) ≡ map (λ h. h.core.session) (halves_for agent nodes)
-first_sessions agent [] = refl
-first_sessions agent (n ∷ ns) = ap (λ ss. (new_half agent n.endpoint.eid).core.session ∷ ss) (first_sessions agent ns)
+first_sessions : (u : «Unit») (agent : ℕ) (nodes : List DeviceNodeOf) → map (λ n. n.pair.session) (opening_nodes u agent nodes) ≡ map (λ h. h.core.session) (halves_for u agent nodes)
+first_sessions u agent [] = refl
+first_sessions u agent (n ∷ ns) = ap (λ ss. (new_half u agent n.endpoint.eid).core.session ∷ ss) (first_sessions u agent ns)
 
 same_first : (agent : Endpoint) (nodes : List DeviceNodeOf) (packages : List PackageText) → AreNewNodes agent.eid nodes
     → IsSameWorld (new_world agent nodes packages) (messages_of (new_world agent nodes packages))
 same_first agent nodes packages k =
-    let eids = same_nodes agent.eid nodes k.new in
+    let eids = same_nodes (unit_of nodes) agent.eid nodes k.new in
     record {
       packages = refl;
       agent = refl;
       eids = eids;
-      devices = first_devices agent.eid nodes;
-      peers = eids ∙ sym (same_peers agent.eid nodes);
-      sessions = first_sessions agent.eid nodes;
+      devices = first_devices (unit_of nodes) agent.eid nodes;
+      peers = eids ∙ sym (same_peers (unit_of nodes) agent.eid nodes);
+      sessions = first_sessions (unit_of nodes) agent.eid nodes;
       history = refl;
     }
 

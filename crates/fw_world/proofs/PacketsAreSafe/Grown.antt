@@ -7,8 +7,7 @@ use Rattle.fd_core.specs.Steps.{applied_by}
 use Rattle.fd_core.specs.declared.states.Verdict.{Verdict}
 use Rattle.fw_message.specs.History.{EntryOf}
 use Rattle.fw_message.specs.Worlds.{NotedOf, noted_of}
-use Rattle.mctp_wire.specs.Packet as wire
-use Rattle.fw_node.specs.Agents.{agent_hears}
+use Rattle.fw_node.specs.Agents.{any_packet, agent_hears}
 use Rattle.fw_world.specs.Headline.{Leads, Run, RunsGrow, world_after}
 use Rattle.fw_world.specs.Moments.{added}
 use Rattle.fw_world.specs.Worlds.{SiteOf, WorldOf, activated_at, at_agent, at_device, delivers, judges, packets_of, place_of, recorded_from, sender_of, site_for}
@@ -45,7 +44,7 @@ packet_grows : (works : Bool) (faults : ℕ) (w : WorldOf) (node : ℕ) (o : Opt
 packet_grows works faults w node None = grows_none w w refl
 packet_grows works faults w node (Some p) =
     comes_grow (node == w.agent.endpoint.eid) w (at_agent w p.bytes) (at_device works faults w p.bytes (place_of w.sites node) (site_for w.sites node))
-    (record { more = recorded_from w.agent (agent_hears w.packages w.agent p.bytes w.now).agent (sender_of (wire.packet_of p.bytes)); history = refl })
+    (record { more = recorded_from w.agent (agent_hears w.packages w.agent p.bytes w.now).agent (sender_of (any_packet p.bytes)); history = refl })
     (device_grows works faults w p.bytes (place_of w.sites node) (site_for w.sites node))
 
 -- a verdict

@@ -7,7 +7,6 @@ use Rattle.std.proofs.lemmas.Option.{slice_get_past}
 use Rattle.mctp_reasm.specs.Held.{Held}
 use Rattle.mctp_reasm.specs.Pieces.{MessageOf}
 use Rattle.mctp_ctl.specs.declared.answers.Endpoint.{Endpoint}
-use Rattle.mctp_wire.specs.Packet as wire
 use Rattle.mctp_wire.specs.declared.layout.Head.{Head}
 use Rattle.pldm_base.specs.declared.header.PldmHead.{PldmHead}
 use Rattle.pldm_base.specs.declared.terminus.Role.TheVariants as roles
@@ -22,7 +21,7 @@ use Rattle.ua_core.specs.declared.planned.Recorded.{Recorded}
 use Rattle.ua_core.proofs.Lawful.{learns_no_record}
 use Rattle.fw_message.specs.History.{EntryOf}
 use Rattle.fw_message.specs.Worlds.{noted_of}
-use Rattle.fw_node.specs.Agents.{AgentOf, agent_hears, half_at, half_for, place_of as half_place}
+use Rattle.fw_node.specs.Agents.{any_packet, AgentOf, agent_hears, half_at, half_for, place_of as half_place}
 use Rattle.fw_node.specs.Cores.{package_of, session_core}
 use Rattle.fw_node.specs.Halves.{HalfHeard, HalfOf, half_hears, half_hears_by, half_takes, read_by, takes_if, takes_read}
 use Rattle.fw_node.specs.Nodes.{finished}
@@ -60,7 +59,7 @@ RecordsHeard packages s (HalfHeard.Strayed half m) = half.core.session.records �
 
 read_records : (packages : List PackageText) (quiet : Bool) (h : HalfOf TimedOf) (requests : List (Option Held)) (m : MessageOf) (head : PldmHead) (c : Result CommandOf ℕ)
     → RecordsHeard packages h.core.session (takes_read (session_core packages) quiet true h requests m head c)
-read_records packages quiet h requests m head (Ok c) = new_by h.core.session (serve_row (package_of packages h.core.session) h.core.session.stage c)
+read_records packages quiet h requests m head (Ok c) = new_by h.core.session (serve_row h.core.session.unit (package_of packages h.core.session) h.core.session.stage c)
 read_records packages quiet h requests m head (Err code) = refl
 
 taken_records : (is_update : Bool) (packages : List PackageText) (h : HalfOf TimedOf) (requests : List (Option Held)) (m : MessageOf) (head : PldmHead) (body : List ℕ)
@@ -82,7 +81,7 @@ rows_record packages h (AskerRow.Learns replies caller heard) answers =
     learns_no_record (package_of packages h.core.session) h.core.session (answer_read heard.command heard.reply)
 
 pub hearing_records : (packages : List PackageText) (h : HalfOf TimedOf) (bytes : List ℕ) → RecordsHeard packages h.core.session (half_hears (session_core packages) true h bytes)
-hearing_records packages h bytes = rows_record packages h (asker_row h.own h.peer h.asker bytes) (taker_row h.own h.peer h.taker bytes)
+hearing_records packages h bytes = rows_record packages h (asker_row h.unit h.own h.peer h.asker bytes) (taker_row h.unit h.own h.peer h.taker bytes)
 
 -- The link notes what is recorded.
 heard_noted : (now : ℕ) (packages : List PackageText) (l : LinkOf) (endpoint : Endpoint) (tid : ℕ) (heard : HalfHeard TimedOf) → RecordsHeard packages l.agent.core.session heard
@@ -108,15 +107,15 @@ deaf_agent_records w bytes sender deaf =
     ap (λ n. recorded_from w.agent n sender) same ∙ unmoved_records w.agent sender
 
 -- a packet of a stranger
-pub stranger_records : (w : WorldOf) (bytes : List ℕ) (p : Head × List ℕ) → w.agent.deaf ≡ 0 → wire.packet_of bytes ≡ Ok p → half_for w.agent p.0.source ≡ None
-    → recorded_from w.agent (agent_hears w.packages w.agent bytes w.now).agent (sender_of (wire.packet_of bytes)) ≡ []
+pub stranger_records : (w : WorldOf) (bytes : List ℕ) (p : Head × List ℕ) → w.agent.deaf ≡ 0 → any_packet bytes ≡ Ok p → half_for w.agent p.0.source ≡ None
+    → recorded_from w.agent (agent_hears w.packages w.agent bytes w.now).agent (sender_of (any_packet bytes)) ≡ []
 stranger_records w bytes p hears reads none =
     let same : (agent_hears w.packages w.agent bytes w.now).agent ≡ w.agent =
     ap (λ x. x.agent) (heard_from w bytes p hears reads ∙ unheard w.packages w.agent bytes w.now (half_place w.agent.halves p.0.source) (half_for w.agent p.0.source) none) in
-    ap (λ n. recorded_from w.agent n (sender_of (wire.packet_of bytes))) same ∙ unmoved_records w.agent (sender_of (wire.packet_of bytes))
+    ap (λ n. recorded_from w.agent n (sender_of (any_packet bytes))) same ∙ unmoved_records w.agent (sender_of (any_packet bytes))
 
 -- a packet of a device
-own_half : (w : WorldOf) (bytes : List ℕ) (p : Head × List ℕ) (h : HalfOf TimedOf) → w.agent.deaf ≡ 0 → wire.packet_of bytes ≡ Ok p → half_for w.agent p.0.source ≡ Some h
+own_half : (w : WorldOf) (bytes : List ℕ) (p : Head × List ℕ) (h : HalfOf TimedOf) → w.agent.deaf ≡ 0 → any_packet bytes ≡ Ok p → half_for w.agent p.0.source ≡ Some h
     → half_for (agent_hears w.packages w.agent bytes w.now).agent p.0.source ≡ Some (heard_half w bytes h)
 own_half w bytes p h hears reads there =
     let place = half_place w.agent.halves p.0.source in
@@ -126,8 +125,8 @@ own_half w bytes p h hears reads there =
     ∙ ap (λ b. if b then option_map (heard_half w bytes) (half_for w.agent p.0.source) else half_for w.agent p.0.source) (eq-eqb p.0.source p.0.source refl)
     ∙ ap (option_map (heard_half w bytes)) there
 
-pub device_records : (w : WorldOf) (bytes : List ℕ) (p : Head × List ℕ) (l : LinkOf) → w.agent.deaf ≡ 0 → wire.packet_of bytes ≡ Ok p → half_for w.agent p.0.source ≡ Some l.agent
-    → recorded_from w.agent (agent_hears w.packages w.agent bytes w.now).agent (sender_of (wire.packet_of bytes))
+pub device_records : (w : WorldOf) (bytes : List ℕ) (p : Head × List ℕ) (l : LinkOf) → w.agent.deaf ≡ 0 → any_packet bytes ≡ Ok p → half_for w.agent p.0.source ≡ Some l.agent
+    → recorded_from w.agent (agent_hears w.packages w.agent bytes w.now).agent (sender_of (any_packet bytes))
     ≡ map (noted_of p.0.source) (noted_in (agent_heard w.now w.packages l (half_hears (session_core w.packages) true l.agent bytes)))
 device_records w bytes p l hears reads there =
     let after = (agent_hears w.packages w.agent bytes w.now).agent in

@@ -2,14 +2,13 @@
 use Rattle.std.proofs.Common.{◌≡◌, ◌≢◌, ◌⊎◌, ◌∙◌, ◌+◌, ◌==◌, ◌++◌, ◌≤◌, ℕ, Bool, true, false, List, [], is_some, map, Option, Some, None, IsSomeAnd, Ok, append-nil, inl, inr, refl, sym, ap, subst}
 use Rattle.std.proofs.lemmas.Bool.{cases_lt, le-ltb, lt-ltb}
 use Rattle.std.proofs.lemmas.Bool.Decides.{eqb_tells}
-use Rattle.mctp_wire.specs.Packet as wire
 use Rattle.mctp_wire.specs.declared.layout.Head.{Head}
 use Rattle.exch_lane.specs.Lanes.{Sent, numbered}
 use Rattle.fw_package.specs.Package.{PackageText}
 use Rattle.fw_message.specs.Worlds.{noted_of}
 use Rattle.fw_message.specs.declared.side.Side.{Side}
 use Rattle.fw_message.specs.declared.side.Side.TheVariants as sides
-use Rattle.fw_node.specs.Agents.{agent_hears, half_for}
+use Rattle.fw_node.specs.Agents.{any_packet, agent_hears, half_for}
 use Rattle.fw_node.specs.Cores.{device_core, session_core}
 use Rattle.fw_node.specs.Halves.{HalfHeard, half_hears}
 use Rattle.fw_world.specs.Headline.{packet_fault}
@@ -42,9 +41,9 @@ silent_notes : (now : ℕ) (packages : List PackageText) (l : LinkOf) (bytes : L
 silent_notes now packages l bytes e = ap (λ heard. noted_in (agent_heard now packages l heard)) e
 
 from_end : (w : WorldOf) (bytes : List ℕ) (device : ℕ) (d : LinkOf) (p : Head × List ℕ) → IsLinkOf w device d → link_at w device ≡ Some d → half_for w.agent w.agent.endpoint.eid ≡ None
-    → w.agent.deaf ≡ 0 → wire.packet_of bytes ≡ Ok p
+    → w.agent.deaf ≡ 0 → any_packet bytes ≡ Ok p
     → ((p.0.source ≡ d.agent.own) × (p.0.dest ≡ d.device.own)) ⊎ ((p.0.source ≡ d.device.own) × (p.0.dest ≡ d.agent.own))
-    → recorded_from w.agent (agent_hears w.packages w.agent bytes w.now).agent (sender_of (wire.packet_of bytes))
+    → recorded_from w.agent (agent_hears w.packages w.agent bytes w.now).agent (sender_of (any_packet bytes))
     ≡ map (noted_of device) (noted_in (agent_heard w.now w.packages d (half_hears (session_core w.packages) true d.agent bytes)))
 from_end w bytes device d p k there own hears reads (inl away) =
     let far : p.0.dest ≢ d.agent.own = λ z. k.explained.ends.differ (sym z ∙ away.1) in
@@ -59,12 +58,12 @@ from_end w bytes device d p k there own hears reads (inr home) =
 
 agent_notes : (w : WorldOf) (bytes : List ℕ) (device : ℕ) (d : LinkOf) → IsLinkOf w device d → link_at w device ≡ Some d → half_for w.agent w.agent.endpoint.eid ≡ None
     → GoesBetween d.agent.own d.device.own bytes
-    → recorded_from w.agent (agent_hears w.packages w.agent bytes w.now).agent (sender_of (wire.packet_of bytes))
+    → recorded_from w.agent (agent_hears w.packages w.agent bytes w.now).agent (sender_of (any_packet bytes))
     ≡ map (noted_of device) (noted_in (agent_heard w.now w.packages d (half_hears (session_core w.packages) true d.agent bytes)))
 agent_notes w bytes device d k there own between = elim (eqb_tells w.agent.deaf 0) [
   | inl hears ↦ from_end w bytes device d (between.head, between.body) k there own hears.1 between.reads between.ends
   | inr deaf ↦
-      deaf_agent_records w bytes (sender_of (wire.packet_of bytes)) deaf.1
+      deaf_agent_records w bytes (sender_of (any_packet bytes)) deaf.1
       ∙ sym (ap (map (noted_of device)) (silent_notes w.now w.packages d bytes
       (deaf_hears_nothing (session_core w.packages) true d.agent bytes (λ z. deaf.1 (sym k.asking ∙ z)) (λ z. deaf.1 (sym k.answering ∙ z)))))
 ]

@@ -16,10 +16,9 @@ use Rattle.exch_lane.specs.Lanes.{Sent, numbered}
 use Rattle.fw_message.specs.Pairs.{may_start}
 use Rattle.fw_message.specs.declared.side.Side.{Side}
 use Rattle.fw_message.specs.declared.side.Side.TheVariants as sides
-use Rattle.fw_node.specs.Agents.{AgentOf, agent_ticks, agent_unmoved, becomes_at, half_at, half_for, hears_at, place_heard, place_of as half_place, activates, cancels, ready_for, starts}
+use Rattle.fw_node.specs.Agents.{any_packet, AgentOf, agent_ticks, agent_unmoved, becomes_at, half_at, half_for, hears_at, place_heard, place_of as half_place, activates, cancels, ready_for, starts}
 use Rattle.fw_node.specs.Cores.{TimedDevice, device_core, session_core}
 use Rattle.fw_node.specs.Halves.{CoreOf, HalfHeard, HalfOf, begins_if, begins_wish, called, half_hears, half_hears_by, half_takes, half_ticks, hears_if, read_by, takes_if, takes_read, unwished_abandoned, with_caller}
-use Rattle.mctp_wire.specs.Packet as wire
 use Rattle.fw_world.specs.Headline.{world_after}
 use Rattle.fw_world.specs.Links.{LinkOf, LinkStep, LinkStepped, activates_on as link_activates, agent_heard, delivers_on, device_heard, hears_on, judges_on, link_after, link_ticks, unnoted}
 use Rattle.fw_world.specs.Worlds.{WorldOf, activates_on, agent_passes, asks_log, at_agent, at_device, calls, counts, delivers, packets_of, place_of, site_for}
@@ -80,7 +79,7 @@ rows_asker core works h (AskerRow.Ignores replies) answers = takes_asker core wo
 rows_asker core works h (AskerRow.Learns replies caller heard) answers = refl
 
 hears_asker : {C : Type 0} (core : CoreOf C) (works : Bool) (h : HalfOf C) (bytes : List ℕ) → (half_in (half_hears core works h bytes)).asker.deaf ≡ h.asker.deaf
-hears_asker core works h bytes = rows_asker core works h (asker_row h.own h.peer h.asker bytes) (taker_row h.own h.peer h.taker bytes)
+hears_asker core works h bytes = rows_asker core works h (asker_row h.unit h.own h.peer h.asker bytes) (taker_row h.unit h.own h.peer h.taker bytes)
 
 -- A LINK'S STEP
 
@@ -178,8 +177,8 @@ hears_same packages n bytes now (Some p) None = same_agent n n refl
 hears_same packages n bytes now (Some p) (Some h) = record { eid = refl; deaf = refl }
 
 hears_same_if : (hears : Bool) (w : WorldOf) (bytes : List ℕ)
-    → SameAgent w.agent (if hears then hears_at w.packages w.agent bytes w.now (place_heard w.agent.halves (wire.packet_of bytes)) (half_at w.agent.halves (place_heard w.agent.halves (wire.packet_of bytes))) else agent_unmoved w.agent).agent
-hears_same_if true w bytes = hears_same w.packages w.agent bytes w.now (place_heard w.agent.halves (wire.packet_of bytes)) (half_at w.agent.halves (place_heard w.agent.halves (wire.packet_of bytes)))
+    → SameAgent w.agent (if hears then hears_at w.packages w.agent bytes w.now (place_heard w.agent.halves (any_packet bytes)) (half_at w.agent.halves (place_heard w.agent.halves (any_packet bytes))) else agent_unmoved w.agent).agent
+hears_same_if true w bytes = hears_same w.packages w.agent bytes w.now (place_heard w.agent.halves (any_packet bytes)) (half_at w.agent.halves (place_heard w.agent.halves (any_packet bytes)))
 hears_same_if false w bytes = same_agent w.agent w.agent refl
 
 same_if : (agent : Bool) (w u v : WorldOf) → SameAgent w.agent u.agent → SameAgent w.agent v.agent → SameAgent w.agent (if agent then u else v).agent

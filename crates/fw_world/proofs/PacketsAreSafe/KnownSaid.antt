@@ -4,6 +4,7 @@ use Rattle.std.specs.List.{AllByRecursion}
 use Rattle.std.specs.Option.{option_map}
 use Rattle.std.proofs.lemmas.Bool.{leb-true}
 use Rattle.std.proofs.lemmas.Bool.Decides.{eqb_tells}
+use Rattle.mctp_wire.specs.declared.unit.Unit.TheVariants.{U64}
 use Rattle.mctp_wire.specs.declared.layout.Head.{Head}
 use Rattle.exch_lane.specs.Lanes.{Sent, numbered}
 use Rattle.fw_message.specs.declared.side.Side.TheVariants as sides
@@ -31,12 +32,12 @@ use Rattle.fw_world.proofs.LinksAreLanes.WorldSteps.{AreLinked, still_living}
 
 -- the agent's half hears it, if it comes from the device; else it hears nothing
 told_from : (w : WorldOf) (device : ℕ) (d : LinkOf) (bytes : List ℕ) → IsLinkOf w device d → link_at w device ≡ Some d → (g : GoesBetween d.agent.own d.device.own bytes)
-    → IfSome (hearer w.agent bytes) (λ h. IsTold (half_hears (session_core w.packages) true h bytes))
+    → IfSome (hearer w.agent bytes) (λ h. IsTold h.core.session.unit (half_hears (session_core w.packages) true h bytes))
     → ((g.head.source ≡ d.agent.own) × (g.head.dest ≡ d.device.own)) ⊎ ((g.head.source ≡ d.device.own) × (g.head.dest ≡ d.agent.own))
-    → IsTold (half_hears (session_core w.packages) true d.agent bytes)
+    → IsTold d.agent.core.session.unit (half_hears (session_core w.packages) true d.agent bytes)
 told_from w device d bytes k there g told (inl away) =
     let far : g.head.dest ≢ d.agent.own = λ z. k.explained.ends.differ (sym z ∙ away.1) in
-    subst IsTold
+    subst (IsTold d.agent.core.session.unit)
     (sym (others_packet (session_core w.packages) true d.agent bytes
     (λ q e. let same : (g.head, g.body) ≡ q = (let both : Ok (g.head, g.body) ≡ Ok q = sym g.reads ∙ e in cc) in
     subst (λ (x : Head × List ℕ). x.0.dest ≢ d.agent.own) same far))) tt
@@ -45,7 +46,7 @@ told_from w device d bytes k there g told (inr home) =
     ap (λ r. half_at w.agent.halves (place_heard w.agent.halves r)) g.reads
     ∙ ap (half_for w.agent) (home.0 ∙ k.device)
     ∙ link_half _ (half_for w.agent device) (site_for w.sites device) d there in
-    subst (λ o. IfSome o (λ h. IsTold (half_hears (session_core w.packages) true h bytes))) half told
+    subst (λ o. IfSome o (λ h. IsTold h.core.session.unit (half_hears (session_core w.packages) true h bytes))) half told
 
 told_agent : (works : Bool) (w : WorldOf) (device number node : ℕ) (d : LinkOf) (q : Option Sent) → IsLinkOf w device d → link_at w device ≡ Some d → numbered d.packets number ≡ q → packet_fault w.now q ≡ None
     → (node == w.agent.endpoint.eid) ≡ true → IsToldBy works w node q → IfSome q (λ p. IsToldOn w.packages d sides.Agent works p.bytes)
@@ -56,9 +57,9 @@ told_agent works w device number node d (Some p) k there at may agent told =
 
 -- a device's half hears it
 told_site : (works : Bool) (bytes : List ℕ) (d : LinkOf) (s : Option SiteOf) → IsSomeAnd s (λ x. (x.node.half ≡ d.device) × (x.packets ≡ d.packets))
-    → IfSome s (λ x. IsTold (half_hears device_core works x.node.half bytes)) → IsTold (half_hears device_core works d.device bytes)
+    → IfSome s (λ x. IsTold U64 (half_hears device_core works x.node.half bytes)) → IsTold U64 (half_hears device_core works d.device bytes)
 told_site works bytes d None k told = absurd k
-told_site works bytes d (Some x) k told = subst (λ h. IsTold (half_hears device_core works h bytes)) k.0 told
+told_site works bytes d (Some x) k told = subst (λ h. IsTold U64 (half_hears device_core works h bytes)) k.0 told
 
 told_device : (works : Bool) (w : WorldOf) (node : ℕ) (d : LinkOf) (q : Option Sent) → link_at w node ≡ Some d
     → (node == w.agent.endpoint.eid) ≡ false → IsToldBy works w node q → IfSome q (λ p. IsToldOn w.packages d sides.Device works p.bytes)

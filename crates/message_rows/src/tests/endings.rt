@@ -1,19 +1,20 @@
-//! A cancel that meets a completion.
+//! A cancel that meets a completion, and an update at the greater unit.
 
 use crate::tests::packages::{file, package};
 use crate::tests::seeing::{
     applied, cell_of, happened, happened_last, records, runs_first, stands,
 };
-use crate::tests::setup::{KEY, Small};
+use crate::tests::setup::{KEY, Small, join_at, opening};
 use crate::tests::steps::{
-    ASK_DOWN, CANCEL, COMPLETE_ASKED, DROP_UP, LEARN_DOWN, LEARN_UP, TAKE_BUSY, TAKE_UP, WHOLE,
-    led, takes, takes_worked,
+    ASK_DOWN, CANCEL, COMPLETE_ASKED, DEVICE, DROP_UP, LEARN_DOWN, LEARN_UP, TAKE_BUSY, TAKE_UP,
+    WHOLE, led, takes, takes_worked, worked_long,
 };
 use fd_core::State;
 use fw_message::{MessageStep, Way};
 use fw_package::Package;
 use fwup_wire::code::command::APPLY_COMPLETE;
 use fwup_wire::code::completion::COMMAND_NOT_EXPECTED;
+use mctp_wire::Unit;
 use std::alloc::Global;
 use std::test::Fail;
 use ua_core::SessionState;
@@ -54,5 +55,16 @@ fn a_stale_completion_records_nothing(rt: HostRuntime) -> Result<(), Fail> {
     for then in rows {
         assert!(rt; is_refused_late(rt.alloc(), &packages, then)?);
     }
+    Ok(())
+}
+
+#[test]
+fn an_update_at_the_greater_unit_asks_once(rt: HostRuntime) -> Result<(), Fail> {
+    let one = file(rt.alloc())?;
+    let packages = [package(&one)?];
+    let mut world = opening(rt.alloc(), &packages);
+    join_at(rt.alloc(), &mut world, DEVICE, Unit::U128)?;
+    assert!(rt; takes(&mut world, &worked_long()));
+    assert!(rt; happened_last(&world, b"ARV"));
     Ok(())
 }

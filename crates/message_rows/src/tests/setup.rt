@@ -9,6 +9,7 @@ use fd_core::{BankFault, Component, Device, Key, Label, MemBank};
 use fw_message::{MessageStepFault, MessageWorld};
 use fw_package::Package;
 use fwup_wire::{Descriptor, DescriptorList, Text, Version};
+use mctp_wire::Unit;
 use std::alloc::Global;
 
 /// The agent.
@@ -62,22 +63,32 @@ fn bank_of_one(alloc: Global) -> Result<MemBank, BankFault>
     Ok(bank)
 }
 
-/// The worked device.
-fn device_of_one(bank: MemBank) -> Device<MemBank>
+/// The worked device at this unit.
+fn device_of_one(unit: Unit, bank: MemBank) -> Device<MemBank>
     requires { map key_of bank.rows ≡ KEY ∷ [] }
     ensures { HasComponents result.device }
 {
     let mut components = ArrayVec::new();
     components.push(Component { key: KEY, index: 0 });
-    Device::new(descriptors(), components, bank)
+    Device::new(unit, descriptors(), components, bank)
 }
 
-/// A worked device of this identifier joins a world that has none.
+/// A worked device of this identifier, at the unit of 64 bytes, joins a world that has none.
 pub fn join(alloc: Global, world: &mut Small<'_>, eid: u8) -> Result<(), MessageStepFault> {
+    join_at(alloc, world, eid, Unit::U64)
+}
+
+/// The same at this unit.
+pub fn join_at(
+    alloc: Global,
+    world: &mut Small<'_>,
+    eid: u8,
+    unit: Unit,
+) -> Result<(), MessageStepFault> {
     let Ok(bank) = bank_of_one(alloc) else {
         return Err(MessageStepFault::Memory);
     };
-    add(world, eid, device_of_one(bank))
+    add(world, eid, device_of_one(unit, bank))
 }
 
 /// A device joins a world that has no node of its identifier.

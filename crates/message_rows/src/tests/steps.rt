@@ -83,6 +83,16 @@ pub fn worked() -> [MessageStep; WHOLE] {
     ]
 }
 
+/// The steps of the same update at the unit of 128 bytes, where one RequestFirmwareData asks for all of the image.
+pub fn worked_long() -> [MessageStep; 37] {
+    let (a, b, c) = (ASK_DOWN, TAKE_DOWN, LEARN_DOWN);
+    let (x, y, z) = (ASK_UP, TAKE_UP, LEARN_UP);
+    [
+        START, a, b, c, a, b, c, a, b, c, a, b, c, a, b, c, a, b, c, x, y, z, x, y, z, VERIFY_OK,
+        x, y, z, APPLY_OK, x, y, z, ACTIVATE, a, b, c,
+    ]
+}
+
 /// `message_replay`: the proofs of the tests need nothing of its contract.
 pub fn replay(
     world: &mut Small<'_>,

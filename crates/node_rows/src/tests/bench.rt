@@ -4,7 +4,7 @@ use crate::tests::setup::{AGENT, DEVICE, KEY, device_node, endpoint};
 use fd_core::{Bank, MemBank, Progress, State, Verdict};
 use fw_node::{AgentNode, DeviceNode, Outbox};
 use fw_package::Package;
-use mctp_wire::RawPacket;
+use mctp_wire::{RawPacket, Unit};
 use std::alloc::{AllocError, Global};
 use ua_core::SessionState;
 
@@ -85,15 +85,19 @@ fn verdict_of(device: &DeviceNode<MemBank>) -> Option<Verdict> {
 }
 
 impl<'p> Bench<'p> {
-    /// The agent of the worked device, and that device, at time 0.
-    pub fn new(alloc: Global, packages: &'p [Package<'p>]) -> Result<Bench<'p>, AllocError> {
-        let Some(device) = device_node(alloc) else {
+    /// The agent of the worked device, and that device, at time 0, on a network of this transmission unit.
+    pub fn new(
+        alloc: Global,
+        unit: Unit,
+        packages: &'p [Package<'p>],
+    ) -> Result<Bench<'p>, AllocError> {
+        let Some(device) = device_node(alloc, unit) else {
             return Err(AllocError);
         };
         Ok(Bench {
             alloc,
             packages,
-            agent: AgentNode::new(alloc, endpoint(AGENT), &[DEVICE])?,
+            agent: AgentNode::new(alloc, unit, endpoint(AGENT), &[DEVICE])?,
             device,
             packets: Vec::new(alloc),
             delivered: 0,
@@ -118,18 +122,18 @@ impl<'p> Bench<'p> {
         }
     }
 
-    /// Whether the session is done, and the device runs the worked image: byte i of 241 is i.
-    pub fn is_updated(&self) -> bool {
+    /// Whether the session is done, and the device runs the image of so many bytes: byte i is i modulo 256.
+    pub fn is_updated(&self, size: usize) -> bool {
         let image = match self.device.device().bank().active(KEY) {
             Some((_, image)) => image,
             None => return false,
         };
         for (place, byte) in image.iter().enumerate() {
-            if usize::from(*byte) != place {
+            if usize::from(*byte) != place % 256 {
                 return false;
             }
         }
-        self.session() == SessionState::Done && image.len() == 241
+        self.session() == SessionState::Done && image.len() == size
     }
 
     /// A tick of all nodes, the agent's first.

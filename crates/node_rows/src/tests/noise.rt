@@ -3,7 +3,7 @@
 use crate::tests::bench::Bench;
 use crate::tests::packages::{ONE, file, package};
 use crate::tests::setup::{AGENT, DEVICE};
-use mctp_wire::RawPacket;
+use mctp_wire::{RawPacket, Unit};
 use std::alloc::AllocError;
 use std::test::Fail;
 
@@ -94,7 +94,7 @@ fn still_updates(bench: &mut Bench<'_>) -> Result<bool, AllocError> {
     bench.delivered = 0;
     let started = bench.start();
     bench.turns(12)?;
-    Ok(started && bench.is_updated())
+    Ok(started && bench.is_updated(241))
 }
 
 /// Whether more than 10,000 answers, and nothing else, go back from each node.
@@ -111,7 +111,7 @@ fn answer_noise(bench: &mut Bench<'_>) -> Result<bool, AllocError> {
 fn noise_is_answered_or_dropped(rt: HostRuntime) -> Result<(), Fail> {
     let bytes = file(rt.alloc(), ONE)?;
     let packages = [package(&bytes)?];
-    let mut bench = Bench::new(rt.alloc(), &packages)?;
+    let mut bench = Bench::new(rt.alloc(), Unit::U64, &packages)?;
     assert!(rt; answer_noise(&mut bench)? && still_updates(&mut bench)?);
     Ok(())
 }

@@ -13,7 +13,16 @@ pub const ONE: &[u8] = &[
     0x62, 0x75,
 ];
 
-/// The same with that component twice, which can't be planned.
+/// The same with 497 bytes, one more than a piece of 496.
+pub const LONG: &[u8] = &[
+    0xF0, 0x18, 0x87, 0x8C, 0xCB, 0x7D, 0x49, 0x43, 0x98, 0, 0xA0, 0x2F, 0x05, 0x9A, 0xCA, 0x02,
+    0x01, 0x56, 0, 0, 0, 0, 0, 0, 0, 0, 0, 0, 0, 0, 0, 0, 0x08, 0, 0x01, 0, 0x01, 0x13, 0, 0x01, 0,
+    0, 0, 0, 0x01, 0x01, 0, 0, 0x01, 0x41, 0, 0, 0x02, 0, 0x34, 0x12, 0x01, 0, 0x0A, 0, 0x01, 0,
+    0x02, 0, 0, 0, 0x02, 0, 0, 0, 0x56, 0, 0, 0, 0xF1, 0x01, 0, 0, 0x01, 0x02, 0x76, 0x32, 0x4A,
+    0x6E, 0x15, 0xD3,
+];
+
+/// The first with that component twice, which can't be planned.
 pub const TWICE: &[u8] = &[
     0xF0, 0x18, 0x87, 0x8C, 0xCB, 0x7D, 0x49, 0x43, 0x98, 0, 0xA0, 0x2F, 0x05, 0x9A, 0xCA, 0x02,
     0x01, 0x6E, 0, 0, 0, 0, 0, 0, 0, 0, 0, 0, 0, 0, 0, 0, 0x08, 0, 0x01, 0, 0x01, 0x13, 0, 0x01, 0,
@@ -23,11 +32,17 @@ pub const TWICE: &[u8] = &[
     0x49, 0xAD, 0x44, 0xCE,
 ];
 
-/// The file of a header and the worked image: byte i is i.
+/// The file of a header and the worked image of 241 bytes: byte i is i.
 pub fn file(alloc: Global, header: &[u8]) -> Result<Vec<u8>, AllocError> {
+    file_of(alloc, header, 241)
+}
+
+/// The file of a header and an image of so many bytes: byte i is i modulo 256.
+pub fn file_of(alloc: Global, header: &[u8], size: u32) -> Result<Vec<u8>, AllocError> {
     let mut out = Vec::new(alloc);
     out.extend_from_slice(header)?;
-    for byte in 0..=240 {
+    for place in 0..size {
+        let [byte, ..] = place.to_le_bytes();
         out.push(byte)?;
     }
     Ok(out)

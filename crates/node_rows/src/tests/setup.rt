@@ -5,6 +5,7 @@ use fd_core::{Component, Device, Key, Label, MemBank};
 use fw_node::{DeviceNode, Outbox};
 use fwup_wire::{Descriptor, DescriptorList, Text, Version};
 use mctp_ctl::Endpoint;
+use mctp_wire::Unit;
 use std::alloc::Global;
 use uuid::Uuid;
 
@@ -39,8 +40,8 @@ fn descriptors() -> DescriptorList {
     descriptors
 }
 
-/// The node of the worked device: component (10, 1), stamp 1, `1.0`, image AA.
-pub fn device_node(alloc: Global) -> Option<DeviceNode<MemBank>> {
+/// The node of the worked device, on a network of this transmission unit: component (10, 1), stamp 1, `1.0`, image AA.
+pub fn device_node(alloc: Global, unit: Unit) -> Option<DeviceNode<MemBank>> {
     let label = Label::new(&Version {
         stamp: 1,
         text: Text {
@@ -54,7 +55,7 @@ pub fn device_node(alloc: Global) -> Option<DeviceNode<MemBank>> {
     };
     let mut components = ArrayVec::new();
     components.push(Component { key: KEY, index: 0 });
-    let device = Device::new(descriptors(), components, bank);
+    let device = Device::new(unit, descriptors(), components, bank);
     Some(DeviceNode::new(endpoint(DEVICE), AGENT, device))
 }
 
@@ -117,7 +118,7 @@ fn device_does(alloc: Global, node: &mut DeviceNode<MemBank>, event: &Event<'_>)
 
 /// The number of the first row, from 1, that a device's node doesn't do; 0 where it does all.
 pub fn device_fails(alloc: Global, events: &[Event<'_>]) -> usize {
-    let Some(mut node) = device_node(alloc) else {
+    let Some(mut node) = device_node(alloc, Unit::U64) else {
         return 1;
     };
     for (number, event) in events.iter().enumerate() {

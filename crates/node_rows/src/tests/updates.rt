@@ -1,8 +1,10 @@
 //! Updates by an agent and a device, with a fault in one of their packets, or a restart between them.
 
 use crate::tests::bench::{Bench, Fault};
-use crate::tests::packages::{ONE, TWICE, file, package};
+use crate::tests::packages::{LONG, ONE, TWICE, file, file_of, package};
+use crate::tests::setup::{AGENT, DEVICE};
 use fd_core::State;
+use mctp_wire::{RawPacket, Unit};
 use std::alloc::{AllocError, Global};
 use std::test::Fail;
 use ua_core::{Cause, SessionState};
@@ -27,7 +29,7 @@ fn fails(alloc: Global, row: Row) -> Result<bool, Fail> {
     let (header, (command, place, value), cause, at) = row;
     let bytes = file(alloc, header)?;
     let packages = [package(&bytes)?];
-    let mut bench = Bench::new(alloc, &packages)?;
+    let mut bench = Bench::new(alloc, Unit::U64, &packages)?;
     bench.fault = Some(Fault {
         command,
         place,
@@ -79,7 +81,119 @@ fn restarts(bench: &mut Bench<'_>) -> Result<bool, AllocError> {
 fn a_restarted_device_is_deaf_for_40_ticks(rt: HostRuntime) -> Result<(), Fail> {
     let bytes = file(rt.alloc(), ONE)?;
     let packages = [package(&bytes)?];
-    let mut bench = Bench::new(rt.alloc(), &packages)?;
+    let mut bench = Bench::new(rt.alloc(), Unit::U64, &packages)?;
     assert!(rt; restarts(&mut bench)?);
+    Ok(())
+}
+
+/// An update with an image of 497 bytes: the transmission unit; the transfer size that the agent names; the offsets and lengths of
+/// the pieces that the device asks for; the bytes of the longest packet, and how many packets and turns there are.
+#[derive(Clone, Copy)]
+struct Pieces {
+    unit: Unit,
+    transfer_size: u32,
+    asked: &'static [(u32, u32)],
+    longest: usize,
+    packets: usize,
+    turns: usize,
+}
+
+/// A piece has at most 16 bytes fewer than four packets carry, and at least 32; a packet has 4 bytes before those that it carries.
+const AT_64: Pieces = Pieces {
+    unit: Unit::U64,
+    transfer_size: 240,
+    asked: &[(0, 240), (240, 240), (480, 32)],
+    longest: 68,
+    packets: 32,
+    turns: 13,
+};
+
+const AT_128: Pieces = Pieces {
+    unit: Unit::U128,
+    transfer_size: 496,
+    asked: &[(0, 496), (496, 32)],
+    longest: 132,
+    packets: 27,
+    turns: 12,
+};
+
+/// The transfer size in a packet with RequestUpdate.
+fn transfer_size_in(packet: &[u8]) -> Option<u32> {
+    match packet {
+        [_, DEVICE, _, _, 1, 0x80..=0x9F, 5, 0x10, a, b, c, d, ..] => {
+            Some(u32::from_le_bytes([*a, *b, *c, *d]))
+        }
+        _ => None,
+    }
+}
+
+/// The offset and the length in a packet with RequestFirmwareData.
+fn piece_in(packet: &[u8]) -> Option<(u32, u32)> {
+    match packet {
+        [
+            _,
+            AGENT,
+            _,
+            _,
+            1,
+            0x80..=0x9F,
+            5,
+            0x15,
+            a,
+            b,
+            c,
+            d,
+            e,
+            f,
+            g,
+            h,
+        ] => Some((
+            u32::from_le_bytes([*a, *b, *c, *d]),
+            u32::from_le_bytes([*e, *f, *g, *h]),
+        )),
+        _ => None,
+    }
+}
+
+/// Whether one of these packets names that transfer size, they ask for those pieces, and the longest has so many bytes.
+fn are_as(packets: &[RawPacket], row: &Pieces) -> bool {
+    let mut named: usize = 0;
+    let mut asked: usize = 0;
+    let mut longest: usize = 0;
+    for packet in packets {
+        if let Some(size) = transfer_size_in(packet.as_slice()) {
+            if size != row.transfer_size {
+                return false;
+            }
+            named = named.saturating_add(1);
+        }
+        if let Some(piece) = piece_in(packet.as_slice()) {
+            if row.asked.get(asked) != Some(&piece) {
+                return false;
+            }
+            asked = asked.saturating_add(1);
+        }
+        longest = longest.max(packet.len());
+    }
+    (named, asked) == (1, row.asked.len()) && longest == row.longest && packets.len() == row.packets
+}
+
+/// Whether the update ends well in its last turn, by those packets.
+fn goes_by_pieces(alloc: Global, row: &Pieces) -> Result<bool, Fail> {
+    let bytes = file_of(alloc, LONG, 497)?;
+    let packages = [package(&bytes)?];
+    let mut bench = Bench::new(alloc, row.unit, &packages)?;
+    let started = bench.start();
+    bench.turns(row.turns.saturating_sub(1))?;
+    let early = bench.is_updated(497);
+    bench.turns(1)?;
+    Ok(started && !early && bench.is_updated(497) && are_as(&bench.packets, row))
+}
+
+#[test]
+fn an_image_comes_in_pieces_of_the_unit(rt: HostRuntime) -> Result<(), Fail> {
+    for row in [AT_64, AT_128] {
+        assert!(rt; goes_by_pieces(rt.alloc(), &row)?, "{}", row.transfer_size);
+    }
     Ok(())
 }

@@ -11,6 +11,7 @@ use fwupd_jobs::{
     FileFault, FileIdentity, Files, Order, Output, RunFault, Show, Watch, WatchFault, Wires,
     plan_file, update_checked,
 };
+use mctp_wire::Unit;
 use std::alloc::Global;
 use std::os::unix::net::UnixStream;
 use std::test::Fail;
@@ -76,7 +77,7 @@ struct MemWires {
 impl Wires<MemLink> for MemWires {
     ghost lacks = { λ w folder device. true };
 
-    fn open(&mut self, _folder: &str, device: u8) -> Result<MemLink, RunFault> {
+    fn open(&mut self, _unit: Unit, _folder: &str, device: u8) -> Result<MemLink, RunFault> {
         if device == self.closed {
             return Err(RunFault::Socket(device));
         }
@@ -100,7 +101,7 @@ impl CutWires {
         let (device, _) = UnixStream::pair(rt)?;
         Ok(CutWires {
             taken,
-            link: Some(StreamLink::new(agent, device)),
+            link: Some(StreamLink::new(Unit::U64, agent, device)),
         })
     }
 }
@@ -108,7 +109,12 @@ impl CutWires {
 impl Wires<StreamLink<UnixStream>> for CutWires {
     ghost lacks = { λ w folder device. true };
 
-    fn open(&mut self, _folder: &str, device: u8) -> Result<StreamLink<UnixStream>, RunFault> {
+    fn open(
+        &mut self,
+        _unit: Unit,
+        _folder: &str,
+        device: u8,
+    ) -> Result<StreamLink<UnixStream>, RunFault> {
         match self.link.take() {
             Some(link) => Ok(link),
             None => Err(RunFault::Socket(device)),
@@ -251,7 +257,15 @@ const WHOLE: &[u8] = b"agent 8 00000000-0000-0000-0000-000000000000\n\
     component 10 1 0 1 1.0 AA\n\
     package p\n";
 
-/// The same of a device that the package isn't for.
+/// The same in a network whose packets carry up to 128 bytes.
+const WIDE: &[u8] = b"agent 8 00000000-0000-0000-0000-000000000000\n\
+    unit 128\n\
+    device 9 00000000-0000-0000-0000-000000000000\n\
+    descriptor 0000 3412\n\
+    component 10 1 0 1 1.0 AA\n\
+    package p\n";
+
+/// The first of a device that the package isn't for.
 const OTHER: &[u8] = b"agent 8 00000000-0000-0000-0000-000000000000\n\
     device 9 00000000-0000-0000-0000-000000000000\n\
     descriptor 0000 3413\n\
@@ -308,9 +322,14 @@ fn an_update_is_reported_turn_by_turn(rt: HostRuntime) -> Result<(), Fail> {
         active 9 10 1 241 000102030405060708090A0B0C0D0E0F..\nlog 3 last -\n\
         applied 9 10 1 241\nrecorded 9 1 1\nactivated 9 10 1 241\n"
         .as_slice();
+    let wide = b"now 11\nagent 8 up\ndevice 9 up ACTIVATE session Done sent 23\n\
+        active 9 10 1 241 000102030405060708090A0B0C0D0E0F..\nlog 3 last -\n\
+        applied 9 10 1 241\nrecorded 9 1 1\nactivated 9 10 1 241\n"
+        .as_slice();
     let failed = b"now 1\nagent 8 up\ndevice 9 up IDLE session Failed:NoRecord sent 2\n".as_slice();
-    let table: [(&[u8], u8, usize, &[u8], &[u8], usize); 5] = [
+    let table: [(&[u8], u8, usize, &[u8], &[u8], usize); 6] = [
         (WHOLE, 0, 0, report, b"", 12),
+        (WIDE, 0, 0, wide, b"", 11),
         (
             OTHER,
             0,

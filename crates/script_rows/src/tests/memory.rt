@@ -31,7 +31,7 @@ fn refused_memory_opens_no_world(rt: HostRuntime) {
     let Ok(config) = read_config(rt.alloc(), text) else {
         return;
     };
-    if let Ok(world) = opening_world(rt.alloc(), config.agent, config.devices, &[]) {
+    if let Ok(world) = opening_world(rt.alloc(), config.unit, config.agent, config.devices, &[]) {
         assert!(rt; (world.now(), world.device_count()) == (0, 2));
     }
 }

@@ -10,6 +10,7 @@ const TEXTS: usize = 10_000;
 const CONFIG: &[u8] = b"\
 # A board.
 agent 8 00112233-4455-6677-8899-aabbccddeeff
+unit 128
 device 9 00000000-0000-0000-0000-000000000009
 descriptor 0000 3412
 component 10 1 0 1 1.0 AA

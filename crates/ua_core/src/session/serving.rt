@@ -1,10 +1,11 @@
 //! How a session answers the device's commands.
 
-ghost use Rattle.std.specs.Prelude.{◌≡◌, ◌==◌, ◌∷◌, [], if◌then◌else◌, Some};
+ghost use Rattle.std.specs.Prelude.{◌≡◌, ◌≤◌, ◌==◌, ◌∷◌, [], if◌then◌else◌, Some, length};
 ghost use Rattle.fwup_wire.specs.Answers.{answer_bytes, answer_code, answer_in};
 ghost use Rattle.fwup_wire.specs.Commands.{command_code};
 ghost use Rattle.fwup_wire.specs.Lent.{command_of};
 ghost use Rattle.fwup_wire.specs.Values.{CommandOf};
+ghost use Rattle.pldm_base.specs.Limits.{reply_limit};
 ghost use Rattle.ua_core.specs.Lent.{no_package};
 ghost use Rattle.ua_core.specs.Session.{state_of};
 ghost use Rattle.ua_core.specs.Serve.{agent_after, agent_answer, agent_idle};
@@ -17,7 +18,7 @@ use crate::state::{Cause, SessionState};
 use fwup_wire::code::completion::{
     COMMAND_NOT_EXPECTED, DATA_OUT_OF_RANGE, INVALID_TRANSFER_LENGTH, RETRY_REQUEST_FW_DATA,
 };
-use fwup_wire::{Answer, Command, MAX_TRANSFER, MIN_TRANSFER, write_answer};
+use fwup_wire::{Answer, Command, MIN_TRANSFER, transfer_size, write_answer};
 use pldm_base::Reply;
 use pldm_base::completion::{ERROR_UNSUPPORTED_PLDM_CMD, SUCCESS};
 
@@ -28,12 +29,14 @@ const GOOD: u8 = 0;
 const PAST_END: usize = MIN_TRANSFER;
 
 impl Session {
-    /// Takes a command of the device and answers it: with a code alone, save where data are served. What the session doesn't
+    /// Takes a command of the device and answers it: with a code alone, save where data are served. The answer fits a
+    /// message of the session's transmission unit. What the session doesn't
     /// expect in its state leaves it as it is.
-    #[tactic(auto, using(crate::proofs::Answering::answers_read))]
+    #[tactic(auto, using(crate::proofs::Answering::answers_read, crate::proofs::Fitting::answers_fit))]
     pub fn take(&mut self, command: &Command<'_>, lent: &Lent<'_>) -> Reply
         ensures answer { result.items ≡ answer_bytes (agent_answer lent.now self.old.session (command_of command.now)) }
         ensures reads { answer_in (command_code (command_of command.now)) result.items ≡ Some (agent_answer lent.now self.old.session (command_of command.now)) }
+        ensures fits { length result.items ≤ reply_limit self.old.session.unit }
         ensures after { self.new.session ≡ agent_after lent.now self.old.session (command_of command.now) }
         ensures idle { self.new.idle ≡ agent_idle lent.now self.old.session self.old.idle (command_of command.now) }
     {
@@ -58,7 +61,7 @@ impl Session {
             _ => return code_alone(COMMAND_NOT_EXPECTED),
         }
         let (offset, length) = (offset as usize, length as usize);
-        if length < MIN_TRANSFER || length > MAX_TRANSFER {
+        if length < MIN_TRANSFER || length > transfer_size(self.unit) {
             return code_alone(INVALID_TRANSFER_LENGTH);
         }
         let image = lent.image(self.at_hand.component);

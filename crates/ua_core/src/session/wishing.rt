@@ -12,7 +12,7 @@ use crate::lent::{Lent, forces, key, size, version};
 use crate::planned::Planned;
 use crate::session::Session;
 use crate::state::SessionState;
-use fwup_wire::{Command, ComponentOffer, MAX_TRANSFER, TableEntry, TransferFlag, UpdateRequest};
+use fwup_wire::{Command, ComponentOffer, TableEntry, TransferFlag, UpdateRequest, transfer_size};
 
 impl Session {
     /// The command that the session wishes to ask the device, with the texts of the package. None where it waits for the
@@ -26,7 +26,7 @@ impl Session {
             SessionState::Params => Some(Command::GetFirmwareParameters),
             SessionState::ClearOld | SessionState::Cancelling => Some(Command::CancelUpdate),
             SessionState::Request => Some(Command::RequestUpdate(UpdateRequest {
-                transfer_size: MAX_TRANSFER as u32,
+                transfer_size: transfer_size(self.unit) as u32,
                 components: self.job.plan.len() as u16,
                 outstanding: 1,
                 package_data_length: 0,

@@ -8,6 +8,7 @@ use crate::tests::steps::perfect;
 use fd_core::State;
 use fw_package::Package;
 use fw_world::{Step, replay_two};
+use mctp_wire::Unit;
 use std::alloc::{AllocError, Global};
 use std::test::Fail;
 use ua_core::{Cause, SessionState};
@@ -71,8 +72,8 @@ fn is_as_alone(among: &Small<'_>, alone: &Small<'_>) -> bool {
 fn is_updated_as_alone<'a>(alloc: Global, packages: &'a [Package<'a>]) -> Result<bool, AllocError> {
     let for_all = schedule(alloc, true)?;
     let for_one = schedule(alloc, false)?;
-    let mut among = world(alloc, packages, 3, 1)?;
-    let mut alone = world(alloc, packages, 1, 1)?;
+    let mut among = world(alloc, Unit::U64, packages, 3, 1)?;
+    let mut alone = world(alloc, Unit::U64, packages, 1, 1)?;
     let (first, second) = replay_two(&mut among, &for_all, &mut alone, &for_one, DEVICE);
     Ok(first.is_ok() && second.is_ok() && is_as_alone(&among, &alone))
 }

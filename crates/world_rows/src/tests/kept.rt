@@ -7,6 +7,7 @@ use exch_lane::SentPacket;
 use fd_core::{State, Verdict};
 use fw_world::{Missed, Refusal, Step, StepFault};
 use fwup_wire::Command;
+use mctp_wire::Unit;
 use std::alloc::{AllocError, Global};
 use std::test::Fail;
 
@@ -98,7 +99,7 @@ fn is_same(world: &Small<'_>, one: usize, other: usize) -> bool {
 fn a_late_request_meets_its_kept_answer(rt: HostRuntime) -> Result<(), Fail> {
     let bytes = file(rt.alloc())?;
     let packages = [package(&bytes)?];
-    let mut world = world(rt.alloc(), &packages, 1, 2)?;
+    let mut world = world(rt.alloc(), Unit::U64, &packages, 1, 2)?;
     let late = Step::Deliver(DEVICE, 14, DEVICE);
     step(&mut world, &Step::Start(DEVICE, 1))?;
     let mut delivered = 0;

@@ -7,6 +7,7 @@ use crate::tests::steps::perfect;
 use fd_core::{Bank, State};
 use fw_package::Package;
 use fw_world::{Event, Image, Step, StepFault};
+use mctp_wire::Unit;
 use std::alloc::{AllocError, Global};
 use std::test::Fail;
 use ua_core::{Cause, SessionState};
@@ -84,9 +85,9 @@ fn is_failed(world: &Small<'_>) -> bool {
 
 /// The worked world, asked for once more where memory for it is refused.
 fn asked_twice<'a>(alloc: Global, packages: &'a [Package<'a>]) -> Result<Small<'a>, AllocError> {
-    match world(alloc, packages, 1, 1) {
+    match world(alloc, Unit::U64, packages, 1, 1) {
         Ok(made) => Ok(made),
-        Err(_) => world(alloc, packages, 1, 1),
+        Err(_) => world(alloc, Unit::U64, packages, 1, 1),
     }
 }
 

@@ -2,38 +2,72 @@
 
 use crate::tests::clocks::{Clocks, missed_by};
 use crate::tests::dice::Dice;
-use crate::tests::headers::{THREE_FIRST, THREE_SECOND, TWO_FIRST, TWO_SECOND};
+use crate::tests::headers::{
+    LONG_FIRST, LONG_SECOND, THREE_FIRST, THREE_SECOND, TWO_FIRST, TWO_SECOND,
+};
 use crate::tests::packages::package;
 use crate::tests::setup::{Small, step, world};
 use crate::tests::watch::{Watch, byte_of, size_of};
 use fd_core::Verdict;
 use fw_package::{Package, PackageFault};
 use fw_world::{Refusal, Step, StepFault};
+use mctp_wire::Unit;
 use std::alloc::{AllocError, Global};
 use std::test::Fail;
 
-/// How many schedules of each kind, and how many ticks each.
-const SCHEDULES: u64 = 10_000;
-
+/// How many ticks each schedule has.
 const TICKS: u32 = 90;
 
 const DEVICES: [u8; 2] = [9, 10];
 
-/// The file of a package: its header, and the image of each component.
-fn file(
-    alloc: Global,
-    header: &[u8],
-    package: usize,
+/// Schedules of a kind: how many, the network's transmission unit, the headers of both packages, how many components a device has,
+/// and how often the size of their images is stretched.
+#[derive(Clone, Copy)]
+struct Kind {
+    schedules: u32,
+    unit: Unit,
+    headers: [&'static [u8]; 2],
     components: usize,
-) -> Result<Vec<u8>, AllocError> {
-    let mut out = Vec::new(alloc);
-    out.extend_from_slice(header)?;
-    for component in 0..components {
-        for i in 0..size_of(package, component) {
-            out.push(byte_of(package, component, i))?;
+    stretch: u8,
+}
+
+const TWO: Kind = Kind {
+    schedules: 10_000,
+    unit: Unit::U64,
+    headers: [TWO_FIRST, TWO_SECOND],
+    components: 2,
+    stretch: 1,
+};
+
+/// Images of one piece or two, each of up to 496 bytes, which four packets of 128 bytes carry.
+const LONG: Kind = Kind {
+    schedules: 2_000,
+    unit: Unit::U128,
+    headers: [LONG_FIRST, LONG_SECOND],
+    components: 2,
+    stretch: 12,
+};
+
+const THREE: Kind = Kind {
+    schedules: 10_000,
+    unit: Unit::U64,
+    headers: [THREE_FIRST, THREE_SECOND],
+    components: 3,
+    stretch: 1,
+};
+
+impl Kind {
+    /// The file of a package, counted from 0: its header, and the image of each component.
+    fn file(&self, alloc: Global, package: usize) -> Result<Vec<u8>, AllocError> {
+        let mut out = Vec::new(alloc);
+        out.extend_from_slice(self.headers[package % 2])?;
+        for component in 0..self.components {
+            for i in 0..size_of(package, component, self.stretch) {
+                out.push(byte_of(package, component, i))?;
+            }
         }
+        Ok(out)
     }
-    Ok(out)
 }
 
 /// A world that takes random steps, and what its history shows.
@@ -176,18 +210,18 @@ impl<'a> Trial<'a> {
     }
 }
 
-/// How many activations so many schedules reach; None where a history isn't safe, or a node doesn't keep time.
+/// How many activations the schedules reach; None where a history isn't safe, or a node doesn't keep time.
 fn activations<'p>(
     alloc: Global,
     packages: &'p [Package<'p>],
-    components: usize,
+    kind: &Kind,
 ) -> Result<Option<u32>, Fail> {
     let mut all = 0u32;
-    for seed in 0..SCHEDULES {
+    for seed in 0..kind.schedules {
         let mut trial = Trial {
-            world: world(alloc, packages, 2, components)?,
-            dice: Dice::new(seed.wrapping_mul(0x9E37_79B9_7F4A_7C15)),
-            watch: Watch::new(),
+            world: world(alloc, kind.unit, packages, 2, kind.components)?,
+            dice: Dice::new(u64::from(seed).wrapping_mul(0x9E37_79B9_7F4A_7C15)),
+            watch: Watch::new(kind.stretch),
             clocks: Clocks::new(),
             handed: [0, 0],
         };
@@ -205,31 +239,41 @@ fn packages_of<'a>(first: &'a [u8], second: &'a [u8]) -> Result<[Package<'a>; 2]
     Ok([package(first)?, package(second)?])
 }
 
-/// Tells how many activations the schedules over two packages reach, and that they are many and safe.
-fn many_are_safe(
-    rt: &HostRuntime,
-    first: &[u8],
-    second: &[u8],
-    components: usize,
-) -> Result<bool, Fail> {
-    let first = file(rt.alloc(), first, 0, components)?;
-    let second = file(rt.alloc(), second, 1, components)?;
+/// Tells how many activations the schedules over two packages reach, and that they are safe, and more than one of five schedules.
+fn many_are_safe(rt: &HostRuntime, kind: &Kind) -> Result<bool, Fail> {
+    let first = kind.file(rt.alloc(), 0)?;
+    let second = kind.file(rt.alloc(), 1)?;
     let packages = packages_of(&first, &second)?;
-    let Some(count) = activations(rt.alloc(), &packages, components)? else {
+    let Some(count) = activations(rt.alloc(), &packages, kind)? else {
         return Ok(false);
     };
-    println!(rt; "{SCHEDULES} schedules of {components} components: {count} activations")?;
-    Ok(count > 2_000)
+    let Kind {
+        schedules,
+        unit,
+        components,
+        ..
+    } = *kind;
+    let bytes = unit.bytes();
+    println!(rt;
+        "{schedules} schedules of {components} components at {bytes} bytes: {count} activations"
+    )?;
+    Ok(count > schedules / 5)
 }
 
 #[test]
 fn random_schedules_of_two_components_are_safe(rt: HostRuntime) -> Result<(), Fail> {
-    assert!(rt; many_are_safe(&rt, TWO_FIRST, TWO_SECOND, 2)?);
+    assert!(rt; many_are_safe(&rt, &TWO)?);
+    Ok(())
+}
+
+#[test]
+fn random_schedules_at_128_bytes_are_safe(rt: HostRuntime) -> Result<(), Fail> {
+    assert!(rt; many_are_safe(&rt, &LONG)?);
     Ok(())
 }
 
 #[test]
 fn random_schedules_of_three_components_are_safe(rt: HostRuntime) -> Result<(), Fail> {
-    assert!(rt; many_are_safe(&rt, THREE_FIRST, THREE_SECOND, 3)?);
+    assert!(rt; many_are_safe(&rt, &THREE)?);
     Ok(())
 }

@@ -15,6 +15,7 @@ use fw_package::Package;
 use fw_world::{Step, StepFault, World};
 use fwup_wire::{Descriptor, DescriptorList, Text, Version};
 use mctp_ctl::Endpoint;
+use mctp_wire::Unit;
 use std::alloc::{AllocError, Global};
 use uuid::Uuid;
 
@@ -73,7 +74,8 @@ fn label() -> Label {
 }
 
 /// A device of so many components, 1 to 3: (10, 1) to (10, 3).
-fn device(alloc: Global, count: usize) -> Result<Device<MemBank>, AllocError>
+fn device(alloc: Global, unit: Unit, count: usize) -> Result<Device<MemBank>, AllocError>
+    ensures unit { IfOk result (λ d. d.device.unit ≡ unit) }
     ensures components { IfOk result (λ d. HasComponents d.device) }
     ensures idle { IfOk result (λ d. d.device.phase ≡ Phase.Idle) }
     ensures unapplied { IfOk result (λ d. AllByRecursion IsUnapplied d.device.rows) }
@@ -85,7 +87,7 @@ fn device(alloc: Global, count: usize) -> Result<Device<MemBank>, AllocError>
     };
     components.push(Component { key: KEY, index: 0 });
     if count == 1 {
-        return Ok(Device::new(descriptors(), components, bank));
+        return Ok(Device::new(unit, descriptors(), components, bank));
     }
     let Ok(()) = bank.add(SECOND, &label(), &[0xAA]) else {
         return Err(AllocError);
@@ -95,7 +97,7 @@ fn device(alloc: Global, count: usize) -> Result<Device<MemBank>, AllocError>
         index: 1,
     });
     if count == 2 {
-        return Ok(Device::new(descriptors(), components, bank));
+        return Ok(Device::new(unit, descriptors(), components, bank));
     }
     let Ok(()) = bank.add(THIRD, &label(), &[0xAA]) else {
         return Err(AllocError);
@@ -104,44 +106,53 @@ fn device(alloc: Global, count: usize) -> Result<Device<MemBank>, AllocError>
         key: THIRD,
         index: 2,
     });
-    Ok(Device::new(descriptors(), components, bank))
+    Ok(Device::new(unit, descriptors(), components, bank))
 }
 
 /// The node of such a device.
 #[tactic(auto, using(crate::proofs::Opening::new_node))]
-fn node(alloc: Global, eid: u8, components: usize) -> Result<DeviceNode<MemBank>, AllocError>
+fn node(
+    alloc: Global,
+    unit: Unit,
+    eid: u8,
+    components: usize,
+) -> Result<DeviceNode<MemBank>, AllocError>
     requires { IsEid eid }
-    ensures new { IfOk result (IsNewNode 8) }
+    ensures new { IfOk result (IsNewNode unit 8) }
+    ensures unit { IfOk result (λ n. n.half.unit ≡ unit) }
     ensures eid { IfOk result (λ n. n.endpoint.eid ≡ eid) }
 {
-    let device = device(alloc, components)?;
+    let device = device(alloc, unit, components)?;
     Ok(DeviceNode::new(endpoint(eid), 8, device))
 }
 
 /// The nodes of so many such devices, 1 to 3: 9 to 11.
 fn nodes(
     alloc: Global,
+    unit: Unit,
     devices: usize,
     components: usize,
 ) -> Result<Vec<DeviceNode<MemBank>>, AllocError>
     ensures { IfOk result (λ ns. AreNewNodes 8 ns.items) }
 {
     let mut nodes = Vec::new(alloc);
-    nodes.push(node(alloc, DEVICE, components)?)?;
+    nodes.push(node(alloc, unit, DEVICE, components)?)?;
     if devices == 1 {
         return Ok(nodes);
     }
-    nodes.push(node(alloc, 10, components)?)?;
+    nodes.push(node(alloc, unit, 10, components)?)?;
     if devices == 2 {
         return Ok(nodes);
     }
-    nodes.push(node(alloc, 11, components)?)?;
+    nodes.push(node(alloc, unit, 11, components)?)?;
     Ok(nodes)
 }
 
-/// The world of the agent 8 and so many devices alike, 1 to 3, of so many components, 1 to 3.
+/// The world of the agent 8 and so many devices alike, 1 to 3, of so many components, 1 to 3, on a network of this transmission
+/// unit.
 pub fn world<'a>(
     alloc: Global,
+    unit: Unit,
     packages: &'a [Package<'a>],
     devices: usize,
     components: usize,
@@ -149,7 +160,7 @@ pub fn world<'a>(
     World::new(
         alloc,
         endpoint(8),
-        nodes(alloc, devices, components)?,
+        nodes(alloc, unit, devices, components)?,
         packages,
     )
 }

@@ -16,14 +16,14 @@ pub fn byte_of(package: usize, component: usize, i: usize) -> u8 {
     byte
 }
 
-/// The size of that image.
-pub fn size_of(package: usize, component: usize) -> usize {
-    38 + 20 * (component % 3) + 5 * (package % 2)
+/// The size of that image, where sizes are stretched so many times, 1 to 12.
+pub fn size_of(package: usize, component: usize, stretch: u8) -> usize {
+    (38 + 20 * (component % 3) + 5 * (package % 2)).saturating_mul(usize::from(stretch))
 }
 
-/// Whether bytes are a package's image for a component.
-fn is_image(package: usize, component: usize, bytes: &[u8]) -> bool {
-    if bytes.len() != size_of(package, component) {
+/// Whether bytes are a package's image for a component, of a size that is stretched so many times.
+fn is_image(package: usize, component: usize, stretch: u8, bytes: &[u8]) -> bool {
+    if bytes.len() != size_of(package, component, stretch) {
         return false;
     }
     for (i, byte) in bytes.iter().enumerate() {
@@ -34,10 +34,11 @@ fn is_image(package: usize, component: usize, bytes: &[u8]) -> bool {
     true
 }
 
-/// What was seen of a device: how often each component was applied and recorded, which were recorded since the last activation,
-/// which stood recorded before the one that goes on, and its package.
+/// What was seen of a device, whose images are stretched so many times: how often each component was applied and recorded, which
+/// were recorded since the last activation, which stood recorded before the one that goes on, and its package.
 #[derive(Clone, Copy)]
 struct Seen {
+    stretch: u8,
     applied: Table,
     recorded: Table,
     since: Table,
@@ -55,9 +56,10 @@ pub struct Watch {
 }
 
 impl Watch {
-    /// Nothing is seen yet.
-    pub fn new() -> Watch {
+    /// Nothing is seen yet of devices whose images are stretched so many times.
+    pub fn new(stretch: u8) -> Watch {
         let nothing = Seen {
+            stretch,
             applied: [[0; COMPONENTS]; PACKAGES],
             recorded: [[0; COMPONENTS]; PACKAGES],
             since: [[0; COMPONENTS]; PACKAGES],
@@ -145,7 +147,7 @@ impl Seen {
         self.package = None;
         let component = component_of(image);
         for package in 0..PACKAGES {
-            if is_image(package, component, &image.bytes) {
+            if is_image(package, component, self.stretch, &image.bytes) {
                 return count(&mut self.applied, package, component).is_some();
             }
         }
@@ -169,7 +171,7 @@ impl Seen {
             self.before = self.since;
             self.since = [[0; COMPONENTS]; PACKAGES];
             for package in 0..PACKAGES {
-                if is_image(package, component, &image.bytes) {
+                if is_image(package, component, self.stretch, &image.bytes) {
                     self.package = Some(package);
                 }
             }
@@ -177,6 +179,7 @@ impl Seen {
         let Some(package) = self.package else {
             return false;
         };
-        times(&self.before, package, component) > 0 && is_image(package, component, &image.bytes)
+        times(&self.before, package, component) > 0
+            && is_image(package, component, self.stretch, &image.bytes)
     }
 }

@@ -7,11 +7,11 @@ pub returns-in-Err-read_up_to-clause-fault : goal.returns-in-Err-read_up_to-clau
 returns-in-Err-read_up_to-clause-fault g c =
     let two : length c.in-Ok.head.items ≡ 2 = omega (arith, c.in-Ok.ensures.within, c.len.ensures.value) in
     let is : c.from-size.result ≡ little_number 2 c.in-Ok.head.items = c.from-size.ensures ∙ c.read_u16.ensures ∙ ap (little_number 2) c.as_slice.ensures.value in
-    part_after _ _ _ c.in-Ok.head.items c.from-size.result two is (omega arith) c.in-Ok.ensures.bytes c.in-Err-read_up_to.ensures.part
+    part_after c.args.unit _ _ _ c.in-Ok.head.items c.from-size.result two is (omega arith) c.in-Ok.ensures.bytes c.in-Err-read_up_to.ensures.part
 
 pub returns-then-len-size-clause-fault : goal.returns-then-len-size-clause-fault
 returns-then-len-size-clause-fault g c =
     let two : length c.in-Ok.head.items ≡ 2 = omega (arith, c.in-Ok.ensures.within, c.len.ensures.value) in
     let is : c.from-size.result ≡ little_number 2 c.in-Ok.head.items = c.from-size.ensures ∙ c.read_u16.ensures ∙ ap (little_number 2) c.as_slice.ensures.value in
     let less : length c.in-Ok-read_up_to.packet.items < c.from-size.result = omega (arith, c.len-2.ensures.value) in
-    ends_after _ _ _ c.in-Ok.head.items c.in-Ok-read_up_to.packet.items c.from-size.result two is (omega arith) c.in-Ok.ensures.bytes c.in-Ok-read_up_to.ensures.bytes less (c.in-Ok-read_up_to.ensures.end less)
+    ends_after c.args.unit _ _ _ c.in-Ok.head.items c.in-Ok-read_up_to.packet.items c.from-size.result two is (omega arith) c.in-Ok.ensures.bytes c.in-Ok-read_up_to.ensures.bytes less (c.in-Ok-read_up_to.ensures.end less)

@@ -1,7 +1,6 @@
 use Rattle.std.proofs.Common.{◌∙◌, Some, ap, get_or, sym}
 use Rattle.fw_node.specs.Agents.{hears_at}
 use Rattle.fw_node.specs.AgentViews.{agent_of, half_in}
-use Rattle.fw_node.specs.Packets.{all_packets}
 use Rattle.fw_node.proofs.Loops.{at_place}
 use Rattle.fw_node.proofs.HalfHears.{heard_agent}
 use Rattle.fw_node.proofs.agent_node.hear_at.Goals as goal
@@ -19,4 +18,4 @@ returns-clause-sent c =
     let x = get_or c.args.halves.now c.args.place c.index-halves-place.result in
     let is = ap (get_or c.args.halves.now c.args.place) c.index-halves-place.is in
     c.hear.ensures.packets
-    ∙ ap (λ h. all_packets (hears_at c.args.packages.now (agent_of 0 c.args.identity.now c.args.log.now c.args.halves.now) c.args.bytes.now c.args.now (Some c.args.place) h).sent) (sym (at_place (half_in 0) c.args.halves.now c.args.place x c.requires.place is))
+    ∙ ap (λ h. (hears_at c.args.packages.now (agent_of 0 c.args.identity.now c.args.log.now c.args.halves.now) c.args.bytes.now c.args.now (Some c.args.place) h).sent) (sym (at_place (half_in 0) c.args.halves.now c.args.place x c.requires.place is))

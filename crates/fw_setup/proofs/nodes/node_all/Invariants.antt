@@ -13,6 +13,6 @@ decreases-loop-alloc l = length l.devices.items
 abbrev pub invariant-loop-alloc : goal.invariant-loop-alloc
 invariant-loop-alloc l = record {
   whole : AllByRecursion IsDevice (map device_of l.devices.items);
-  is : l.nodes.items ++ nodes_made l.agent (map device_of l.devices.items) ≡ nodes_made l.agent (map device_of l.fn.devices.items);
-  new : AllByRecursion (IsNewNode l.agent) l.nodes.items;
+  is : l.nodes.items ++ nodes_made l.unit l.agent (map device_of l.devices.items) ≡ nodes_made l.unit l.agent (map device_of l.fn.devices.items);
+  new : AllByRecursion (IsNewNode l.unit l.agent) l.nodes.items;
 }

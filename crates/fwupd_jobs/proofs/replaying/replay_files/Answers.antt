@@ -14,29 +14,29 @@ packages_in-requires g c =
 
 pub returns-in-Err-schedule-clause-fault : goal.returns-in-Err-schedule-clause-fault
 returns-in-Err-schedule-clause-fault g c =
-    schedule_ends (g.F.Files.holds c.args.files.now) c.args.config.now c.args.steps.now c.args.form (new_world c.in-Ok.config.agent (nodes_made c.in-Ok.config.agent.eid (map device_of c.in-Ok.config.devices.items)) c.in-Ok-packages_in.packages.items) c.in-Err-schedule.fault c.args.output.now
+    schedule_ends (g.F.Files.holds c.args.files.now) c.args.config.now c.args.steps.now c.args.form (new_world c.in-Ok.config.agent (nodes_made c.in-Ok.config.unit c.in-Ok.config.agent.eid (map device_of c.in-Ok.config.devices.items)) c.in-Ok-packages_in.packages.items) c.in-Err-schedule.fault c.args.output.now
     (set_up (g.F.Files.holds c.args.files.now) c.args.config.now c.in-Ok.config c.as_slice.result.now c.in-Ok-package_files.contents.items c.as_slice-2.result.now c.in-Ok-packages_in.packages.items
-    c.in-Ok-packages_in.packages.items (nodes_made c.in-Ok.config.agent.eid (map device_of c.in-Ok.config.devices.items)) (new_world c.in-Ok.config.agent (nodes_made c.in-Ok.config.agent.eid (map device_of c.in-Ok.config.devices.items)) c.in-Ok-packages_in.packages.items)
+    c.in-Ok-packages_in.packages.items (nodes_made c.in-Ok.config.unit c.in-Ok.config.agent.eid (map device_of c.in-Ok.config.devices.items)) (new_world c.in-Ok.config.agent (nodes_made c.in-Ok.config.unit c.in-Ok.config.agent.eid (map device_of c.in-Ok.config.devices.items)) c.in-Ok-packages_in.packages.items)
     c.in-Ok.ensures.says c.as_slice.ensures.value c.in-Ok-package_files.ensures.packed c.as_slice-2.ensures.value c.in-Ok-packages_in.ensures.is refl refl refl)
     c.in-Err-schedule.ensures.fault
 
 pub returns-in-Err-write-clause-fault : goal.returns-in-Err-write-clause-fault
 returns-in-Err-write-clause-fault g c =
     breaks_off (g.F.Files.holds c.args.files.now) c.args.config.now c.args.steps.now c.args.form c.in-Ok-replayed.outcome.fault c.in-Ok-replayed.outcome.report.items c.args.output.now c.write.new.self
-    (report_there (g.F.Files.holds c.args.files.now) c.args.config.now c.args.steps.now c.args.form (new_world c.in-Ok.config.agent (nodes_made c.in-Ok.config.agent.eid (map device_of c.in-Ok.config.devices.items)) c.as_slice-3.result.now) c.in-Ok-schedule.steps.items c.as_slice-4.result.now c.in-Ok-replayed.outcome.fault c.in-Ok-replayed.outcome.report.items
+    (report_there (g.F.Files.holds c.args.files.now) c.args.config.now c.args.steps.now c.args.form (new_world c.in-Ok.config.agent (nodes_made c.in-Ok.config.unit c.in-Ok.config.agent.eid (map device_of c.in-Ok.config.devices.items)) c.as_slice-3.result.now) c.in-Ok-schedule.steps.items c.as_slice-4.result.now c.in-Ok-replayed.outcome.fault c.in-Ok-replayed.outcome.report.items
     (set_up (g.F.Files.holds c.args.files.now) c.args.config.now c.in-Ok.config c.as_slice.result.now c.in-Ok-package_files.contents.items c.as_slice-2.result.now c.in-Ok-packages_in.packages.items
-    c.as_slice-3.result.now (nodes_made c.in-Ok.config.agent.eid (map device_of c.in-Ok.config.devices.items)) (new_world c.in-Ok.config.agent (nodes_made c.in-Ok.config.agent.eid (map device_of c.in-Ok.config.devices.items)) c.as_slice-3.result.now)
+    c.as_slice-3.result.now (nodes_made c.in-Ok.config.unit c.in-Ok.config.agent.eid (map device_of c.in-Ok.config.devices.items)) (new_world c.in-Ok.config.agent (nodes_made c.in-Ok.config.unit c.in-Ok.config.agent.eid (map device_of c.in-Ok.config.devices.items)) c.as_slice-3.result.now)
     c.in-Ok.ensures.says c.as_slice.ensures.value c.in-Ok-package_files.ensures.packed c.as_slice-2.ensures.value c.in-Ok-packages_in.ensures.is refl c.as_slice-3.ensures.value refl)
     c.in-Ok-schedule.ensures.says c.as_slice-4.ensures.value c.in-Ok-replayed.ensures)
     (rw c.deref.ensures.value at c.in-Err-write.ensures.failed)
 
 pub returns-in-Some-clause-fault : goal.returns-in-Some-clause-fault
 returns-in-Some-clause-fault g c =
-    let less = place_within (new_world c.in-Ok.config.agent (nodes_made c.in-Ok.config.agent.eid (map device_of c.in-Ok.config.devices.items)) c.as_slice-3.result.now) c.as_slice-4.result.now c.in-Ok-replayed.outcome.fault c.args.form c.in-Ok-replayed.outcome.report.items c.in-Some.place c.in-Some.fault c.in-Ok-replayed.ensures c.in-Some.is in
+    let less = place_within (new_world c.in-Ok.config.agent (nodes_made c.in-Ok.config.unit c.in-Ok.config.agent.eid (map device_of c.in-Ok.config.devices.items)) c.as_slice-3.result.now) c.as_slice-4.result.now c.in-Ok-replayed.outcome.fault c.args.form c.in-Ok-replayed.outcome.report.items c.in-Some.place c.in-Some.fault c.in-Ok-replayed.ensures c.in-Some.is in
     step_ends (g.F.Files.holds c.args.files.now) c.args.config.now c.args.steps.now c.args.form c.in-Ok-replayed.outcome.fault c.in-Ok-replayed.outcome.report.items c.in-Some.place c.saturating_add.result c.in-Some.fault c.args.output.now c.write.new.self
-    (report_there (g.F.Files.holds c.args.files.now) c.args.config.now c.args.steps.now c.args.form (new_world c.in-Ok.config.agent (nodes_made c.in-Ok.config.agent.eid (map device_of c.in-Ok.config.devices.items)) c.as_slice-3.result.now) c.in-Ok-schedule.steps.items c.as_slice-4.result.now c.in-Ok-replayed.outcome.fault c.in-Ok-replayed.outcome.report.items
+    (report_there (g.F.Files.holds c.args.files.now) c.args.config.now c.args.steps.now c.args.form (new_world c.in-Ok.config.agent (nodes_made c.in-Ok.config.unit c.in-Ok.config.agent.eid (map device_of c.in-Ok.config.devices.items)) c.as_slice-3.result.now) c.in-Ok-schedule.steps.items c.as_slice-4.result.now c.in-Ok-replayed.outcome.fault c.in-Ok-replayed.outcome.report.items
     (set_up (g.F.Files.holds c.args.files.now) c.args.config.now c.in-Ok.config c.as_slice.result.now c.in-Ok-package_files.contents.items c.as_slice-2.result.now c.in-Ok-packages_in.packages.items
-    c.as_slice-3.result.now (nodes_made c.in-Ok.config.agent.eid (map device_of c.in-Ok.config.devices.items)) (new_world c.in-Ok.config.agent (nodes_made c.in-Ok.config.agent.eid (map device_of c.in-Ok.config.devices.items)) c.as_slice-3.result.now)
+    c.as_slice-3.result.now (nodes_made c.in-Ok.config.unit c.in-Ok.config.agent.eid (map device_of c.in-Ok.config.devices.items)) (new_world c.in-Ok.config.agent (nodes_made c.in-Ok.config.unit c.in-Ok.config.agent.eid (map device_of c.in-Ok.config.devices.items)) c.as_slice-3.result.now)
     c.in-Ok.ensures.says c.as_slice.ensures.value c.in-Ok-package_files.ensures.packed c.as_slice-2.ensures.value c.in-Ok-packages_in.ensures.is refl c.as_slice-3.ensures.value refl)
     c.in-Ok-schedule.ensures.says c.as_slice-4.ensures.value c.in-Ok-replayed.ensures)
     c.in-Some.is (omega (arith, c.saturating_add.ensures, c.as_slice-4.type_inv)) (rw c.deref.ensures.value at c.in-Ok-write.ensures.ok)
@@ -44,9 +44,9 @@ returns-in-Some-clause-fault g c =
 pub returns-clause-ok : goal.returns-clause-ok
 returns-clause-ok g c =
     replay_reports (g.F.Files.holds c.args.files.now) c.args.config.now c.args.steps.now c.args.form c.in-Ok-replayed.outcome.fault c.in-Ok-replayed.outcome.report.items c.args.output.now c.write.new.self
-    (report_there (g.F.Files.holds c.args.files.now) c.args.config.now c.args.steps.now c.args.form (new_world c.in-Ok.config.agent (nodes_made c.in-Ok.config.agent.eid (map device_of c.in-Ok.config.devices.items)) c.as_slice-3.result.now) c.in-Ok-schedule.steps.items c.as_slice-4.result.now c.in-Ok-replayed.outcome.fault c.in-Ok-replayed.outcome.report.items
+    (report_there (g.F.Files.holds c.args.files.now) c.args.config.now c.args.steps.now c.args.form (new_world c.in-Ok.config.agent (nodes_made c.in-Ok.config.unit c.in-Ok.config.agent.eid (map device_of c.in-Ok.config.devices.items)) c.as_slice-3.result.now) c.in-Ok-schedule.steps.items c.as_slice-4.result.now c.in-Ok-replayed.outcome.fault c.in-Ok-replayed.outcome.report.items
     (set_up (g.F.Files.holds c.args.files.now) c.args.config.now c.in-Ok.config c.as_slice.result.now c.in-Ok-package_files.contents.items c.as_slice-2.result.now c.in-Ok-packages_in.packages.items
-    c.as_slice-3.result.now (nodes_made c.in-Ok.config.agent.eid (map device_of c.in-Ok.config.devices.items)) (new_world c.in-Ok.config.agent (nodes_made c.in-Ok.config.agent.eid (map device_of c.in-Ok.config.devices.items)) c.as_slice-3.result.now)
+    c.as_slice-3.result.now (nodes_made c.in-Ok.config.unit c.in-Ok.config.agent.eid (map device_of c.in-Ok.config.devices.items)) (new_world c.in-Ok.config.agent (nodes_made c.in-Ok.config.unit c.in-Ok.config.agent.eid (map device_of c.in-Ok.config.devices.items)) c.as_slice-3.result.now)
     c.in-Ok.ensures.says c.as_slice.ensures.value c.in-Ok-package_files.ensures.packed c.as_slice-2.ensures.value c.in-Ok-packages_in.ensures.is refl c.as_slice-3.ensures.value refl)
     c.in-Ok-schedule.ensures.says c.as_slice-4.ensures.value c.in-Ok-replayed.ensures)
     c.in-None.is (rw c.deref.ensures.value at c.in-Ok-write.ensures.ok)

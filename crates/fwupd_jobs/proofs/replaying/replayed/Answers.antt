@@ -9,7 +9,7 @@ use Rattle.fwupd_jobs.proofs.replaying.replayed.Goals as goal
 
 pub returns : goal.returns
 returns c =
-    replayed_by (new_world c.args.agent (nodes_made c.args.agent.eid (map device_of c.args.devices.items)) c.args.packages.now) c.in_ok-world.world c.replay.new.world c.args.steps.now
+    replayed_by (new_world c.args.agent (nodes_made c.args.unit c.args.agent.eid (map device_of c.args.devices.items)) c.args.packages.now) c.in_ok-world.world c.replay.new.world c.args.steps.now
     c.match-replay.fault c.args.form c.in_ok-report.report.items c.in_ok-world.ensures.made c.in_ok-world.ensures.opens c.packets_are_safe.ensures.law
     (elim c.match-replay.branch [
       | in-Ok h ↦ subst (λ f. Leaves c.in_ok-world.world c.args.steps.now f c.replay.new.world) (sym h.fault-is) h.in-Ok.ensures.ok

@@ -9,7 +9,7 @@ use Rattle.fw_node.proofs.agent_node.AgentNode.on_packet.Goals as goal
 
 pub returns-then-self-gt0-clause-told : goal.returns-then-self-gt0-clause-told
 returns-then-self-gt0-clause-told c =
-    subst (λ n. IfSome (hearer n c.args.bytes.now) (λ h. IsTold (half_hears (session_core c.args.packages.now) true h c.args.bytes.now))) c.self.view_is
+    subst (λ n. IfSome (hearer n c.args.bytes.now) (λ h. IsTold h.core.session.unit (half_hears (session_core c.args.packages.now) true h c.args.bytes.now))) c.self.view_is
     (told_deaf c.args.packages.now c.self.inside.deaf c.self.inside.identity c.self.inside.log c.self.inside.halves.items c.args.bytes.now (omega (arith, c.if-self-gt0.true)))
 
 pub returns-then-self-gt0-clause-spoken : goal.returns-then-self-gt0-clause-spoken
@@ -20,9 +20,9 @@ returns-then-self-gt0-clause-spoken c =
 pub returns-clause-told : goal.returns-clause-told
 returns-clause-told c =
     let hears : c.self.inside.deaf ≡ 0 = omega (arith, c.if-self-gt0.false) in
-    subst (λ n. IfSome (hearer n c.args.bytes.now) (λ h. IsTold (half_hears (session_core c.args.packages.now) true h c.args.bytes.now))) c.self.view_is
-    (subst (λ deaf. IfSome (hearer (agent_of deaf c.self.inside.identity c.self.inside.log c.self.inside.halves.items) c.args.bytes.now) (λ h. IsTold (half_hears (session_core c.args.packages.now) true h c.args.bytes.now))) (sym hears)
-    (hearer_there c.self.inside.identity c.self.inside.log c.self.inside.halves.items c.args.bytes.now (Some c.in-Some.place) (λ h. IsTold (half_hears (session_core c.args.packages.now) true h c.args.bytes.now))
+    subst (λ n. IfSome (hearer n c.args.bytes.now) (λ h. IsTold h.core.session.unit (half_hears (session_core c.args.packages.now) true h c.args.bytes.now))) c.self.view_is
+    (subst (λ deaf. IfSome (hearer (agent_of deaf c.self.inside.identity c.self.inside.log c.self.inside.halves.items) c.args.bytes.now) (λ h. IsTold h.core.session.unit (half_hears (session_core c.args.packages.now) true h c.args.bytes.now))) (sym hears)
+    (hearer_there c.self.inside.identity c.self.inside.log c.self.inside.halves.items c.args.bytes.now (Some c.in-Some.place) (λ h. IsTold h.core.session.unit (half_hears (session_core c.args.packages.now) true h c.args.bytes.now))
     (rw c.as_slice.ensures.value at c.in-Some.ensures.place) (rw c.as_mut_slice.ensures.value at c.hear_at.ensures.told)))
 
 pub returns-clause-spoken : goal.returns-clause-spoken

@@ -12,6 +12,6 @@ returns-clause-told c =
     let k = command_of c.args.command.now in
     let s = c.args.self.now.session in
     let lent = c.of-lent.ensures ∙ ap (package_at c.args.packages.now) c.package.ensures in
-    let few : length c.take.result.items ≤ reply_limit = search rules in
-    subst (λ p. IsHeardAgain k (agent_answer p s k)) lent
-    (heard_again k (agent_answer c.of-lent.result s k) c.take.result.items c.take.ensures.answer c.take.ensures.reads few)
+    let few : length c.take.result.items ≤ reply_limit s.unit = search rules in
+    subst (λ p. IsHeardAgain s.unit k (agent_answer p s k)) lent
+    (heard_again s.unit k (agent_answer c.of-lent.result s k) c.take.result.items c.take.ensures.answer c.take.ensures.reads few)

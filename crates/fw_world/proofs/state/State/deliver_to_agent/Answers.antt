@@ -7,4 +7,4 @@ use Rattle.fw_world.proofs.state.State.deliver_to_agent.Goals as goal
 
 pub returns-clause-told : goal.returns-clause-told
 returns-clause-told g c =
-    subst (λ w. IfSome (hearer w.agent c.args.bytes.now) (λ h. IsTold (half_hears (session_core w.packages) true h c.args.bytes.now))) c.self.view_is c.hear_noting.ensures.told
+    subst (λ w. IfSome (hearer w.agent c.args.bytes.now) (λ h. IsTold h.core.session.unit (half_hears (session_core w.packages) true h c.args.bytes.now))) c.self.view_is c.hear_noting.ensures.told

@@ -1,0 +1,114 @@
+//! Runs at each transmission unit.
+
+use crate::tests::packages::{file, package};
+use crate::tests::setup::{
+    DEVICE, Small, driven, is_updated, runs_first, stands, start, tells, world,
+};
+use exch_lane::SentPacket;
+use fd_core::State;
+use fw_edge::{Driven, MemLink};
+use mctp_wire::Unit;
+use std::alloc::Global;
+use std::test::Fail;
+use ua_core::SessionState;
+
+/// The worked update over a perfect link: after how many turns and packets it is done, and the offsets and lengths of the pieces
+/// that the device asks for.
+#[derive(Clone, Copy)]
+struct Row {
+    unit: Unit,
+    turns: u32,
+    sent: usize,
+    pieces: &'static [(u32, u32)],
+}
+
+/// A piece of the image of 241 bytes has at most 16 bytes fewer than four packets carry, and at least 32.
+const ROWS: [Row; 2] = [
+    Row {
+        unit: Unit::U64,
+        turns: 12,
+        sent: 27,
+        pieces: &[(0, 240), (240, 32)],
+    },
+    Row {
+        unit: Unit::U128,
+        turns: 11,
+        sent: 23,
+        pieces: &[(0, 241)],
+    },
+];
+
+/// The offset and the length in a packet with RequestFirmwareData from the worked device.
+fn piece_in(packet: &[u8]) -> Option<(u32, u32)> {
+    match packet {
+        [
+            _,
+            8,
+            DEVICE,
+            _,
+            1,
+            0x80..=0x9F,
+            5,
+            0x15,
+            a,
+            b,
+            c,
+            d,
+            e,
+            f,
+            g,
+            h,
+        ] => Some((
+            u32::from_le_bytes([*a, *b, *c, *d]),
+            u32::from_le_bytes([*e, *f, *g, *h]),
+        )),
+        _ => None,
+    }
+}
+
+/// Whether these packets ask for these pieces, each once, and for no others.
+fn ask_for(packets: &[SentPacket], pieces: &[(u32, u32)]) -> bool {
+    let mut asked: usize = 0;
+    for packet in packets {
+        if let Some(piece) = piece_in(packet.bytes.as_slice()) {
+            if pieces.get(asked) != Some(&piece) {
+                return false;
+            }
+            asked = asked.saturating_add(1);
+        }
+    }
+    asked == pieces.len()
+}
+
+/// Whether the worked device is updated by such packets.
+fn is_updated_so(world: &Small<'_>, row: &Row) -> bool {
+    let asked = match world.packets(DEVICE) {
+        Some(packets) => ask_for(packets, row.pieces),
+        None => false,
+    };
+    asked
+        && tells(world, b"ARV")
+        && is_updated(world, DEVICE)
+        && stands(world, DEVICE, SessionState::Done, State::Activate, row.sent)
+}
+
+/// Whether the worked update goes as the row says.
+fn goes_so(alloc: Global, row: &Row) -> Result<bool, Fail> {
+    let bytes = file(alloc)?;
+    let packages = [package(&bytes)?];
+    let mut world = world(alloc, row.unit, &packages, 1, 0)?;
+    let fresh = runs_first(&world, DEVICE) && start(&mut world, DEVICE);
+    let mut steps = Vec::new(alloc);
+    let mut links = [MemLink::new(alloc)];
+    let driven = driven(&mut world, &mut links, 100, &mut steps);
+    let (turns, foreign) = (row.turns, 0);
+    Ok(fresh && driven == Ok(Driven { turns, foreign }) && is_updated_so(&world, row))
+}
+
+#[test]
+fn an_image_of_241_bytes_is_one_piece_at_128(rt: HostRuntime) -> Result<(), Fail> {
+    for row in ROWS {
+        assert!(rt; goes_so(rt.alloc(), &row)?, "{}", row.turns);
+    }
+    Ok(())
+}

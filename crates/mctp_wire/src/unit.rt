@@ -1,0 +1,28 @@
+//! How much one packet carries.
+
+ghost use Rattle.std.specs.Prelude.{◌≡◌, ◌≤◌};
+ghost use Rattle.mctp_wire.specs.Units.{bytes_of};
+
+use crate::layout::MAX_BODY;
+
+/// The transmission unit of a network: the most bytes of a packet's body, which all its nodes share (DSP0236, section 8.3).
+#[derive(Clone, Copy, Debug, PartialEq, Eq)]
+pub enum Unit {
+    /// The baseline of 64 bytes, which each medium carries.
+    U64,
+    /// 128 bytes.
+    U128,
+}
+
+impl Unit {
+    /// The most bytes of a packet's body.
+    pub fn bytes(self) -> usize
+        ensures value { result ≡ bytes_of self }
+        ensures fits { (1 ≤ result) × (result ≤ MAX_BODY) }
+    {
+        match self {
+            Unit::U64 => 64,
+            Unit::U128 => 128,
+        }
+    }
+}
