@@ -15,7 +15,7 @@ use Rattle.exch_lane.specs.Journals.{with_learnt, with_sent, with_taken}
 use Rattle.pldm_exch.specs.Ends.{AnsweringOf, AskingOf, asker_of, taker_of}
 use Rattle.exch_lane.specs.Nodes.{asker_after, asker_ticked, call_tick_of, heard_in, taker_after}
 
--- A hearing end has the same row for bytes and for the packet that they read as, and the row of no packet for other bytes.
+-- a hearing end has the same row for bytes as for the packet that they read as
 pub asker_reads : (deaf : ℕ) (a : AskingOf) (u : «Unit») (bytes : List ℕ) (p : Packet) → deaf ≡ 0 → Ok (p.head, p.body.now) ≡ wire.packet_of u bytes
     → asker_row a.unit a.own a.peer (asker_of deaf a) bytes ≡ asking_row a (spelling p)
 asker_reads deaf a u bytes p hears reads =
