@@ -1,13 +1,30 @@
 -- What a step of a lane makes of it, by the rows of its ends.
-use Rattle.std.proofs.Common.{◌≡◌, ℕ, List, ◌++◌, refl}
+use Rattle.std.proofs.Common.{◌≡◌, ℕ, true, false, List, ◌++◌, Ok, refl, ap}
+use Rattle.mctp_wire.specs.Packet as wire
+use Rattle.mctp_wire.specs.Packet.{spelling}
+use Rattle.mctp_wire.specs.declared.layout.Packet.{Packet}
+use Rattle.mctp_wire.specs.declared.unit.Unit.{«Unit»}
+use Rattle.mctp_wire.proofs.Spelled.{spelled_alike}
+use Rattle.mctp_reasm.specs.Inboxes.{for_end}
 use Rattle.mctp_reasm.specs.Pieces.{MessageOf}
 use Rattle.pldm_exch.specs.declared.caller.CallTick.TheVariants as ticks
 use Rattle.exch_lane.specs.Lanes.{LaneOf}
-use Rattle.pldm_exch.specs.Sides.{AskerRow, AskerTick, TakerRow, asking_after, learnt_in}
+use Rattle.pldm_exch.specs.Sides.{AskerRow, AskerTick, TakerRow, answering_row, asker_packet, asker_row, asking_after, asking_row, learnt_in, taker_packet, taker_row}
 use Rattle.exch_lane.specs.Steps.{asker_does, asker_ticks, sendings, taker_does, with_asker}
 use Rattle.exch_lane.specs.Journals.{with_learnt, with_sent, with_taken}
-use Rattle.pldm_exch.specs.Ends.{AskingOf, asker_of}
+use Rattle.pldm_exch.specs.Ends.{AnsweringOf, AskingOf, asker_of, taker_of}
 use Rattle.exch_lane.specs.Nodes.{asker_after, asker_ticked, call_tick_of, heard_in, taker_after}
+
+-- a hearing end has the same row for bytes as for the packet that they read as
+pub asker_reads : (deaf : ℕ) (a : AskingOf) (u : «Unit») (bytes : List ℕ) (p : Packet) → deaf ≡ 0 → Ok (p.head, p.body.now) ≡ wire.packet_of u bytes
+    → asker_row a.unit a.own a.peer (asker_of deaf a) bytes ≡ asking_row a (spelling p)
+asker_reads deaf a u bytes p hears reads =
+    rw hears (ap (λ r. asker_packet a.unit (asker_of 0 a) (for_end a.own a.peer false r)) (spelled_alike u a.unit bytes p reads))
+
+pub taker_reads : (deaf : ℕ) (t : AnsweringOf) (u : «Unit») (bytes : List ℕ) (p : Packet) → deaf ≡ 0 → Ok (p.head, p.body.now) ≡ wire.packet_of u bytes
+    → taker_row t.unit t.own t.peer (taker_of deaf t) bytes ≡ answering_row t (spelling p)
+taker_reads deaf t u bytes p hears reads =
+    rw hears (ap (λ r. taker_packet t.unit (taker_of 0 t) (for_end t.own t.peer true r)) (spelled_alike u t.unit bytes p reads))
 
 -- a hearing end has the row of its node
 pub hears_as : (a : AskingOf) (row : AskerRow) → asker_of 0 (asking_after a row) ≡ asker_after (asker_of 0 a) row

@@ -1,21 +1,22 @@
 //! A lane.
 
-ghost use Rattle.std.specs.Prelude.{◌&&◌, ◌==◌, ◌≡◌, ◌≢◌, ◌≤◌, IfErr, None, OnErr, OnOk, is_some, length, map, true};
+ghost use Rattle.std.specs.Prelude.{◌&&◌, ◌==◌, ◌≡◌, ◌≤◌, IfErr, None, OnErr, OnOk, is_some, length, map};
 ghost use Rattle.pldm_base.specs.Limits.{reply_limit};
 ghost use Rattle.pldm_exch.specs.Caller.{is_quiet, may_begin};
 ghost use Rattle.pldm_exch.specs.Ends.{asker_of, taker_of};
 ghost use Rattle.exch_lane.specs.Journals.{HasRoom, sent_of, with_learnt, with_sent, with_taken};
 ghost use Rattle.exch_lane.specs.Lanes.{AreEnds, StepOf, entry_of, is_deaf_in, lane_new, step_of};
 ghost use Rattle.exch_lane.specs.Nodes.{asker_after, asker_ticked, call_tick_of, heard_in, taker_after};
-ghost use Rattle.pldm_exch.specs.Sides.{asker_counts, asker_row, learnt_in, taker_counts, taker_row};
-ghost use Rattle.exch_lane.specs.Steps.{IsCause, MayTake, abandons, begins, lane_after, lane_hears, lane_ticks, may_step, restarts};
+ghost use Rattle.mctp_wire.specs.Packet.{IsRead, spelling};
+ghost use Rattle.pldm_exch.specs.Sides.{answering_row, asker_counts, asker_row, asking_row, learnt_in, taker_counts, taker_row};
+ghost use Rattle.exch_lane.specs.Steps.{IsCause, MayTake, abandons, begins, lane_after, lane_ticks, may_step, restarts};
 
 use crate::clock::{UNMISSED, may_beat, since_after};
 use crate::entry::LaneEntry;
 use crate::journal::{Journal, SentPacket};
 use crate::step::{End, LaneFault, LaneStep};
 use mctp_reasm::MAX_PACKETS;
-use mctp_wire::Unit;
+use mctp_wire::{Packet, Unit};
 use pldm_base::{HEADER_SIZE, MAX_REPLY, Reply};
 use pldm_exch::{Asker, Brought, CallTick, DEAF, Taker};
 use std::alloc::Global;
@@ -253,7 +254,6 @@ impl Lane {
 }
 
 /// The asker hears the bytes of a packet; where it is deaf it drops it.
-#[tactic(auto, using(crate::proofs::LaneRows::rows))]
 fn asker_hears(deaf: u8, asker: &mut Asker, journal: &mut Journal, bytes: &[u8])
     requires room { HasRoom journal.old }
     ensures asker { asker_of deaf asker.new ≡ asker_after (asker_of deaf asker.old) (asker_row asker.old.unit asker.old.own asker.old.peer (asker_of deaf asker.old) bytes.now) }
@@ -265,13 +265,29 @@ fn asker_hears(deaf: u8, asker: &mut Asker, journal: &mut Journal, bytes: &[u8])
     if deaf > 0 {
         return;
     }
-    if let Some(heard) = asker.hear(bytes) {
+    let Ok(packet) = mctp_wire::decode(asker.unit(), bytes) else {
+        return;
+    };
+    asker_learns(asker, journal, &packet);
+}
+
+/// The asker hears a packet, and learns the reply that the packet makes whole.
+#[tactic(auto, using(crate::proofs::LaneRows::rows))]
+fn asker_learns(asker: &mut Asker, journal: &mut Journal, packet: &Packet<'_>)
+    requires read { IsRead packet.now }
+    requires room { HasRoom journal.old }
+    ensures asker { asker_of 0 asker.new ≡ asker_after (asker_of 0 asker.old) (asking_row asker.old (spelling packet.now)) }
+    ensures between { (asker.new.unit ≡ asker.old.unit) × (asker.new.own ≡ asker.old.own) × (asker.new.peer ≡ asker.old.peer) }
+    ensures packets { journal.new.packets ≡ journal.old.packets }
+    ensures entries { map entry_of journal.new.entries.items ≡ with_learnt (map entry_of journal.old.entries.items) (learnt_in (asking_row asker.old (spelling packet.now))) }
+    ensures time { journal.new.time ≡ journal.old.time }
+{
+    if let Some(heard) = asker.hear(packet) {
         journal.note(LaneEntry::Learnt(heard.reply));
     }
 }
 
 /// The taker hears the bytes of a packet, and answers a new request by `reply`; where it is deaf it drops the packet.
-#[tactic(auto, using(crate::proofs::LaneRows::rows))]
 fn taker_hears(deaf: u8, taker: &mut Taker, journal: &mut Journal, bytes: &[u8], reply: &[u8])
     requires room { HasRoom journal.old }
     requires reply { length reply.now ≤ reply_limit taker.old.unit }
@@ -284,7 +300,25 @@ fn taker_hears(deaf: u8, taker: &mut Taker, journal: &mut Journal, bytes: &[u8],
     if deaf > 0 {
         return;
     }
-    match taker.hear(bytes) {
+    let Ok(packet) = mctp_wire::decode(taker.unit(), bytes) else {
+        return;
+    };
+    taker_answers(taker, journal, &packet, reply);
+}
+
+/// The taker hears a packet, and sends what it answers to the request that the packet makes whole: a new one by `reply`.
+#[tactic(auto, using(crate::proofs::LaneRows::rows))]
+fn taker_answers(taker: &mut Taker, journal: &mut Journal, packet: &Packet<'_>, reply: &[u8])
+    requires read { IsRead packet.now }
+    requires room { HasRoom journal.old }
+    requires reply { length reply.now ≤ reply_limit taker.old.unit }
+    ensures taker { taker_of 0 taker.new ≡ taker_after (taker_of 0 taker.old) reply.now (answering_row taker.old (spelling packet.now)) }
+    ensures between { (taker.new.unit ≡ taker.old.unit) × (taker.new.own ≡ taker.old.own) × (taker.new.peer ≡ taker.old.peer) }
+    ensures packets { map sent_of journal.new.packets.items ≡ with_sent taker.old.unit journal.old.time (map sent_of journal.old.packets.items) (heard_in reply.now (answering_row taker.old (spelling packet.now))) }
+    ensures entries { map entry_of journal.new.entries.items ≡ with_taken reply.now (map entry_of journal.old.entries.items) (heard_in reply.now (answering_row taker.old (spelling packet.now))) }
+    ensures time { journal.new.time ≡ journal.old.time }
+{
+    match taker.hear(packet) {
         Brought::Nothing | Brought::Strays(_) => {}
         Brought::Again(answer) => journal.send(taker.unit(), &answer),
         Brought::New(request) => {

@@ -8,7 +8,7 @@ use crate::frame::FrameFault;
 use crate::link::Link;
 use crate::tally::Tally;
 use fw_world::Side;
-use mctp_wire::RawPacket;
+use mctp_wire::{RawPacket, copy_of};
 use std::alloc::Global;
 use std::collections::VecDeque;
 
@@ -71,15 +71,6 @@ impl MemLink {
             Side::Device => self.down.pop_front(),
         }
     }
-}
-
-/// The same bytes once more.
-pub(crate) fn copy_of(packet: &RawPacket) -> RawPacket
-    ensures { result.items ≡ packet.now.items }
-{
-    let mut out = RawPacket::new();
-    let _ = out.try_extend_from_slice(packet.as_slice());
-    out
 }
 
 impl Link for MemLink {

@@ -2,6 +2,7 @@
 --
 -- A PACKET at a half, and what its node answers by itself.
 -- - `Rows`: what a packet brings to both ends, by their rows.
+-- - `Readings`: what a packet is for a node depends on what its bytes read as alone.
 -- - `NodeHears`: what a packet is for a half that hears, by what it brings.
 -- - `HalfHears`: what a packet makes of the agent, by what it makes of one of its halves.
 -- - `NodeServes`: what a node makes of a firmware update request.
@@ -31,6 +32,7 @@ mod NodeServes
 pub mod NodeTicks
 mod OneATick
 mod Places
+mod Readings
 mod Rows
 mod Speaking
 mod Working

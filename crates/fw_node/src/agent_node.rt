@@ -1,16 +1,15 @@
 //! The node of the update agent.
 
-ghost use Rattle.std.specs.Prelude.{◌≡◌, ◌≤◌, ◌<◌, ◌↔◌, ◌*◌, ◌+◌, ◌++◌, ◌==◌, [], ℕ, IfErr, IfOk, IfSome, List, None, OnErr, OnOk, Some, false, flat_map, is_ok, is_some, length, map, not, option_map, slice_get, true};
+ghost use Rattle.std.specs.Prelude.{◌≡◌, ◌≤◌, ◌<◌, ◌↔◌, ◌*◌, ◌+◌, ◌++◌, ◌==◌, [], IfErr, IfOk, IfSome, List, None, OnErr, OnOk, Some, false, flat_map, is_some, length, map, not, option_map, slice_get, true};
 ghost use Rattle.fw_package.specs.Package.{PackageText};
+ghost use Rattle.mctp_wire.specs.Packet.{IsRead, spelling};
 ghost use Rattle.sel_core.specs.Log.{sel_after, sel_reply};
-ghost use Rattle.ua_core.specs.Calls.{agent_activated, is_free};
-ghost use Rattle.fw_node.specs.Agents.{AgentOf, any_packet, HalfMaySpeak, IsAddressed, IsDeafFor, SpeaksHearing, activates, free_for, hearer, ready_for, again_packets, agent_becomes, agent_hears, agent_restarts, agent_tick_sends, agent_ticks, becomes_at, begins, cancels, ended, ended_packets, grown, half_at, half_for, hears_at, new_agent, new_half, notes, place_from, place_heard, place_of, starts, waited};
+ghost use Rattle.fw_node.specs.Agents.{AgentOf, any_packet, HalfMaySpeak, IsAddressed, IsDeafFor, SpeaksHearing, activates, free_for, hearer, ready_for, again_packets, agent_becomes, agent_hears, agent_restarts, agent_tick_sends, agent_ticks, begins, cancels, ended, ended_packets, grown, half_at, half_for, hears_at, new_agent, new_half, notes, place_heard, place_of, starts, waited};
 ghost use Rattle.fw_node.specs.AgentViews.{agent_of, half_in, half_activated, half_cancelled, half_free, half_ready, half_restarted, half_started, halves_called, halves_noted};
 ghost use Rattle.fw_node.specs.Cores.{session_core};
-ghost use Rattle.fw_node.specs.Halves.{half_hears, half_restarts, half_ticks};
+ghost use Rattle.fw_node.specs.Halves.{half_hears, half_ticks};
 ghost use Rattle.fw_node.specs.Nodes.{IsTold, MaySpeak};
 ghost use Rattle.std.specs.List.{AllByRecursion};
-ghost use Rattle.fw_node.specs.Packets.{all_packets};
 
 use crate::half::Half;
 use crate::identity::Identity;
@@ -18,7 +17,7 @@ use crate::noting::{activate, cancel, grow, hear, start, wait};
 use crate::outbox::Outbox;
 use fw_package::Package;
 use mctp_ctl::Endpoint;
-use mctp_wire::Unit;
+use mctp_wire::{Packet, Unit};
 use pldm_base::Tid;
 use pldm_exch::DEAF;
 use sel_core::{Sel, SelReply};
@@ -117,7 +116,6 @@ impl AgentNode {
 
     /// Hears the bytes of a packet, and puts what it sends into an empty outbox. A packet to another endpoint or of none of
     /// its devices changes nothing, and a deaf agent drops every packet. What happens to a session is noted at `now`.
-    #[tactic(auto, using(crate::proofs::Places::places))]
     pub fn on_packet<'p>(
         &mut self,
         packages: &'p [Package<'p>],
@@ -131,10 +129,32 @@ impl AgentNode {
         ensures told { IfSome (hearer self.old bytes.now) (λ h. IsTold h.core.session.unit (half_hears (session_core packages.now) true h bytes.now)) }
         ensures spoken { IfSome (hearer self.old bytes.now) (SpeaksHearing packages.now self.old bytes.now) }
     {
+        let Ok(packet) = mctp_wire::decode(Unit::U128, bytes) else {
+            return;
+        };
+        self.hear(packages, &packet, now, outbox);
+    }
+
+    /// Hears a packet of either transmission unit, and puts what it sends into an empty outbox.
+    #[tactic(auto, using(crate::proofs::Places::places))]
+    fn hear<'p>(
+        &mut self,
+        packages: &'p [Package<'p>],
+        packet: &Packet<'_>,
+        now: u32,
+        outbox: &mut Outbox,
+    )
+        requires read { IsRead packet.now }
+        requires outbox { outbox.old ≡ [] }
+        ensures after { self.new ≡ (agent_hears packages.now self.old (spelling packet.now) now).agent }
+        ensures sent { outbox.new ≡ (agent_hears packages.now self.old (spelling packet.now) now).sent }
+        ensures told { IfSome (hearer self.old (spelling packet.now)) (λ h. IsTold h.core.session.unit (half_hears (session_core packages.now) true h (spelling packet.now))) }
+        ensures spoken { IfSome (hearer self.old (spelling packet.now)) (SpeaksHearing packages.now self.old (spelling packet.now)) }
+    {
         if self.deaf > 0 {
             return;
         }
-        let Some(place) = sender_of(self.halves.as_slice(), bytes) else {
+        let Some(place) = sender_of(self.halves.as_slice(), packet) else {
             return;
         };
         hear_at(
@@ -143,7 +163,7 @@ impl AgentNode {
             &mut self.identity,
             &mut self.log,
             packages,
-            bytes,
+            packet,
             now,
             outbox,
         );
@@ -329,17 +349,16 @@ fn session_in(halves: &[Half<Session>], eid: u8) -> Option<&Session>
 }
 
 /// The place of the half for the sender of a packet.
-fn sender_of(halves: &[Half<Session>], bytes: &[u8]) -> Option<usize>
-    ensures place { result ≡ place_heard (map (half_in 0) halves.now) (any_packet bytes.now) }
+#[tactic(auto, using(crate::proofs::Readings::readings))]
+fn sender_of(halves: &[Half<Session>], packet: &Packet<'_>) -> Option<usize>
+    requires { IsRead packet.now }
+    ensures place { result ≡ place_heard (map (half_in 0) halves.now) (any_packet (spelling packet.now)) }
     ensures within { IfSome result (λ place. place < length halves.now) }
 {
-    let Ok(packet) = mctp_wire::decode(Unit::U128, bytes) else {
-        return None;
-    };
     place_of(halves, packet.head.source)
 }
 
-/// The half at a place hears the bytes of a packet.
+/// The half at a place hears a packet.
 #[tactic(auto, using(crate::proofs::Places::places))]
 fn hear_at<'p>(
     halves: &mut [Half<Session>],
@@ -347,16 +366,17 @@ fn hear_at<'p>(
     identity: &mut Identity,
     log: &mut Sel,
     packages: &'p [Package<'p>],
-    bytes: &[u8],
+    packet: &Packet<'_>,
     now: u32,
     outbox: &mut Outbox,
 )
+    requires read { IsRead packet.now }
     requires place { place < length halves.old }
     requires outbox { outbox.old ≡ [] }
-    ensures after { agent_of 0 identity.new log.new halves.new ≡ (hears_at packages.now (agent_of 0 identity.old log.old halves.old) bytes.now now (Some place) (slice_get (map (half_in 0) halves.old) place)).agent }
-    ensures sent { outbox.new ≡ (hears_at packages.now (agent_of 0 identity.old log.old halves.old) bytes.now now (Some place) (slice_get (map (half_in 0) halves.old) place)).sent }
-    ensures told { IfSome (slice_get (map (half_in 0) halves.old) place) (λ h. IsTold h.core.session.unit (half_hears (session_core packages.now) true h bytes.now)) }
-    ensures spoken { IfSome (slice_get (map (half_in 0) halves.old) place) (SpeaksHearing packages.now (agent_of 0 identity.old log.old halves.old) bytes.now) }
+    ensures after { agent_of 0 identity.new log.new halves.new ≡ (hears_at packages.now (agent_of 0 identity.old log.old halves.old) (spelling packet.now) now (Some place) (slice_get (map (half_in 0) halves.old) place)).agent }
+    ensures sent { outbox.new ≡ (hears_at packages.now (agent_of 0 identity.old log.old halves.old) (spelling packet.now) now (Some place) (slice_get (map (half_in 0) halves.old) place)).sent }
+    ensures told { IfSome (slice_get (map (half_in 0) halves.old) place) (λ h. IsTold h.core.session.unit (half_hears (session_core packages.now) true h (spelling packet.now))) }
+    ensures spoken { IfSome (slice_get (map (half_in 0) halves.old) place) (SpeaksHearing packages.now (agent_of 0 identity.old log.old halves.old) (spelling packet.now)) }
     ensures count { length halves.new ≡ length halves.old }
 {
     hear(
@@ -364,7 +384,7 @@ fn hear_at<'p>(
         identity,
         log,
         packages,
-        bytes,
+        packet,
         now,
         outbox,
     );

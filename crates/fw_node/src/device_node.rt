@@ -1,12 +1,13 @@
 //! The node of a firmware device.
 
 ghost use Rattle.std.specs.Prelude.{◌≡◌, ◌≤◌, ◌==◌, [], Bool, IfNone, IfSome, None, OnErr, OnOk, false, is_some, not, true};
+ghost use Rattle.mctp_wire.specs.Packet.{IsRead, spelling};
 ghost use Rattle.mctp_wire.specs.declared.unit.Unit.TheVariants.{U64};
 ghost use Rattle.fd_core.specs.Banks.{Rose};
 ghost use Rattle.fd_core.specs.Steps.{device_verdict, verdict_after};
 ghost use Rattle.fw_node.specs.Cores.{device_core, timed};
 ghost use Rattle.fw_node.specs.Halves.{half_hears, half_ticks};
-ghost use Rattle.fw_node.specs.Nodes.{DeviceNodeOf, HearsIt, IsTold, JudgesIt, MaySpeak, SpeaksAfter, device_hears, device_judges, device_restarts, half_of, new_device_node};
+ghost use Rattle.fw_node.specs.Nodes.{DeviceNodeOf, HearsIt, IsTold, JudgesIt, MaySpeak, SpeaksAfter, device_hears, device_restarts, half_of, new_device_node};
 ghost use Rattle.fw_node.specs.Packets.{all_packets};
 
 use crate::cores::has_failed;
@@ -15,7 +16,7 @@ use crate::identity::Identity;
 use crate::outbox::Outbox;
 use fd_core::{Bank, Device, NotNow, Verdict};
 use mctp_ctl::Endpoint;
-use mctp_wire::Unit;
+use mctp_wire::{Packet, Unit};
 use pldm_base::{Role, Tid};
 use pldm_exch::DEAF;
 use std::marker::Model;
@@ -111,7 +112,7 @@ impl<B: Bank> DeviceNode<B> {
         ensures endpoint { self.new.endpoint ≡ self.old.endpoint }
         ensures spoken { SpeaksAfter device_core self.old.half.core self.new.half.core }
     {
-        let _works = self.hear(bytes, outbox);
+        let _works = self.read(bytes, outbox);
     }
 
     /// A tick passes: what the node holds and keeps grows older, its open request is sent again or given up, the device
@@ -179,8 +180,8 @@ impl<B: Bank> DeviceNode<B> {
         self.deaf = DEAF;
     }
 
-    /// Hears the bytes of a packet, and tells whether the one call of its bank that it made succeeded.
-    fn hear(&mut self, bytes: &[u8], outbox: &mut Outbox) -> bool
+    /// Reads the bytes of a packet and hears it, and tells whether the one call of its bank that it made succeeded.
+    fn read(&mut self, bytes: &[u8], outbox: &mut Outbox) -> bool
         requires { outbox.old ≡ [] }
         ensures half { self.new.half ≡ (device_hears result self.old bytes.now).half }
         ensures tid { self.new.tid ≡ (device_hears result self.old bytes.now).tid }
@@ -191,10 +192,29 @@ impl<B: Bank> DeviceNode<B> {
         ensures endpoint { self.new.endpoint ≡ self.old.endpoint }
         ensures spoken { SpeaksAfter device_core self.old.half.core self.new.half.core }
     {
+        let Ok(packet) = mctp_wire::decode(self.unit(), bytes) else {
+            return true;
+        };
+        self.hear(&packet, outbox)
+    }
+
+    /// Hears a packet, and tells whether the one call of its bank that it made succeeded.
+    fn hear(&mut self, packet: &Packet<'_>, outbox: &mut Outbox) -> bool
+        requires read { IsRead packet.now }
+        requires outbox { outbox.old ≡ [] }
+        ensures half { self.new.half ≡ (device_hears result self.old (spelling packet.now)).half }
+        ensures tid { self.new.tid ≡ (device_hears result self.old (spelling packet.now)).tid }
+        ensures packets { outbox.new ≡ all_packets self.old.half.unit (device_hears result self.old (spelling packet.now)).sent }
+        ensures worked { result ≡ true → self.new.faults ≡ self.old.faults }
+        ensures failed { result ≡ false → Rose self.old.faults self.new.faults }
+        ensures told { IsTold U64 (half_hears device_core result self.old.half (spelling packet.now)) }
+        ensures endpoint { self.new.endpoint ≡ self.old.endpoint }
+        ensures spoken { SpeaksAfter device_core self.old.half.core self.new.half.core }
+    {
         if self.deaf > 0 {
             return true;
         }
         self.half
-            .hear(&mut self.identity, Role::Device, (), bytes, outbox)
+            .hear(&mut self.identity, Role::Device, (), packet, outbox)
     }
 }

@@ -1,6 +1,7 @@
 //! Both directions of exchanges of a node with one peer.
 
 ghost use Rattle.std.specs.Prelude.{◌≡◌, ◌≤◌, length, option_map, true};
+ghost use Rattle.mctp_wire.specs.Packet.{IsRead, spelling};
 ghost use Rattle.fwup_wire.specs.Commands.{IsWritable, command_bytes, command_code};
 ghost use Rattle.fwup_wire.specs.Lent.{command_of};
 ghost use Rattle.pldm_exch.specs.Caller.{begun, caller_tick, is_quiet, may_begin};
@@ -13,7 +14,7 @@ ghost use Rattle.fw_node.specs.Brings.{incoming_of};
 use crate::incoming::Incoming;
 use fwup_wire::Command;
 use mctp_reasm::Message;
-use mctp_wire::Unit;
+use mctp_wire::{Packet, Unit};
 use pldm_base::MAX_REPLY;
 use pldm_exch::{Asker, Brought, CallTick, Request, Taker};
 use std::marker::Model;
@@ -119,19 +120,20 @@ impl Ends {
         self.asker.begin(command.code(), body.as_slice())
     }
 
-    /// Hears the bytes of a packet.
+    /// Hears a packet.
     #[tactic(auto, using(crate::proofs::Rows::rows, crate::proofs::OneATick::callers_stay))]
-    pub(crate) fn hear(&mut self, bytes: &[u8]) -> Incoming
-        ensures incoming { incoming_of result ≡ incoming (asking_row self.old.asking bytes.now) (answering_row self.old.answering bytes.now) }
-        ensures asking { self.new.asking ≡ asking_after self.old.asking (asking_row self.old.asking bytes.now) }
+    pub(crate) fn hear(&mut self, packet: &Packet<'_>) -> Incoming
+        requires read { IsRead packet.now }
+        ensures incoming { incoming_of result ≡ incoming (asking_row self.old.asking (spelling packet.now)) (answering_row self.old.answering (spelling packet.now)) }
+        ensures asking { self.new.asking ≡ asking_after self.old.asking (asking_row self.old.asking (spelling packet.now)) }
         ensures stays { (self.new.asking.unit ≡ self.old.asking.unit) × (self.new.asking.own ≡ self.old.asking.own) × (self.new.asking.peer ≡ self.old.asking.peer) }
         ensures lawful { (self.old.answering.unit ≡ self.old.asking.unit) × (self.old.answering.own ≡ self.old.asking.own) × (self.old.answering.peer ≡ self.old.asking.peer) }
-        ensures answering { self.new.answering ≡ answering_after (asking_row self.old.asking bytes.now) self.old.answering (answering_row self.old.answering bytes.now) }
+        ensures answering { self.new.answering ≡ answering_after (asking_row self.old.asking (spelling packet.now)) self.old.answering (answering_row self.old.answering (spelling packet.now)) }
     {
-        if let Some(heard) = self.asker.hear(bytes) {
+        if let Some(heard) = self.asker.hear(packet) {
             return Incoming::Learnt(heard);
         }
-        match self.taker.hear(bytes) {
+        match self.taker.hear(packet) {
             Brought::Nothing => Incoming::Nothing,
             Brought::Again(answer) => Incoming::Again(answer),
             Brought::New(request) => Incoming::New(request),

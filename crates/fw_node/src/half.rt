@@ -1,7 +1,7 @@
 //! What a node has for one peer.
 
-ghost use Rattle.std.specs.Prelude.{◌≡◌, ◌≤◌, ◌++◌, ◌+◌, ◌*◌, [], ◌∷◌, Bool, false, length, true, ℕ};
-ghost use Rattle.mctp_ctl.specs.declared.answers.Endpoint.{Endpoint};
+ghost use Rattle.std.specs.Prelude.{◌≡◌, ◌≤◌, ◌++◌, ◌+◌, ◌*◌, [], ◌∷◌, Bool, false, length, true};
+ghost use Rattle.mctp_wire.specs.Packet.{IsRead, spelling};
 ghost use Rattle.pldm_base.specs.declared.terminus.Role.{Role};
 ghost use Rattle.fd_core.specs.Banks.{Rose};
 ghost use Rattle.fwup_wire.specs.Answers.{answer_read};
@@ -10,7 +10,7 @@ ghost use Rattle.pldm_exch.specs.Requests.{reply_message};
 ghost use Rattle.pldm_exch.specs.Sides.{answered_with};
 ghost use Rattle.fw_node.specs.BothEnds.{IsAsking, ends_new};
 ghost use Rattle.fw_node.specs.Brings.{incoming_of};
-ghost use Rattle.fw_node.specs.Halves.{IncomingOf, half_brings, half_grows, half_hears, half_waits, last_part, read_by, recast, reply_read, settled, silenced, unwished_abandoned};
+ghost use Rattle.fw_node.specs.Halves.{IncomingOf, half_brings, half_grows, half_hears, half_waits, last_part, read_by, recast, reply_read, settled, unwished_abandoned};
 ghost use Rattle.fw_node.specs.Nodes.{IsAnswered, IsTold, MaySpeak, SpeaksAfter, finished, half_of, replied};
 ghost use Rattle.fw_node.specs.Packets.{all_packets, sent_by};
 
@@ -19,10 +19,10 @@ use crate::ends::Ends;
 use crate::identity::Identity;
 use crate::incoming::Incoming;
 use crate::outbox::Outbox;
-use crate::sending::{code_alone, reply_to_other, send_again, send_control};
-use mctp_wire::Unit;
+use crate::sending::{reply_to_other, send_again, send_control};
+use mctp_wire::{Packet, Unit};
 use pldm_base::completion::ERROR_UNSUPPORTED_PLDM_CMD;
-use pldm_base::{MAX_REPLY, Reply, Role, TYPE_FIRMWARE_UPDATE};
+use pldm_base::{MAX_REPLY, Reply, Role, TYPE_FIRMWARE_UPDATE, code_alone};
 use pldm_exch::{CallTick, ReplyIn, Request};
 
 /// One half of a pair: both ends for a peer, and the core.
@@ -67,20 +67,21 @@ impl<'p, C: Core<'p>> Half<C> {
         self.ends.abandon_unless(&wish);
     }
 
-    /// Hears the bytes of a packet, and sends what the node answers. Whether the core's bank worked.
+    /// Hears a packet, and sends what the node answers. Whether the core's bank worked.
     pub(crate) fn hear(
         &mut self,
         identity: &mut Identity,
         role: Role,
         given: C::Given,
-        bytes: &[u8],
+        packet: &Packet<'_>,
         outbox: &mut Outbox,
     ) -> bool
-        requires { outbox.old ≡ [] }
-        ensures half { half_of 0 (C.seen self.new.core) self.new.ends ≡ (finished role identity.old.endpoint identity.old.tid (half_hears (C.does given) result (half_of 0 (C.seen self.old.core) self.old.ends) bytes.now)).half }
-        ensures tid { identity.new.tid ≡ (finished role identity.old.endpoint identity.old.tid (half_hears (C.does given) result (half_of 0 (C.seen self.old.core) self.old.ends) bytes.now)).tid }
-        ensures packets { outbox.new ≡ all_packets self.old.ends.asking.unit (finished role identity.old.endpoint identity.old.tid (half_hears (C.does given) result (half_of 0 (C.seen self.old.core) self.old.ends) bytes.now)).sent }
-        ensures told { IsTold ((C.does given).unit (C.seen self.old.core)) (half_hears (C.does given) result (half_of 0 (C.seen self.old.core) self.old.ends) bytes.now) }
+        requires read { IsRead packet.now }
+        requires outbox { outbox.old ≡ [] }
+        ensures half { half_of 0 (C.seen self.new.core) self.new.ends ≡ (finished role identity.old.endpoint identity.old.tid (half_hears (C.does given) result (half_of 0 (C.seen self.old.core) self.old.ends) (spelling packet.now))).half }
+        ensures tid { identity.new.tid ≡ (finished role identity.old.endpoint identity.old.tid (half_hears (C.does given) result (half_of 0 (C.seen self.old.core) self.old.ends) (spelling packet.now))).tid }
+        ensures packets { outbox.new ≡ all_packets self.old.ends.asking.unit (finished role identity.old.endpoint identity.old.tid (half_hears (C.does given) result (half_of 0 (C.seen self.old.core) self.old.ends) (spelling packet.now))).sent }
+        ensures told { IsTold ((C.does given).unit (C.seen self.old.core)) (half_hears (C.does given) result (half_of 0 (C.seen self.old.core) self.old.ends) (spelling packet.now)) }
         ensures spoken { SpeaksAfter (C.does given) (C.seen self.old.core) (C.seen self.new.core) }
         ensures worked { result ≡ true → C.faults self.new.core ≡ C.faults self.old.core }
         ensures failed { result ≡ false → Rose (C.faults self.old.core) (C.faults self.new.core) }
@@ -88,7 +89,7 @@ impl<'p, C: Core<'p>> Half<C> {
         ensures own { self.new.ends.asking.own ≡ self.old.ends.asking.own }
         ensures unit { self.new.ends.asking.unit ≡ self.old.ends.asking.unit }
     {
-        match self.incoming(bytes) {
+        match self.incoming(packet) {
             Incoming::Nothing => true,
             Incoming::Learnt(heard) => self.learn(given, &heard),
             Incoming::Again(answer) => {
@@ -103,14 +104,15 @@ impl<'p, C: Core<'p>> Half<C> {
         }
     }
 
-    /// What the bytes of a packet bring.
-    fn incoming(&mut self, bytes: &[u8]) -> Incoming
-        ensures brings { (given : C.Given) (works : Bool) → half_hears (C.does given) works (half_of 0 (C.seen self.old.core) self.old.ends) bytes.now ≡ half_brings (C.does given) works (half_of 0 (C.seen self.new.core) self.new.ends) (incoming_of result) }
+    /// What a packet brings.
+    fn incoming(&mut self, packet: &Packet<'_>) -> Incoming
+        requires read { IsRead packet.now }
+        ensures brings { (given : C.Given) (works : Bool) → half_hears (C.does given) works (half_of 0 (C.seen self.old.core) self.old.ends) (spelling packet.now) ≡ half_brings (C.does given) works (half_of 0 (C.seen self.new.core) self.new.ends) (incoming_of result) }
         ensures core { self.new.core ≡ self.old.core }
         ensures own { self.new.ends.asking.own ≡ self.old.ends.asking.own }
         ensures unit { self.new.ends.asking.unit ≡ self.old.ends.asking.unit }
     {
-        self.ends.hear(bytes)
+        self.ends.hear(packet)
     }
 
     /// The core learns the answer to its request. Whether its bank worked.

@@ -1,11 +1,11 @@
 //! What a node sends in a call.
 
-ghost use Rattle.std.specs.Prelude.{◌≡◌, ◌≤◌, ◌+◌, ◌++◌, ◌==◌, ◌∷◌, [], IfOk, List, ℕ, length, map, option_map, slice_get, drop};
+ghost use Rattle.std.specs.Prelude.{◌≡◌, ◌≤◌, ◌+◌, ◌++◌, ◌==◌, [], IfOk, List, ℕ, length, map, option_map, slice_get, drop};
 ghost use Rattle.fw_node.specs.Packets.{packets_of};
 
 use circular_buffer::HeapCircularBuffer;
 use mctp_reasm::{Message, split};
-use mctp_wire::{RawPacket, Unit};
+use mctp_wire::{RawPacket, Unit, copy_of};
 use std::alloc::{AllocError, Global};
 use std::marker::Model;
 
@@ -86,13 +86,4 @@ fn push_all(out: &mut HeapCircularBuffer<RawPacket>, packets: &[RawPacket])
     for packet in packets {
         let _ = out.push_back(copy_of(packet));
     }
-}
-
-/// The same bytes once more.
-fn copy_of(bytes: &RawPacket) -> RawPacket
-    ensures { result.items ≡ bytes.now.items }
-{
-    let mut out = RawPacket::new();
-    let _ = out.try_extend_from_slice(bytes.as_slice());
-    out
 }

@@ -1,6 +1,6 @@
 //! What both kinds of node send by themselves.
 
-ghost use Rattle.std.specs.Prelude.{◌≡◌, ◌≤◌, ◌+◌, ◌*◌, ◌++◌, ◌∷◌, [], length};
+ghost use Rattle.std.specs.Prelude.{◌≡◌, ◌≤◌, ◌+◌, ◌*◌, ◌++◌, [], length};
 ghost use Rattle.mctp_ctl.specs.Control.{answer_of};
 ghost use Rattle.fw_node.specs.Nodes.{control_sent, other_reply, other_tid};
 ghost use Rattle.fw_node.specs.Packets.{all_packets, sent_by};
@@ -10,17 +10,8 @@ use mctp_ctl::Endpoint;
 use mctp_reasm::Message;
 use mctp_wire::Unit;
 use pldm_base::completion::ERROR_INVALID_PLDM_TYPE;
-use pldm_base::{Reply, Role, TYPE_BASE, Tid};
+use pldm_base::{Reply, Role, TYPE_BASE, Tid, code_alone};
 use pldm_exch::{CallTick, Request};
-
-/// A reply of a completion code and nothing else.
-pub(crate) fn code_alone(code: u8) -> Reply
-    ensures { result.items ≡ code ∷ [] }
-{
-    let mut reply = Reply::new();
-    reply.push(code);
-    reply
-}
 
 /// The reply to a PLDM request of another type than firmware update.
 pub(crate) fn reply_to_other(tid: &mut Tid, role: Role, request: &Request) -> Reply

@@ -15,12 +15,10 @@ ghost use Rattle.fw_setup.specs.Nodes.{row_made};
 use fd_core::Key;
 use fw_package::{Component, Descriptor, Descriptors, Package, PlanFault};
 use fw_script::ComponentConfig;
+use fwup_wire::NO_STAMP;
 use fwup_wire::code::response::{
     COMPARISON_STAMP_IDENTICAL, COMPARISON_STAMP_LOWER, NO_RESTRICTION, NOT_SUPPORTED,
 };
-
-/// A comparison stamp that isn't compared.
-const NO_STAMP: u32 = 0xFFFF_FFFF;
 
 /// What stands against an image with this stamp, beside that of the image that runs.
 fn stamp_restriction(stamp: u32, active: u32) -> u8

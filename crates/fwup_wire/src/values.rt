@@ -30,10 +30,14 @@ pub struct Descriptor<'a> {
     pub bytes: &'a [u8],
 }
 
+/// The comparison stamp that isn't compared: an image whose component doesn't use one has it (DSP0267 1.0,
+/// "ComponentComparisonStamp").
+pub const NO_STAMP: u32 = 0xFFFF_FFFF;
+
 /// What an image calls itself.
 #[derive(Clone, Copy, PartialEq, Eq)]
 pub struct Version<'a> {
-    /// The comparison stamp, by which a device tells older images from newer ones.
+    /// The comparison stamp, by which a device tells older images from newer ones, or `NO_STAMP`.
     pub stamp: u32,
     /// The version text.
     pub text: Text<'a>,

@@ -1,9 +1,10 @@
 //! The messages that a node hears from a peer, put together from their packets (DSP0236, section 8).
 
-ghost use Rattle.std.specs.Prelude.{◌≡◌, ◌≤◌, IfSome, false, length, map, option_map, true};
+ghost use Rattle.std.specs.Prelude.{◌≡◌, ◌≤◌, None, Some, false, length, map, true};
 ghost use Rattle.mctp_reasm.specs.Held.{IsOfSame, held_tick, packets_of};
 ghost use Rattle.mctp_reasm.specs.Pieces.{packet_of};
 ghost use Rattle.mctp_reasm.specs.Inboxes.{AreOf, fed_at, held_at, held_in, held_with, is_for, none_held, packet_for, ticked};
+ghost use Rattle.mctp_wire.specs.Packet.{IsRead, spelling};
 ghost use Rattle.mctp_wire.specs.Units.{bytes_of};
 
 use crate::{Assembly, Fed};
@@ -86,20 +87,20 @@ impl Inbox {
         head.dest == self.own && head.source == self.peer && head.to == self.to
     }
 
-    /// The packet that these bytes are, where it is one and for this node: of its peer, to its endpoint, with TO as it hears.
-    pub fn packet_in<'b>(&self, bytes: &'b [u8]) -> Option<Packet<'b>>
-        ensures value { option_map (λ p. packet_of p.head p.body.now) result ≡ packet_for self.now.unit self.now.own self.now.peer self.now.to bytes.now }
-        ensures mine { IfSome result (λ p. is_for self.now.own self.now.peer self.now.to p.head ≡ true) }
-        ensures body { IfSome result (λ p. (1 ≤ length p.body.now) × (length p.body.now ≤ bytes_of self.now.unit)) }
-        ensures tag { IfSome result (λ p. p.head.tag ≤ 7) }
+    /// Whether a packet is for this node: its body fits the transmission unit, it goes to this node's endpoint and comes from
+    /// its peer, and TO is set where requests are heard.
+    #[tactic(auto, using(crate::proofs::Heard::heard))]
+    pub fn hears(&self, packet: &Packet<'_>) -> bool
+        requires read { IsRead packet.now }
+        ensures heard { result ≡ true → packet_for self.now.unit self.now.own self.now.peer self.now.to (spelling packet.now) ≡ Some (packet_of packet.now.head packet.now.body.now) }
+        ensures other { result ≡ false → packet_for self.now.unit self.now.own self.now.peer self.now.to (spelling packet.now) ≡ None }
+        ensures mine { result ≡ true → is_for self.now.own self.now.peer self.now.to packet.now.head ≡ true }
+        ensures fits { result ≡ true → length packet.now.body.now ≤ bytes_of self.now.unit }
     {
-        let Ok(packet) = mctp_wire::decode(self.unit, bytes) else {
-            return None;
-        };
-        if !self.is_for(&packet.head) {
-            return None;
+        if packet.body.len() > self.unit.bytes() {
+            return false;
         }
-        Some(packet)
+        self.is_for(&packet.head)
     }
 
     /// Feeds a packet for this node to the assembly of its tag, and tells what came of it.

@@ -1,1 +1,2 @@
 mod Packets
+pub mod Spelled

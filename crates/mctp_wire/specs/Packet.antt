@@ -1,7 +1,8 @@
 -- MCTP's packet (DSP0236, section 8.1): four bytes of head, and a body of 1 byte to the transmission unit.
 use Rattle.std.specs.Prelude.{◌≡◌, ◌≢◌, ℕ, ◌+◌, ◌*◌, ◌/◌, ◌%◌, ◌<◌, ◌≤◌, ◌==◌, Bool, true, false, not, nat_lt, if◌then◌else◌, List, ◌∷◌, length, slice_index, Result, Ok, Err}
 use Rattle.mctp_wire.specs.declared.layout.Head.{Head}
-use Rattle.mctp_wire.specs.declared.layout.TheConstants.{HEAD_SIZE}
+use Rattle.mctp_wire.specs.declared.layout.Packet.{Packet}
+use Rattle.mctp_wire.specs.declared.layout.TheConstants.{HEAD_SIZE, MAX_BODY}
 use Rattle.mctp_wire.specs.declared.unit.Unit.{«Unit»}
 use Rattle.mctp_wire.specs.Units.{bytes_of}
 use Rattle.mctp_wire.specs.declared.fault.WireFault.{WireFault}
@@ -61,6 +62,16 @@ IsFirstFault u bytes TooLong = (HEAD_SIZE + bytes_of u < length bytes) × (slice
 abbrev pub packet_bytes : Head → List ℕ → List ℕ
 packet_bytes h body = 1 ∷ h.dest ∷ h.source ∷ flags_of h ∷ body
 
+-- what is true of a packet that was read at either unit: its head may be written, and its body has 1 byte to the greater unit
+pub record IsRead (p : Packet) : Type 0 where
+  pub head : IsHead p.head
+  pub some : 1 ≤ length p.body.now
+  pub few : length p.body.now ≤ MAX_BODY
+
+-- The bytes that stand for a packet that was read: its written spelling.
+unfoldable pub spelling : Packet → List ℕ
+spelling p = packet_bytes p.head p.body.now
+
 -- what is written is a packet with that head and that body
 abbrev pub WritesPackets : Type 0
 WritesPackets = (u : «Unit») (h : Head) (body : List ℕ) → IsHead h → 1 ≤ length body → length body ≤ bytes_of u
@@ -69,3 +80,7 @@ WritesPackets = (u : «Unit») (h : Head) (body : List ℕ) → IsHead h → 1 �
 -- bytes are a packet with one head and one body at most, and those are what is read
 abbrev pub ReadsPackets : Type 0
 ReadsPackets = (u : «Unit») (bytes : List ℕ) (h : Head) (body : List ℕ) → IsPacket u bytes h body → packet_of u bytes ≡ Ok (h, body)
+
+-- the spelling of a packet that was read at one unit reads at each unit as the bytes that it was read from
+abbrev pub SpellsAlike : Type 0
+SpellsAlike = (u v : «Unit») (bytes : List ℕ) (p : Packet) → packet_of u bytes ≡ Ok (p.head, p.body.now) → packet_of v (spelling p) ≡ packet_of v bytes

@@ -1,5 +1,7 @@
 //! What a packet is made of (DSP0236, section 8.1).
 
+ghost use Rattle.std.specs.Prelude.{◌≡◌};
+
 use arrayvec::ArrayVec;
 
 /// The bytes of a packet's head (DSP0236, section 8.1).
@@ -41,3 +43,12 @@ pub struct Packet<'a> {
 
 /// The bytes of one packet, as they go over a medium: a head and a body.
 pub type RawPacket = ArrayVec<u8, MAX_PACKET>;
+
+/// The same bytes once more: a packet for a second place.
+pub fn copy_of(packet: &RawPacket) -> RawPacket
+    ensures { result.items ≡ packet.now.items }
+{
+    let mut copy = RawPacket::new();
+    let _ = copy.try_extend_from_slice(packet.as_slice());
+    copy
+}

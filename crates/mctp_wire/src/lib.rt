@@ -10,5 +10,5 @@ mod unit;
 pub use codec::{decode, encode};
 pub use fault::WireFault;
 pub use laws::reads_back;
-pub use layout::{HEAD_SIZE, Head, MAX_BODY, MAX_PACKET, Packet, RawPacket};
+pub use layout::{HEAD_SIZE, Head, MAX_BODY, MAX_PACKET, Packet, RawPacket, copy_of};
 pub use unit::Unit;

@@ -54,8 +54,9 @@ pub fn answer_base(tid: &mut Tid, role: Role, command: u8, fields: &[u8]) -> Rep
     }
 }
 
-/// An answer that ends at its code.
-fn code_alone(code: u8) -> Reply
+/// The reply of this completion code and nothing else (DSP0240, "PLDM completion codes"): that of each command that isn't
+/// carried out, and of one that has nothing to tell.
+pub fn code_alone(code: u8) -> Reply
     ensures { result.items ≡ code ∷ [] }
 {
     let mut reply = Reply::new();

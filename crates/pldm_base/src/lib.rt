@@ -8,7 +8,7 @@ mod laws;
 mod terminus;
 
 pub use base::{
-    GET_PLDM_COMMANDS, GET_PLDM_TYPES, GET_TID, MAX_REPLY, Reply, SET_TID, answer_base,
+    GET_PLDM_COMMANDS, GET_PLDM_TYPES, GET_TID, MAX_REPLY, Reply, SET_TID, answer_base, code_alone,
 };
 pub use header::{
     HEADER_SIZE, MESSAGE_TYPE, PldmFault, PldmHead, RawMessage, TYPE_BASE, TYPE_FIRMWARE_UPDATE,

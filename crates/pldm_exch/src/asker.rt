@@ -1,6 +1,7 @@
 //! The end of a node that asks a peer.
 
 ghost use Rattle.std.specs.Prelude.{◌≡◌, ◌≤◌, List, ℕ, is_some, length, option_map, true};
+ghost use Rattle.mctp_wire.specs.Packet.{IsRead, spelling};
 ghost use Rattle.pldm_base.specs.Limits.{reply_limit};
 ghost use Rattle.pldm_exch.specs.Caller.{abandoned, asking, begun, caller_tick, is_quiet, may_begin};
 ghost use Rattle.pldm_exch.specs.Ends.{asking_new, asking_older};
@@ -8,7 +9,7 @@ ghost use Rattle.pldm_exch.specs.Sides.{asking_after, asking_row, learnt_in};
 
 use crate::caller::{CallTick, Caller, ReplyIn};
 use mctp_reasm::{Fed, Inbox, Message};
-use mctp_wire::Unit;
+use mctp_wire::{Packet, Unit};
 use pldm_base::TYPE_FIRMWARE_UPDATE;
 use std::marker::Model;
 
@@ -112,17 +113,18 @@ impl Asker {
         self.caller.abandon();
     }
 
-    /// Hears the bytes of a packet: the reply that is learnt, if the packet makes the open request's reply whole. Bytes
-    /// that are no packet of the peer's replies change nothing.
+    /// Hears a packet: the reply that is learnt, if the packet makes the open request's reply whole. One that is none of
+    /// the peer's replies changes nothing.
     #[tactic(auto, using(crate::proofs::SideRows::rows))]
-    pub fn hear(&mut self, bytes: &[u8]) -> Option<ReplyIn>
-        ensures learnt { option_map (λ r. record { command = r.command; reply = r.reply.items }) result ≡ learnt_in (asking_row self.old bytes.now) }
-        ensures after { self.new ≡ asking_after self.old (asking_row self.old bytes.now) }
+    pub fn hear(&mut self, packet: &Packet<'_>) -> Option<ReplyIn>
+        requires read { IsRead packet.now }
+        ensures learnt { option_map (λ r. record { command = r.command; reply = r.reply.items }) result ≡ learnt_in (asking_row self.old (spelling packet.now)) }
+        ensures after { self.new ≡ asking_after self.old (asking_row self.old (spelling packet.now)) }
     {
-        let Some(packet) = self.inbox.packet_in(bytes) else {
+        if !self.inbox.hears(packet) {
             return None;
-        };
-        let Fed::Whole(message) = self.inbox.feed(&packet) else {
+        }
+        let Fed::Whole(message) = self.inbox.feed(packet) else {
             return None;
         };
         self.caller.on_answer(&message)

@@ -1,6 +1,7 @@
 //! The end of a node that answers a peer.
 
 ghost use Rattle.std.specs.Prelude.{◌≡◌, ◌≤◌, length, true};
+ghost use Rattle.mctp_wire.specs.Packet.{IsRead, spelling};
 ghost use Rattle.pldm_base.specs.Header.{IsHead, pldm_of};
 ghost use Rattle.pldm_exch.specs.Ends.{answering_new, answering_older};
 ghost use Rattle.pldm_exch.specs.Sides.{answered_with, answering_row, brought_in, brought_of, requests_in, taker_read};
@@ -9,7 +10,7 @@ ghost use Rattle.pldm_exch.specs.Requests.{reply_message};
 use crate::answerer::{Answerer, Asked};
 use crate::request::{Brought, Request};
 use mctp_reasm::{Fed, Inbox, Message};
-use mctp_wire::Unit;
+use mctp_wire::{Packet, Unit};
 use pldm_base::{MAX_REPLY, PldmHead};
 use std::marker::Model;
 
@@ -65,17 +66,18 @@ impl Taker {
         self.inbox.peer()
     }
 
-    /// Hears the bytes of a packet, and tells what is to be done if the packet makes a message whole. Bytes that are no
-    /// packet of the peer's requests change nothing.
+    /// Hears a packet, and tells what is to be done if the packet makes a message whole. One that is none of the peer's
+    /// requests changes nothing.
     #[tactic(auto, using(crate::proofs::SideRows::rows))]
-    pub fn hear(&mut self, bytes: &[u8]) -> Brought
-        ensures brought { brought_of result ≡ brought_in (answering_row self.old bytes.now) }
-        ensures after { self.new ≡ record self.old { requests = requests_in (answering_row self.old bytes.now) } }
+    pub fn hear(&mut self, packet: &Packet<'_>) -> Brought
+        requires read { IsRead packet.now }
+        ensures brought { brought_of result ≡ brought_in (answering_row self.old (spelling packet.now)) }
+        ensures after { self.new ≡ record self.old { requests = requests_in (answering_row self.old (spelling packet.now)) } }
     {
-        let Some(packet) = self.inbox.packet_in(bytes) else {
+        if !self.inbox.hears(packet) {
             return Brought::Nothing;
-        };
-        let Fed::Whole(message) = self.inbox.feed(&packet) else {
+        }
+        let Fed::Whole(message) = self.inbox.feed(packet) else {
             return Brought::Nothing;
         };
         self.read(message)

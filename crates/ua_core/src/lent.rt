@@ -14,7 +14,7 @@ use crate::planned::Job;
 use crate::plans::unlearnt;
 use crate::state::Cause;
 use fw_package::{Component, Descriptor, Package};
-use fwup_wire::{Descriptors, Key, Text, Version};
+use fwup_wire::{Descriptors, Key, NO_STAMP, Text, Version};
 use std::marker::Model;
 
 /// The package that a session is lent, if there is one.
@@ -31,9 +31,6 @@ impl<'a> Model for Lent<'a> {
 
     ghost view = { λ l. lent l.package };
 }
-
-/// The comparison stamp that stands for none.
-const NO_STAMP: u32 = 0xFFFF_FFFF;
 
 /// The most bytes of a text that a message carries. A plan has no longer one.
 const TEXT_LIMIT: usize = 200;

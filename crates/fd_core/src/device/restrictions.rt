@@ -10,10 +10,7 @@ use crate::parts::{Component, Listed};
 use fwup_wire::code::response::{
     COMPARISON_STAMP_IDENTICAL, COMPARISON_STAMP_LOWER, NO_RESTRICTION, NOT_SUPPORTED,
 };
-use fwup_wire::{ComponentOffer, Key, TransferFlag};
-
-/// A comparison stamp that isn't compared.
-const NO_STAMP: u32 = 0xFFFF_FFFF;
+use fwup_wire::{ComponentOffer, Key, NO_STAMP, TransferFlag};
 
 /// The flag of an entry of the component table, by how many stand before it and how many there are.
 pub(super) fn flag_for(before: usize, count: u16) -> TransferFlag

@@ -1,6 +1,6 @@
 //! How a session answers the device's commands.
 
-ghost use Rattle.std.specs.Prelude.{◌≡◌, ◌≤◌, ◌==◌, ◌∷◌, [], if◌then◌else◌, Some, length};
+ghost use Rattle.std.specs.Prelude.{◌≡◌, ◌≤◌, ◌==◌, if◌then◌else◌, Some, length};
 ghost use Rattle.fwup_wire.specs.Answers.{answer_bytes, answer_code, answer_in};
 ghost use Rattle.fwup_wire.specs.Commands.{command_code};
 ghost use Rattle.fwup_wire.specs.Lent.{command_of};
@@ -19,8 +19,8 @@ use fwup_wire::code::completion::{
     COMMAND_NOT_EXPECTED, DATA_OUT_OF_RANGE, INVALID_TRANSFER_LENGTH, RETRY_REQUEST_FW_DATA,
 };
 use fwup_wire::{Answer, Command, MIN_TRANSFER, transfer_size, write_answer};
-use pldm_base::Reply;
 use pldm_base::completion::{ERROR_UNSUPPORTED_PLDM_CMD, SUCCESS};
+use pldm_base::{Reply, code_alone};
 
 /// The result of a transfer, a verification or an application that went well.
 const GOOD: u8 = 0;
@@ -156,13 +156,4 @@ fn next(outcome: u8, onward: SessionState, cause: Cause) -> SessionState
         return onward;
     }
     SessionState::Failed(cause)
-}
-
-/// An answer that ends at its code.
-fn code_alone(code: u8) -> Reply
-    ensures { result.items ≡ code ∷ [] }
-{
-    let mut reply = Reply::new();
-    reply.push(code);
-    reply
 }

@@ -1,34 +1,28 @@
-use Rattle.std.proofs.Common.{◌≡◌, Some, IfSome, arith, subst, sym, true}
-use Rattle.fw_node.specs.Agents.{SpeaksHearing, hearer}
-use Rattle.fw_node.specs.AgentViews.{agent_of}
-use Rattle.fw_node.specs.Cores.{session_core}
-use Rattle.fw_node.specs.Halves.{half_hears}
-use Rattle.fw_node.specs.Nodes.{IsTold}
-use Rattle.fw_node.proofs.Speaking.{hearer_there, speaks_deaf, told_deaf}
+use Rattle.std.proofs.Common.{◌∙◌, ap, sym}
+use Rattle.mctp_wire.specs.declared.unit.Unit.TheVariants.{U128}
+use Rattle.mctp_wire.specs.Packet.{spelling}
+use Rattle.mctp_wire.proofs.Spelled.{spelled_alike}
+use Rattle.fw_node.proofs.Readings.{agent_alike, speaks_alike, told_alike}
 use Rattle.fw_node.proofs.agent_node.AgentNode.on_packet.Goals as goal
 
-pub returns-then-self-gt0-clause-told : goal.returns-then-self-gt0-clause-told
-returns-then-self-gt0-clause-told c =
-    subst (λ n. IfSome (hearer n c.args.bytes.now) (λ h. IsTold h.core.session.unit (half_hears (session_core c.args.packages.now) true h c.args.bytes.now))) c.self.view_is
-    (told_deaf c.args.packages.now c.self.inside.deaf c.self.inside.identity c.self.inside.log c.self.inside.halves.items c.args.bytes.now (omega (arith, c.if-self-gt0.true)))
+pub returns-clause-after : goal.returns-clause-after
+returns-clause-after c =
+    c.hear.ensures.after
+    ∙ ap (λ heard. heard.agent) (sym (agent_alike c.args.packages.now c.args.self.now c.args.bytes.now (spelling c.in-Ok.packet) c.args.now
+    (λ u. spelled_alike U128 u c.args.bytes.now c.in-Ok.packet c.in-Ok.ensures.value)))
 
-pub returns-then-self-gt0-clause-spoken : goal.returns-then-self-gt0-clause-spoken
-returns-then-self-gt0-clause-spoken c =
-    subst (λ n. IfSome (hearer n c.args.bytes.now) (SpeaksHearing c.args.packages.now n c.args.bytes.now)) c.self.view_is
-    (speaks_deaf c.args.packages.now c.self.inside.deaf c.self.inside.identity c.self.inside.log c.self.inside.halves.items c.args.bytes.now (omega (arith, c.if-self-gt0.true)))
+pub returns-clause-sent : goal.returns-clause-sent
+returns-clause-sent c =
+    c.hear.ensures.sent
+    ∙ ap (λ heard. heard.sent) (sym (agent_alike c.args.packages.now c.args.self.now c.args.bytes.now (spelling c.in-Ok.packet) c.args.now
+    (λ u. spelled_alike U128 u c.args.bytes.now c.in-Ok.packet c.in-Ok.ensures.value)))
 
 pub returns-clause-told : goal.returns-clause-told
 returns-clause-told c =
-    let hears : c.self.inside.deaf ≡ 0 = omega (arith, c.if-self-gt0.false) in
-    subst (λ n. IfSome (hearer n c.args.bytes.now) (λ h. IsTold h.core.session.unit (half_hears (session_core c.args.packages.now) true h c.args.bytes.now))) c.self.view_is
-    (subst (λ deaf. IfSome (hearer (agent_of deaf c.self.inside.identity c.self.inside.log c.self.inside.halves.items) c.args.bytes.now) (λ h. IsTold h.core.session.unit (half_hears (session_core c.args.packages.now) true h c.args.bytes.now))) (sym hears)
-    (hearer_there c.self.inside.identity c.self.inside.log c.self.inside.halves.items c.args.bytes.now (Some c.in-Some.place) (λ h. IsTold h.core.session.unit (half_hears (session_core c.args.packages.now) true h c.args.bytes.now))
-    (rw c.as_slice.ensures.value at c.in-Some.ensures.place) (rw c.as_mut_slice.ensures.value at c.hear_at.ensures.told)))
+    told_alike c.args.packages.now c.args.self.now c.args.bytes.now (spelling c.in-Ok.packet)
+    (λ u. spelled_alike U128 u c.args.bytes.now c.in-Ok.packet c.in-Ok.ensures.value) c.hear.ensures.told
 
 pub returns-clause-spoken : goal.returns-clause-spoken
 returns-clause-spoken c =
-    let hears : c.self.inside.deaf ≡ 0 = omega (arith, c.if-self-gt0.false) in
-    subst (λ n. IfSome (hearer n c.args.bytes.now) (SpeaksHearing c.args.packages.now n c.args.bytes.now)) c.self.view_is
-    (subst (λ deaf. IfSome (hearer (agent_of deaf c.self.inside.identity c.self.inside.log c.self.inside.halves.items) c.args.bytes.now) (SpeaksHearing c.args.packages.now (agent_of deaf c.self.inside.identity c.self.inside.log c.self.inside.halves.items) c.args.bytes.now)) (sym hears)
-    (hearer_there c.self.inside.identity c.self.inside.log c.self.inside.halves.items c.args.bytes.now (Some c.in-Some.place) (SpeaksHearing c.args.packages.now (agent_of 0 c.self.inside.identity c.self.inside.log c.self.inside.halves.items) c.args.bytes.now)
-    (rw c.as_slice.ensures.value at c.in-Some.ensures.place) (rw c.as_mut_slice.ensures.value at c.hear_at.ensures.spoken)))
+    speaks_alike c.args.packages.now c.args.self.now c.args.bytes.now (spelling c.in-Ok.packet)
+    (λ u. spelled_alike U128 u c.args.bytes.now c.in-Ok.packet c.in-Ok.ensures.value) c.hear.ensures.spoken

@@ -1,8 +1,9 @@
+use Rattle.mctp_wire.specs.Packet.{spelling}
 use Rattle.fw_node.specs.Brings.{incoming_of}
 use Rattle.fw_node.proofs.NodeHears.{hears_brings}
 use Rattle.fw_node.proofs.half.Half.incoming.Goals as goal
 
 pub returns-clause-brings : goal.returns-clause-brings
 returns-clause-brings g c given works =
-    hears_brings (g.C.Core.does given) works (g.C.Core.seen c.args.self.now.core) c.args.self.now.ends c.hear.new.self c.args.bytes.now (incoming_of c.hear.result)
+    hears_brings (g.C.Core.does given) works (g.C.Core.seen c.args.self.now.core) c.args.self.now.ends c.hear.new.self (spelling c.args.packet.now) (incoming_of c.hear.result)
     c.hear.ensures.lawful.0 c.hear.ensures.lawful.1 c.hear.ensures.lawful.2 c.hear.ensures.incoming c.hear.ensures.asking c.hear.ensures.answering

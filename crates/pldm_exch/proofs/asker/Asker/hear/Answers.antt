@@ -1,4 +1,5 @@
-use Rattle.std.proofs.Common.{sym}
+use Rattle.std.proofs.Common.{refl, sym}
+use Rattle.mctp_wire.specs.Packet.{spelling}
 use Rattle.mctp_reasm.specs.Pieces.{packet_of}
 use Rattle.pldm_exch.proofs.SideRows.{whole_after}
 use Rattle.pldm_exch.proofs.asker.Asker.hear.Goals as goal
@@ -7,5 +8,5 @@ pub returns-clause-after : goal.returns-clause-after
 returns-clause-after c =
     rw (← c.self.view_is, c.feed.ensures.after, c.on_answer.ensures.after)
     (sym (whole_after (record { unit = c.self.inside.inbox.unit; own = c.self.inside.inbox.own; peer = c.self.inside.inbox.peer; caller = c.self.inside.caller; replies = c.self.inside.inbox.held })
-    c.args.bytes.now (packet_of c.in-Some.packet.head c.in-Some.packet.body.now) c.in-Whole.message
-    (rw c.self.invariant at c.in-Some.ensures.value) c.in-Whole.ensures.answer))
+    (spelling c.args.packet.now) (packet_of c.args.packet.now.head c.args.packet.now.body.now) c.in-Whole.message
+    (sym (rw c.self.invariant at c.if-not-hears.ensures.heard refl)) c.in-Whole.ensures.answer))

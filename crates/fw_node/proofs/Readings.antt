@@ -1,0 +1,110 @@
+-- What a packet is for a node depends on what its bytes read as alone.
+use Rattle.std.proofs.Common.{◌≡◌, ◌∙◌, ◌==◌, ℕ, Bool, true, false, if◌then◌else◌, List, [], Option, Some, None, IfSome, Result, Ok, Err, refl, sym, ap, subst}
+use Rattle.mctp_wire.specs.Packet as wire
+use Rattle.mctp_wire.specs.Packet.{IsRead, spelling}
+use Rattle.mctp_wire.specs.declared.fault.WireFault.{WireFault}
+use Rattle.mctp_wire.specs.declared.layout.Head.{Head}
+use Rattle.mctp_wire.specs.declared.layout.Packet.{Packet}
+use Rattle.mctp_wire.specs.declared.unit.Unit.{«Unit»}
+use Rattle.mctp_wire.specs.declared.unit.Unit.TheVariants.{U128}
+use Rattle.mctp_wire.proofs.Spelled.{spelling_fits}
+use Rattle.mctp_reasm.specs.Held.{Held}
+use Rattle.mctp_reasm.specs.Inboxes.{for_end}
+use Rattle.pldm_base.specs.declared.terminus.Role.TheVariants as roles
+use Rattle.pldm_exch.specs.Sides.{AskerRow, TakerRow, asker_packet, taker_packet}
+use Rattle.fw_package.specs.Package.{PackageText}
+use Rattle.ua_core.specs.Session.{TimedOf}
+use Rattle.fw_node.specs.Agents.{AgentOf, SpeaksHearing, agent_hears, agent_unmoved, any_packet, half_at, half_heard, hearer, hears_at, place_heard}
+use Rattle.fw_node.specs.Cores.{device_core, session_core}
+use Rattle.fw_node.specs.Halves.{CoreOf, HalfHeard, HalfOf, half_hears, half_hears_by, half_takes}
+use Rattle.fw_node.specs.Nodes.{DeviceNodeOf, IsTold, SpeaksAfter, device_hears, finished}
+
+-- both read alike at each unit
+abbrev pub ReadAlike : List ℕ → List ℕ → Type 0
+ReadAlike a b = (u : «Unit») → wire.packet_of u a ≡ wire.packet_of u b
+
+-- a packet that was read reads at the greater unit, whichever unit it was read at
+pub spelling_reads : (p : Packet) → IsRead p → any_packet (spelling p) ≡ Ok (p.head, p.body.now)
+spelling_reads p r = spelling_fits U128 p r r.few
+
+-- a half, by what its ends make of what was read
+abbrev half_reads : {C : Type 0} → CoreOf C → (works : Bool) → HalfOf C → Result (Head × List ℕ) WireFault → HalfHeard C
+half_reads core works h r =
+    half_hears_by core works h
+    (if h.asker.deaf == 0 then asker_packet h.unit h.asker (for_end h.own h.peer false r) else AskerRow.Ignores h.asker.replies)
+    (if h.taker.deaf == 0 then taker_packet h.unit h.taker (for_end h.own h.peer true r) else TakerRow.Silent h.taker.requests)
+
+pub half_alike : {C : Type 0} (core : CoreOf C) (works : Bool) (h : HalfOf C) (a b : List ℕ) → ReadAlike a b → half_hears core works h a ≡ half_hears core works h b
+half_alike core works h a b alike = ap (half_reads core works h) (alike h.unit)
+
+-- bytes that are no packet change nothing
+asker_unread : (b : Bool) (replies : List (Option Held)) → (if b then AskerRow.Ignores replies else AskerRow.Ignores replies) ≡ AskerRow.Ignores replies
+asker_unread true replies = refl
+asker_unread false replies = refl
+
+taker_unread : (b : Bool) (requests : List (Option Held)) → (if b then TakerRow.Silent requests else TakerRow.Silent requests) ≡ TakerRow.Silent requests
+taker_unread true requests = refl
+taker_unread false requests = refl
+
+pub half_unread : {C : Type 0} (core : CoreOf C) (works : Bool) (h : HalfOf C) (bytes : List ℕ) (e : WireFault) → Err e ≡ wire.packet_of h.unit bytes → half_hears core works h bytes ≡ HalfHeard.Went h []
+half_unread core works h bytes e unread =
+    ap (half_reads core works h) (sym unread)
+    ∙ ap (λ row. half_hears_by core works h row (if h.taker.deaf == 0 then TakerRow.Silent h.taker.requests else TakerRow.Silent h.taker.requests)) (asker_unread (h.asker.deaf == 0) h.asker.replies)
+    ∙ ap (half_takes core works h) (taker_unread (h.taker.deaf == 0) h.taker.requests)
+
+-- a device's node
+pub device_alike : (works : Bool) (n : DeviceNodeOf) (a b : List ℕ) → ReadAlike a b → device_hears works n a ≡ device_hears works n b
+device_alike works n a b alike = ap (finished roles.Device n.endpoint n.tid) (half_alike device_core works n.half a b alike)
+
+pub device_unread : (works : Bool) (n : DeviceNodeOf) (bytes : List ℕ) (e : WireFault) → Err e ≡ wire.packet_of n.half.unit bytes
+    → device_hears works n bytes ≡ record { half = n.half; tid = n.tid; sent = [] }
+device_unread works n bytes e unread = ap (finished roles.Device n.endpoint n.tid) (half_unread device_core works n.half bytes e unread)
+
+-- the agent
+hears_alike : (packages : List PackageText) (n : AgentOf) (a b : List ℕ) (now : ℕ) (place : Option ℕ) (h : Option (HalfOf TimedOf)) → ReadAlike a b → hears_at packages n a now place h ≡ hears_at packages n b now place h
+hears_alike packages n a b now None h alike = refl
+hears_alike packages n a b now (Some place) None alike = refl
+hears_alike packages n a b now (Some place) (Some h) alike =
+    ap (λ heard. half_heard n now place h (finished roles.Agent n.endpoint n.tid heard)) (half_alike (session_core packages) true h a b alike)
+
+pub agent_alike : (packages : List PackageText) (n : AgentOf) (a b : List ℕ) (now : ℕ) → ReadAlike a b → agent_hears packages n a now ≡ agent_hears packages n b now
+agent_alike packages n a b now alike =
+    ap (λ r. if n.deaf == 0 then hears_at packages n a now (place_heard n.halves r) (half_at n.halves (place_heard n.halves r)) else agent_unmoved n) (alike U128)
+    ∙ ap (λ x. if n.deaf == 0 then x else agent_unmoved n) (hears_alike packages n a b now (place_heard n.halves (any_packet b)) (half_at n.halves (place_heard n.halves (any_packet b))) alike)
+
+agent_deaf : (b : Bool) (n : AgentOf) → (if b then agent_unmoved n else agent_unmoved n) ≡ agent_unmoved n
+agent_deaf true n = refl
+agent_deaf false n = refl
+
+pub agent_unread : (packages : List PackageText) (n : AgentOf) (bytes : List ℕ) (now : ℕ) (e : WireFault) → Err e ≡ wire.packet_of U128 bytes → agent_hears packages n bytes now ≡ agent_unmoved n
+agent_unread packages n bytes now e unread =
+    ap (λ r. if n.deaf == 0 then hears_at packages n bytes now (place_heard n.halves r) (half_at n.halves (place_heard n.halves r)) else agent_unmoved n) (sym unread)
+    ∙ agent_deaf (n.deaf == 0) n
+
+-- what is said of the half that hears
+said_alike : {X : Type 0} (o : Option X) (P Q : X → Type 0) → ((x : X) → P x → Q x) → IfSome o P → IfSome o Q
+said_alike None P Q to h = tt
+said_alike (Some x) P Q to h = to x h
+
+hearer_alike : (n : AgentOf) (a b : List ℕ) → ReadAlike a b → hearer n a ≡ hearer n b
+hearer_alike n a b alike = ap (λ r. half_at n.halves (place_heard n.halves r)) (alike U128)
+
+pub told_alike : (packages : List PackageText) (n : AgentOf) (a b : List ℕ) → ReadAlike a b
+    → IfSome (hearer n b) (λ h. IsTold h.core.session.unit (half_hears (session_core packages) true h b))
+    → IfSome (hearer n a) (λ h. IsTold h.core.session.unit (half_hears (session_core packages) true h a))
+told_alike packages n a b alike told =
+    subst (λ o. IfSome o (λ h. IsTold h.core.session.unit (half_hears (session_core packages) true h a))) (sym (hearer_alike n a b alike))
+    (said_alike (hearer n b) (λ h. IsTold h.core.session.unit (half_hears (session_core packages) true h b)) (λ h. IsTold h.core.session.unit (half_hears (session_core packages) true h a))
+    (λ h. subst (IsTold h.core.session.unit) (sym (half_alike (session_core packages) true h a b alike))) told)
+
+pub speaks_alike : (packages : List PackageText) (n : AgentOf) (a b : List ℕ) → ReadAlike a b
+    → IfSome (hearer n b) (SpeaksHearing packages n b) → IfSome (hearer n a) (SpeaksHearing packages n a)
+speaks_alike packages n a b alike speaks =
+    subst (λ o. IfSome o (SpeaksHearing packages n a)) (sym (hearer_alike n a b alike))
+    (said_alike (hearer n b) (SpeaksHearing packages n b) (SpeaksHearing packages n a)
+    (λ h. subst (λ heard. SpeaksAfter (session_core packages) h.core (finished roles.Agent n.endpoint n.tid heard).half.core) (sym (half_alike (session_core packages) true h a b alike))) speaks)
+
+pub nobody_hears : (n : AgentOf) (bytes : List ℕ) (e : WireFault) (P : HalfOf TimedOf → Type 0) → Err e ≡ wire.packet_of U128 bytes → IfSome (hearer n bytes) P
+nobody_hears n bytes e P unread = subst (λ r. IfSome (half_at n.halves (place_heard n.halves r)) P) unread tt
+
+pub ruleset readings = (spelling_reads)
