@@ -1,13 +1,9 @@
 -- Packets that are looked through from the last one on.
-use Rattle.std.proofs.Common.{◌≡◌, ◌≤◌, ◌<◌, ◌+◌, ◌-◌, ◌∙◌, ℕ, zero, suc, List, [], ◌∷◌, get_or, if◌then◌else◌, inl, inr, length, map, slice_get, Some, None, refl, sym, ap, subst, arith}
-use Rattle.std.specs.Prelude.{IsSomeAnd, option_map}
+use Rattle.std.proofs.Common.{◌≡◌, ◌≤◌, ◌<◌, ◌+◌, ◌-◌, ℕ, zero, suc, List, [], ◌∷◌, if◌then◌else◌, inl, inr, length, slice_get, Some, None, sym, ap, subst, arith}
+use Rattle.std.specs.Prelude.{IsSomeAnd}
 use Rattle.std.proofs.lemmas.Bool.{lt-ltb}
 use Rattle.std.proofs.lemmas.Bool.Decides.{eqb_tells}
-use Rattle.std.proofs.lemmas.List.{length-map}
-use Rattle.std.proofs.lemmas.Option.{slice_get-map, slice_get_read}
-use Rattle.exch_lane.specs.Journals.{sent_of}
 use Rattle.exch_lane.specs.Lanes.{Sent, numbered}
-use Rattle.exch_lane.specs.declared.journal.SentPacket.{SentPacket}
 use Rattle.fw_world.specs.Dead.{AreDead}
 use Rattle.fw_edge.specs.Hearing.{IsLastLiving, IsLiving, LivesWith}
 
@@ -34,52 +30,33 @@ at_most now bytes packets (suc n) h =
     let less : suc n - 1 < length packets = past_end now bytes packets (suc n - 1) (living_at now bytes packets (suc n) (omega arith) h) in
     omega arith
 
-pub none_behind_all : (now : ℕ) (packets : List SentPacket) (bytes : List ℕ) (number : ℕ) → number ≡ length packets → LivesNoneBehind now (map sent_of packets) bytes number
-none_behind_all now packets bytes number is =
-    let same : length (map sent_of packets) ≡ length packets = length-map packets sent_of in
-    record {
-      within = omega arith;
-      none = λ other h. let most : other ≤ length (map sent_of packets) = at_most now bytes (map sent_of packets) other h in omega arith;
-    }
-
-numbered_at : (packets : List SentPacket) (number : ℕ) (p : SentPacket) → 0 < number → number ≤ length packets → p ≡ get_or packets (number - 1) p
-    → numbered (map sent_of packets) number ≡ Some (sent_of p)
-numbered_at packets number p some within is =
-    numbered_pos (map sent_of packets) number some ∙ slice_get-map sent_of packets (number - 1)
-    ∙ ap (option_map sent_of) (slice_get_read packets (length packets) (number - 1) p refl (omega arith) is)
-
-lives_there : (now : ℕ) (packets : List SentPacket) (bytes : List ℕ) (number : ℕ) (p : SentPacket) → 0 < number → p ≡ get_or packets (number - 1) p
-    → LivesNoneBehind now (map sent_of packets) bytes number → numbered (map sent_of packets) number ≡ Some (sent_of p)
-lives_there now packets bytes number p some is h =
-    let same : length (map sent_of packets) ≡ length packets = length-map packets sent_of in
-    let within : number ≤ length packets = omega (arith, h.within) in
-    numbered_at packets number p some within is
+pub none_behind_all : (now : ℕ) (packets : List Sent) (bytes : List ℕ) (number : ℕ) → number ≡ length packets → LivesNoneBehind now packets bytes number
+none_behind_all now packets bytes number is = record {
+  within = omega arith;
+  none = λ other h. let most : other ≤ length packets = at_most now bytes packets other h in omega arith;
+}
 
 -- the last of those that are left doesn't live
-pub none_behind_less : (now : ℕ) (packets : List SentPacket) (bytes : List ℕ) (number : ℕ) (p : SentPacket) → 0 < number → p ≡ get_or packets (number - 1) p
-    → (LivesWith now bytes (sent_of p) → ⊥) → LivesNoneBehind now (map sent_of packets) bytes number → LivesNoneBehind now (map sent_of packets) bytes (number - 1)
-none_behind_less now packets bytes number p some is dead h = record {
-  within = let le : number ≤ length (map sent_of packets) = h.within in omega arith;
+pub none_behind_less : (now : ℕ) (packets : List Sent) (bytes : List ℕ) (number : ℕ) → 0 < number → (IsSomeAnd (slice_get packets (number - 1)) (LivesWith now bytes) → ⊥)
+    → LivesNoneBehind now packets bytes number → LivesNoneBehind now packets bytes (number - 1)
+none_behind_less now packets bytes number some dead h = record {
+  within = let le : number ≤ length packets = h.within in omega arith;
   none = less;
 }
   where
-    there : numbered (map sent_of packets) number ≡ Some (sent_of p)
-    there = lives_there now packets bytes number p some is h
+    dead_there : IsLiving now packets bytes number → ⊥
+    dead_there l = dead (living_at now bytes packets number some l)
 
-    dead_there : IsLiving now (map sent_of packets) bytes number → ⊥
-    dead_there l = dead (subst (λ o. IsSomeAnd o (LivesWith now bytes)) there l)
-
-    less : (other : ℕ) → IsLiving now (map sent_of packets) bytes other → other ≤ number - 1
+    less : (other : ℕ) → IsLiving now packets bytes other → other ≤ number - 1
     less other l = elim (eqb_tells other number) [
-      | inl same ↦ absurd (dead_there (subst (λ n. IsLiving now (map sent_of packets) bytes n) same.1 l))
+      | inl same ↦ absurd (dead_there (subst (λ n. IsLiving now packets bytes n) same.1 l))
       | inr differ ↦ (let le : other ≤ number = h.none other l in let ne = differ.1 in omega arith)
     ]
 
 -- it does
-pub last_lives : (now : ℕ) (packets : List SentPacket) (bytes : List ℕ) (number : ℕ) (p : SentPacket) → 0 < number → p ≡ get_or packets (number - 1) p
-    → LivesWith now bytes (sent_of p) → LivesNoneBehind now (map sent_of packets) bytes number → IsLastLiving now (map sent_of packets) bytes (Some number)
-last_lives now packets bytes number p some is lives h =
-    (subst (λ o. IsSomeAnd o (LivesWith now bytes)) (sym (lives_there now packets bytes number p some is h)) lives, h.none)
+pub last_lives : (now : ℕ) (packets : List Sent) (bytes : List ℕ) (number : ℕ) → 0 < number → IsSomeAnd (slice_get packets (number - 1)) (LivesWith now bytes)
+    → LivesNoneBehind now packets bytes number → IsLastLiving now packets bytes (Some number)
+last_lives now packets bytes number some lives h = (subst (λ o. IsSomeAnd o (LivesWith now bytes)) (sym (numbered_pos packets number some)) lives, h.none)
 
 -- a dead one doesn't
 dead_at : (now : ℕ) (bytes : List ℕ) (packets : List Sent) (count place : ℕ) → place < count → AreDead now count packets → IsSomeAnd (slice_get packets place) (LivesWith now bytes) → ⊥

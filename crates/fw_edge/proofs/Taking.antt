@@ -1,10 +1,8 @@
 -- Packets that links take, one after the other.
 use Rattle.std.proofs.Common.{◌≡◌, ◌≤◌, ◌<◌, ◌+◌, ◌-◌, ◌++◌, ◌∙◌, ℕ, zero, suc, List, [], ◌∷◌, drop, get_or, length, map, slice_get, slice_set, take, Option, Some, None, refl, sym, ap, subst, arith}
 use Rattle.std.specs.Prelude.{option_map}
-use Rattle.std.specs.List.{slice_range}
 use Rattle.std.proofs.lemmas.List.{drop-map, drop_all, length-drop, map-set, map_more, take_all}
-use Rattle.exch_lane.specs.Journals.{sent_of}
-use Rattle.exch_lane.specs.declared.journal.SentPacket.{SentPacket}
+use Rattle.exch_lane.specs.Lanes.{Sent}
 use Rattle.fw_node.specs.Nodes.{DeviceNodeOf}
 use Rattle.fw_world.specs.Worlds.{SiteOf}
 use Rattle.fw_edge.specs.Frames.{frames_of}
@@ -18,44 +16,36 @@ took_append : (device : ℕ) (old mid new : EndsOf) (ps : List (List ℕ)) (p : 
 took_append device old mid new [] p h g = (new, subst (λ o. GrowsAt (end_of p device) (frames_of (p ∷ [])) o new) h g, refl)
 took_append device old mid new (q ∷ ps) p h g = (h.0, h.1, took_append device h.0 mid new ps p h.2 g)
 
-abbrev pub bytes_in : SentPacket → List ℕ
-bytes_in p = p.bytes.items
+abbrev pub bytes_in : Sent → List ℕ
+bytes_in p = p.bytes
 
-pub took_more : (device : ℕ) (old mid new : EndsOf) (ps : List SentPacket) (i : ℕ) (p : SentPacket) (side : _) → i < length ps → p ≡ get_or ps i p → side ≡ end_of p.bytes.items device
-    → TookAll device old (map bytes_in (take i ps)) mid → GrowsAt side (frames_of (p.bytes.items ∷ [])) mid new → TookAll device old (map bytes_in (take (i + 1) ps)) new
-took_more device old mid new ps i p side lt is at h g =
-    subst (λ xs. TookAll device old xs new) (sym (map_more bytes_in ps i p lt ∙ ap (λ q. map bytes_in (take i ps) ++ bytes_in q ∷ []) (sym is)))
-    (took_append device old mid new (map bytes_in (take i ps)) p.bytes.items h (subst (λ s. GrowsAt s (frames_of (p.bytes.items ∷ [])) mid new) at g))
+one_longer : (ps : List Sent) (i : ℕ) (p : List ℕ) → option_map bytes_in (slice_get ps i) ≡ Some p → map bytes_in (take (i + 1) ps) ≡ map bytes_in (take i ps) ++ p ∷ []
+one_longer ps i p is = let next : i + 1 ≡ suc i = omega arith in rw next (longer ps i is)
+  where
+    longer : (qs : List Sent) (n : ℕ) → option_map bytes_in (slice_get qs n) ≡ Some p → map bytes_in (take (suc n) qs) ≡ map bytes_in (take n qs) ++ p ∷ []
+    longer [] n e = absurd (cc)
+    longer (q ∷ qs) zero e = let same : q.bytes ≡ p = cc in ap (λ b. b ∷ []) same
+    longer (q ∷ qs) (suc n) e = ap (λ bs. q.bytes ∷ bs) (longer qs n e)
+
+pub took_more : (device : ℕ) (old mid new : EndsOf) (ps : List Sent) (i : ℕ) (p : List ℕ) (side : _) → option_map bytes_in (slice_get ps i) ≡ Some p → side ≡ end_of p device
+    → TookAll device old (map bytes_in (take i ps)) mid → GrowsAt side (frames_of (p ∷ [])) mid new → TookAll device old (map bytes_in (take (i + 1) ps)) new
+took_more device old mid new ps i p side is at h g =
+    subst (λ xs. TookAll device old xs new) (sym (one_longer ps i p is))
+    (took_append device old mid new (map bytes_in (take i ps)) p h (subst (λ s. GrowsAt s (frames_of (p ∷ [])) mid new) at g))
 
 -- all
-pub took_all : (device : ℕ) (old new : EndsOf) (ps : List SentPacket) (i : ℕ) → length ps ≤ i → TookAll device old (map bytes_in (take i ps)) new → TookAll device old (map bytes_in ps) new
+pub took_all : (device : ℕ) (old new : EndsOf) (ps : List Sent) (i : ℕ) → length ps ≤ i → TookAll device old (map bytes_in (take i ps)) new → TookAll device old (map bytes_in ps) new
 took_all device old new ps i le h = subst (λ xs. TookAll device old (map bytes_in xs) new) (take_all i ps le) h
 
--- a slice to the end
-pub drop_rest : (n : ℕ) (ps : List SentPacket) → slice_range ps n (length ps) ≡ drop n ps
-drop_rest n ps = take_all (length ps - n) (drop n ps) (let rest = length-drop n ps in omega arith)
-
 -- those of a pair that aren't written
-same_bytes : (ps : List SentPacket) → map (λ p. p.bytes) (map sent_of ps) ≡ map bytes_in ps
-same_bytes [] = refl
-same_bytes (p ∷ ps) = ap (λ xs. p.bytes.items ∷ xs) (same_bytes ps)
-
-pub took_there : (x : Option SiteOf) (node : DeviceNodeOf) (ps : List SentPacket) (device written : ℕ) (old new : EndsOf) → option_map (λ y. y.node) x ≡ Some node → option_map (λ y. y.packets) x ≡ Some (map sent_of ps)
+pub took_there : (x : Option SiteOf) (node : DeviceNodeOf) (ps : List Sent) (device written : ℕ) (old new : EndsOf) → option_map (λ y. y.node) x ≡ Some node → option_map (λ y. y.packets) x ≡ Some ps
     → device ≡ node.endpoint.eid → TookAll device old (map bytes_in (drop written ps)) new → TookAt x written old new
 took_there None node ps device written old new is has eid h = absurd (cc)
 took_there (Some x) node ps device written old new is has eid h =
     let same : x.node ≡ node = cc in
-    let packets : x.packets ≡ map sent_of ps = cc in
-    subst (λ d. TookAll d old (map (λ p. p.bytes) (drop written x.packets)) new) (eid ∙ sym (ap (λ n. n.endpoint.eid) same))
-    (subst (λ xs. TookAll device old xs new) (sym (ap (λ xs. map (λ p. p.bytes) (drop written xs)) packets ∙ ap (map (λ p. p.bytes)) (drop-map sent_of written ps) ∙ same_bytes (drop written ps))) h)
-
--- all are
-pub took_none : (x : Option SiteOf) (ps : List SentPacket) (written : ℕ) (ends : EndsOf) → option_map (λ y. y.packets) x ≡ Some (map sent_of ps) → length ps ≤ written → TookAt x written ends ends
-took_none None ps written ends has le = absurd (cc)
-took_none (Some x) ps written ends has le =
-    let packets : x.packets ≡ map sent_of ps = cc in
-    let long : length (map sent_of ps) ≡ length ps = map_length sent_of ps in
-    subst (λ xs. TookAll x.node.endpoint.eid ends (map (λ p. p.bytes) xs) ends) (sym (drop_all written x.packets (rw packets (omega arith)))) refl
+    let packets : x.packets ≡ ps = cc in
+    subst (λ d. TookAll d old (map bytes_in (drop written x.packets)) new) (eid ∙ sym (ap (λ n. n.endpoint.eid) same))
+    (subst (λ qs. TookAll device old (map bytes_in (drop written qs)) new) (sym packets) h)
 
 pub took_nowhere : (x : Option SiteOf) (written : ℕ) (ends : EndsOf) → option_map (λ y. y.node) x ≡ None → TookAt x written ends ends
 took_nowhere None written ends is = refl

@@ -9,15 +9,14 @@ ghost use Rattle.fw_world.specs.Worlds.{packets_at};
 
 use crate::driving::EdgeFault;
 use crate::link::Link;
-use exch_lane::SentPacket;
 use fd_core::Bank;
-use fw_world::{Side, World};
+use fw_world::{SentPackets, Side, World};
 
 /// The end of a device's link at which a packet goes out: that of its sender, whom its third byte names (DSP0236).
-fn end_of(packet: &SentPacket, device: u8) -> Side
-    ensures { result ≡ end_of packet.now.bytes.items device }
+fn end_of(packet: &[u8], device: u8) -> Side
+    ensures { result ≡ end_of packet.now device }
 {
-    let [_, _, source, ..] = packet.bytes.as_slice() else {
+    let [_, _, source, ..] = packet else {
         return Side::Agent;
     };
     if *source == device {
@@ -27,13 +26,20 @@ fn end_of(packet: &SentPacket, device: u8) -> Side
 }
 
 /// Writes these packets of a pair to its link, each at its sender's end.
-fn write_each<L: Link>(link: &mut L, packets: &[SentPacket], device: u8) -> Result<(), EdgeFault>
-    ensures took { OnOk result (TookAll device (L.taken link.old) (map (λ p. p.bytes.items) packets.now) (L.taken link.new)) }
+fn write_each<L: Link>(
+    link: &mut L,
+    packets: &SentPackets<'_>,
+    device: u8,
+) -> Result<(), EdgeFault>
+    ensures took { OnOk result (TookAll device (L.taken link.old) (map (λ p. p.bytes) packets.now) (L.taken link.new)) }
     ensures wrote { OnOk result (LinkWrote L.tally L.gave (length packets.now) link.old link.new) }
     ensures refused { IfErr result (λ e. LinkRefused L.tally e link.old link.new) }
 {
-    for packet in packets {
-        match link.send(end_of(packet, device), &packet.bytes) {
+    for place in 0..packets.len() {
+        let Some(packet) = packets.copied(place) else {
+            unreachable!()
+        };
+        match link.send(end_of(packet.as_slice(), device), &packet) {
             Ok(()) => {}
             Err(_) => return Err(EdgeFault::Frame),
         }
@@ -65,10 +71,7 @@ fn write_at<B: Bank + Drop, L: Link>(
     let (Some(node), Some(packets)) = (world.device_at(place), world.packets_at(place)) else {
         return Ok(());
     };
-    let Some(unwritten) = packets.get(written..) else {
-        return Ok(());
-    };
-    match write_each(link, unwritten, node.eid()) {
+    match write_each(link, &packets.behind(written), node.eid()) {
         Ok(()) => Ok(()),
         Err(fault) => Err(fault),
     }

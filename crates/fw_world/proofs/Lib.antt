@@ -16,6 +16,7 @@
 -- - `Places`: what stands at a place, and room there.
 -- - `Rooms`: room for more in a list.
 -- - `Components`: no call of a device's node changes which components the device and its bank have.
+-- - `Spans`: the bytes of packets that stand one behind the other.
 -- - `Aging`: packets that can't come any more.
 -- - `Ticking`: a tick leaves a device that is ready as it was.
 --
@@ -42,5 +43,6 @@ pub mod Reaching
 mod Recording
 mod Rooms
 mod Running
+mod Spans
 mod Ticking
 mod Timely

@@ -12,6 +12,7 @@ pub mod LinksAreLanes
 pub mod LinksAreMessages
 pub mod Messages
 pub mod Moments
+pub mod Packets
 pub mod Replays
 pub mod Sayable
 pub mod Sites

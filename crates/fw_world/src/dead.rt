@@ -1,11 +1,10 @@
 //! The packets of a device that can't come any more, so that no one looks at them again.
 
-ghost use Rattle.std.specs.Prelude.{◌≡◌, List, map, true};
-ghost use Rattle.exch_lane.specs.Journals.{sent_of};
+ghost use Rattle.std.specs.Prelude.{◌≡◌, List};
 ghost use Rattle.exch_lane.specs.Lanes.{Sent};
 ghost use Rattle.fw_world.specs.Dead.{AreDead, dead_count};
 
-use exch_lane::SentPacket;
+use crate::packets::SentPackets;
 
 /// How many of the first packets are known to be dead.
 #[derive(Drop)]
@@ -37,9 +36,9 @@ impl FirstDead {
 
     /// Counts on over those of these packets that are dead at this time, up to the first that isn't.
     #[tactic(auto, using(crate::proofs::Aging::dead_later))]
-    pub(crate) fn advance(&mut self, packets: &[SentPacket], now: u32)
-        requires { AreDead self.old.since self.old.count (map sent_of packets.now) }
-        ensures { AreDead self.new.since self.new.count (map sent_of packets.now) }
+    pub(crate) fn advance(&mut self, packets: &SentPackets<'_>, now: u32)
+        requires { AreDead self.old.since self.old.count packets.now }
+        ensures { AreDead self.new.since self.new.count packets.now }
     {
         if self.since < now {
             self.since = now;
@@ -50,13 +49,13 @@ impl FirstDead {
 
 /// How many of the first packets are dead at this time, where so many are known to be.
 #[tactic(auto, using(crate::proofs::Aging::dead_more))]
-pub(crate) fn first_dead(packets: &[SentPacket], now: u32, known: usize) -> usize
-    requires { AreDead now known (map sent_of packets.now) }
-    ensures dead { AreDead now result (map sent_of packets.now) }
-    ensures exact { result ≡ dead_count now (map sent_of packets.now) }
+pub(crate) fn first_dead(packets: &SentPackets<'_>, now: u32, known: usize) -> usize
+    requires { AreDead now known packets.now }
+    ensures dead { AreDead now result packets.now }
+    ensures exact { result ≡ dead_count now packets.now }
 {
     let mut count = known;
-    while count < packets.len() && !packets[count].lives(now) {
+    while count < packets.len() && packets.is_dead(count, now) {
         count += 1;
     }
     count

@@ -7,6 +7,7 @@ mod fault;
 mod headline;
 mod isolation;
 mod links;
+mod packets;
 mod recorded;
 mod replays;
 mod site;
@@ -23,6 +24,7 @@ pub use fw_message::{
 pub use headline::{clocks_keep_time, moments_are_tied, packets_are_messages, packets_are_safe};
 pub use isolation::{agreement_sees_the_pair, devices_are_isolated, replay_two};
 pub use links::{links_are_lanes, links_are_messages};
+pub use packets::{SentPacket, SentPackets};
 pub use replays::replay;
 pub use step::{LogRequest, Missed, Refusal, Step, StepFault};
 pub use world::World;

@@ -86,7 +86,7 @@ pub(crate) fn site_for<B: Bank>(sites: &[Site<B>], eid: u8) -> Option<&Site<B>>
 }
 
 /// Makes room for so many packets at each device.
-pub(crate) fn make_room<B: Bank>(sites: &mut [Site<B>], count: usize) -> Result<(), AllocError>
+pub(crate) fn make_room<B: Bank>(sites: &mut [Site<B>], count: u16) -> Result<(), AllocError>
     ensures room { OnOk result (HaveRoom count sites.new) }
     ensures lacked { OnErr result (LacksRoom count sites.old) }
     ensures same { sites_of sites.new ≡ sites_of sites.old }

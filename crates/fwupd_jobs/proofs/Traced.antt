@@ -1,43 +1,43 @@
 -- The lines of packets, pair by pair.
-use Rattle.std.proofs.Common.{◌≡◌, ◌<◌, ◌≤◌, ◌+◌, ◌-◌, ◌++◌, ◌∙◌, ℕ, zero, suc, List, [], ◌∷◌, Option, None, Some, arith, ap, drop, length, map, refl, subst, sym, take}
+use Rattle.std.proofs.Common.{◌≡◌, ◌<◌, ◌≤◌, ◌+◌, ◌++◌, ◌∙◌, ℕ, zero, suc, List, [], ◌∷◌, Option, None, Some, append_assoc, arith, ap, drop, length, map, refl, subst, sym, take}
 use Rattle.std.specs.Prelude.{IfSome, option_map, slice_get}
 use Rattle.std.specs.Io.KnownBytes.{Appends}
-use Rattle.std.proofs.Math.Seq.{take-length}
 use Rattle.std.proofs.KnownBytes.{Appends-nil, Appends-trans}
 use Rattle.std.proofs.lemmas.List.{map-append}
-use Rattle.exch_lane.specs.Journals.{sent_of}
-use Rattle.exch_lane.specs.declared.journal.SentPacket.{SentPacket}
+use Rattle.exch_lane.specs.Lanes.{Sent}
 use Rattle.fw_edge.specs.Ledgers.{packet_counts}
 use Rattle.fw_node.specs.Nodes.{DeviceNodeOf}
 use Rattle.fw_world.specs.Worlds.{SiteOf}
 use Rattle.fwupd_jobs.proofs.Started.{take_next}
-use Rattle.fwupd_jobs.specs.Traces.{pair_text, pairs_text, trace_text, written_at}
-
-map_drop : {A B : Type 0} (f : A → B) (n : ℕ) (xs : List A) → map f (drop n xs) ≡ drop n (map f xs)
-map_drop f zero xs = refl
-map_drop f (suc n) [] = refl
-map_drop f (suc n) (x ∷ xs) = map_drop f n xs
+use Rattle.fwupd_jobs.specs.Traces.{pair_text, pairs_text, trace_line, trace_text, written_at}
 
 -- the packets of a pair behind so many
-pub pair_at : (o : Option SiteOf) (n : DeviceNodeOf) (ps : List SentPacket) (written device : ℕ) → option_map (λ x. x.node) o ≡ Some n → option_map (λ x. x.packets) o ≡ Some (map sent_of ps)
-    → device ≡ n.endpoint.eid → pair_text o written ≡ trace_text device (map sent_of (drop written ps))
+pub pair_at : (o : Option SiteOf) (n : DeviceNodeOf) (ps : List Sent) (written device : ℕ) → option_map (λ x. x.node) o ≡ Some n → option_map (λ x. x.packets) o ≡ Some ps
+    → device ≡ n.endpoint.eid → pair_text o written ≡ trace_text device (drop written ps)
 pair_at None n ps written device at has is = absurd cc
 pair_at (Some x) n ps written device at has is =
     let node : x.node ≡ n = (let h : Some x.node ≡ Some n = at in cc) in
-    let packets : x.packets ≡ map sent_of ps = (let h : Some x.packets ≡ Some (map sent_of ps) = has in cc) in
-    ap (λ d. trace_text d (drop written x.packets)) (ap (λ m. m.endpoint.eid) node ∙ sym is)
-    ∙ ap (λ qs. trace_text device (drop written qs)) packets ∙ ap (trace_text device) (sym (map_drop sent_of written ps))
+    let packets : x.packets ≡ ps = (let h : Some x.packets ≡ Some ps = has in cc) in
+    ap (λ d. trace_text d (drop written x.packets)) (ap (λ m. m.endpoint.eid) node ∙ sym is) ∙ ap (λ qs. trace_text device (drop written qs)) packets
+
+-- one line more
+pub lines_more : (device place : ℕ) (ps : List Sent) (p : Sent) (before text after all : List ℕ) → slice_get ps place ≡ Some p → before ++ trace_text device (drop place ps) ≡ all
+    → after ≡ before ++ trace_line device p → after ++ trace_text device (drop (place + 1) ps) ≡ all
+lines_more device place ps p before text after all at h is =
+    let next : place + 1 ≡ suc place = omega arith in
+    rw (is, next) (append_assoc before (trace_line device p) (trace_text device (drop (suc place) ps)) ∙ ap (λ it. before ++ it) (sym (first ps place at)) ∙ h)
+  where
+    first : (qs : List Sent) (n : ℕ) → slice_get qs n ≡ Some p → trace_text device (drop n qs) ≡ trace_line device p ++ trace_text device (drop (suc n) qs)
+    first [] n e = absurd (cc)
+    first (q ∷ qs) zero e = let same : q ≡ p = cc in ap (λ r. trace_line device r ++ trace_text device qs) same
+    first (q ∷ qs) (suc n) e = first qs n e
 
 -- and how many there are
-map_size : {A B : Type 0} (f : A → B) (xs : List A) → length (map f xs) ≡ length xs
-map_size f [] = refl
-map_size f (x ∷ xs) = ap suc (map_size f xs)
-
-pub pair_size : (o : Option SiteOf) (ps : List SentPacket) (n : ℕ) → option_map (λ x. x.packets) o ≡ Some (map sent_of ps) → n ≡ length ps → IfSome o (λ x. n ≡ length x.packets)
+pub pair_size : (o : Option SiteOf) (ps : List Sent) (n : ℕ) → option_map (λ x. x.packets) o ≡ Some ps → n ≡ length ps → IfSome o (λ x. n ≡ length x.packets)
 pair_size None ps n has is = absurd cc
 pair_size (Some x) ps n has is =
-    let packets : x.packets ≡ map sent_of ps = (let h : Some x.packets ≡ Some (map sent_of ps) = has in cc) in
-    is ∙ sym (map_size sent_of ps) ∙ ap length (sym packets)
+    let packets : x.packets ≡ ps = (let h : Some x.packets ≡ Some ps = has in cc) in
+    is ∙ ap length (sym packets)
 
 -- one pair more
 pub pairs_more : (before now after : Option (List ℕ)) (written : List ℕ) (sites : List SiteOf) (place : ℕ) → Appends before now (pairs_text written sites place)
@@ -47,11 +47,11 @@ pairs_more before now after written sites place h k =
     subst (λ n. Appends before after (pairs_text written sites n)) next (Appends-trans before now after (pairs_text written sites place) (pair_text (slice_get sites place) (written_at written place)) h k)
 
 -- they are written
-pub pair_written : (before now : Option (List ℕ)) (o : Option SiteOf) (n : DeviceNodeOf) (ps unwritten : List SentPacket) (written device : ℕ) (bytes text : List ℕ) → Appends before now bytes → bytes ≡ text
-    → text ≡ trace_text device (map sent_of unwritten) → unwritten ≡ drop written ps → option_map (λ x. x.node) o ≡ Some n → option_map (λ x. x.packets) o ≡ Some (map sent_of ps)
+pub pair_written : (before now : Option (List ℕ)) (o : Option SiteOf) (n : DeviceNodeOf) (ps unwritten : List Sent) (written device : ℕ) (bytes text : List ℕ) → Appends before now bytes → bytes ≡ text
+    → text ≡ trace_text device unwritten → unwritten ≡ drop written ps → option_map (λ x. x.node) o ≡ Some n → option_map (λ x. x.packets) o ≡ Some ps
     → device ≡ n.endpoint.eid → Appends before now (pair_text o written)
 pair_written before now o n ps unwritten written device bytes text h same is left at has own =
-    subst (Appends before now) (same ∙ is ∙ ap (λ qs. trace_text device (map sent_of qs)) left ∙ sym (pair_at o n ps written device at has own)) h
+    subst (Appends before now) (same ∙ is ∙ ap (trace_text device) left ∙ sym (pair_at o n ps written device at has own)) h
 
 -- none is left
 drop_beyond : {A : Type 0} (n : ℕ) (xs : List A) → length xs ≤ n → drop n xs ≡ []
@@ -60,10 +60,10 @@ drop_beyond (suc n) [] h = refl
 drop_beyond zero (x ∷ xs) h = absurd (omega arith)
 drop_beyond (suc n) (x ∷ xs) h = drop_beyond n xs (omega arith)
 
-pub pair_done : (known : Option (List ℕ)) (o : Option SiteOf) (n : DeviceNodeOf) (ps : List SentPacket) (written : ℕ) → length ps ≤ written → option_map (λ x. x.node) o ≡ Some n
-    → option_map (λ x. x.packets) o ≡ Some (map sent_of ps) → Appends known known (pair_text o written)
+pub pair_done : (known : Option (List ℕ)) (o : Option SiteOf) (n : DeviceNodeOf) (ps : List Sent) (written : ℕ) → length ps ≤ written → option_map (λ x. x.node) o ≡ Some n
+    → option_map (λ x. x.packets) o ≡ Some ps → Appends known known (pair_text o written)
 pair_done known o n ps written past at has =
-    subst (Appends known known) (ap (λ qs. trace_text n.endpoint.eid (map sent_of qs)) (sym (drop_beyond written ps past)) ∙ sym (pair_at o n ps written n.endpoint.eid at has refl))
+    subst (Appends known known) (ap (trace_text n.endpoint.eid) (sym (drop_beyond written ps past)) ∙ sym (pair_at o n ps written n.endpoint.eid at has refl))
     (Appends-nil known)
 
 -- one pair more is counted
@@ -81,13 +81,3 @@ counts_more counts after sites place n lt e h is =
     is ∙ ap (λ m. counts ++ m ∷ []) size ∙ ap (λ cs. cs ++ length there.0.packets ∷ []) e
     ∙ sym (map-append (λ x. length x.packets) (take place sites) (there.0 ∷ []))
     ∙ ap packet_counts (sym (take_next sites place there.0 there.1)) ∙ ap (λ m. packet_counts (take m sites)) next
-
-none_of : {A : Type 0} (m : ℕ) → take {A = A} m [] ≡ []
-none_of zero = refl
-none_of (suc m) = refl
-
--- what is behind so many is the rest
-pub rest_all : {A : Type 0} (n : ℕ) (xs : List A) → take (length xs - n) (drop n xs) ≡ drop n xs
-rest_all zero xs = let e : length xs - 0 ≡ length xs = omega arith in ap (λ m. take m xs) e ∙ take-length xs
-rest_all (suc n) [] = none_of (0 - suc n)
-rest_all (suc n) (x ∷ xs) = let e : length (x ∷ xs) - suc n ≡ length xs - n = omega arith in ap (λ m. take m (drop n xs)) e ∙ rest_all n xs

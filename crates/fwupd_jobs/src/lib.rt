@@ -15,6 +15,7 @@ mod places;
 mod planning;
 mod program;
 mod progress;
+mod read_ahead;
 mod replaying;
 mod running;
 mod sessions;

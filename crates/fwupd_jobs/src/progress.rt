@@ -6,11 +6,10 @@ ghost use Rattle.fwupd_jobs.specs.Progress.{end_asked, progress_line};
 ghost use Rattle.mctp_wire.specs.Packet.{packet_of};
 ghost use Rattle.mctp_wire.specs.declared.unit.Unit.TheVariants.{U128};
 
-use exch_lane::SentPacket;
 use fd_core::{Key, MemBank};
 use fw_node::DeviceNode;
 use fw_text::{push_number, push_words};
-use fw_world::World;
+use fw_world::{SentPackets, World};
 use fwup_wire::Command;
 use mctp_wire::Unit;
 use pldm_base::TYPE_FIRMWARE_UPDATE;
@@ -35,10 +34,10 @@ pub struct Progress<'a> {
 }
 
 /// Where the bytes end that a packet asks for, if it is a device's request for bytes of its image.
-fn asked_by(packet: &SentPacket, device: u8) -> Option<u32>
-    ensures { result ≡ end_asked device (packet_of U128 packet.now.bytes.items) }
+fn asked_by(packet: &[u8], device: u8) -> Option<u32>
+    ensures { result ≡ end_asked device (packet_of U128 packet.now) }
 {
-    let Ok(packet) = mctp_wire::decode(Unit::U128, packet.bytes.as_slice()) else {
+    let Ok(packet) = mctp_wire::decode(Unit::U128, packet) else {
         return None;
     };
     let Ok((head, fields)) = pldm_base::decode(packet.body) else {
@@ -54,9 +53,12 @@ fn asked_by(packet: &SentPacket, device: u8) -> Option<u32>
 }
 
 /// How many bytes of its image a device has asked for, as the last packets of its pair say.
-fn asked(packets: &[SentPacket], device: u8) -> u32 {
+fn asked(packets: &SentPackets<'_>, device: u8) -> u32 {
     for back in 1..LATEST.min(packets.len()) + 1 {
-        if let Some(end) = asked_by(&packets[packets.len() - back], device) {
+        let Some(packet) = packets.get(packets.len() - back) else {
+            return 0;
+        };
+        if let Some(end) = asked_by(packet.bytes, device) {
             return end;
         }
     }
@@ -109,7 +111,7 @@ impl<'a> Progress<'a> {
     }
 
     /// Shows how far a device is, if it loads an image.
-    fn show(&self, node: &DeviceNode<MemBank>, packets: &[SentPacket]) -> bool {
+    fn show(&self, node: &DeviceNode<MemBank>, packets: &SentPackets<'_>) -> bool {
         let Some((key, size)) = node.device().staged() else {
             return false;
         };
@@ -129,7 +131,7 @@ impl<'a> Progress<'a> {
         };
         for place in 0..world.device_count() {
             if let (Some(node), Some(packets)) = (world.device_at(place), world.packets_at(place)) {
-                if self.show(node, packets) {
+                if self.show(node, &packets) {
                     self.shown = Some(now);
                     return;
                 }

@@ -3,6 +3,7 @@
 ghost use Rattle.std.specs.Prelude.{true};
 
 use crate::faults::RunFault;
+use crate::read_ahead::ReadAhead;
 use crate::updating::Wires;
 use fw_edge::StreamLink;
 use mctp_wire::Unit;
@@ -18,15 +19,20 @@ pub struct Sockets<'a> {
     refused: Option<(u8, io::Error)>,
 }
 
+/// A link over sockets. What has come at an end is read at once.
+type SocketLink = StreamLink<ReadAhead<UnixStream>>;
+
 /// Both ends of a connection of a socket to itself, as a link.
 fn connected(
     rt: &HostRuntime,
     unit: Unit,
     listener: &UnixListener,
     path: &str,
-) -> io::Result<StreamLink<UnixStream>> {
+) -> io::Result<SocketLink> {
     let device = UnixStream::connect(rt, path)?;
     let (agent, _) = listener.accept()?;
+    let agent = ReadAhead::new(rt.alloc(), agent)?;
+    let device = ReadAhead::new(rt.alloc(), device)?;
     Ok(StreamLink::new(unit, agent, device))
 }
 
@@ -34,7 +40,7 @@ fn connected(
 ///
 /// # Errors
 /// The name is taken already, or the socket can't be made. Nothing is left of it then.
-fn socket_link(rt: &HostRuntime, unit: Unit, path: &str) -> io::Result<StreamLink<UnixStream>> {
+fn socket_link(rt: &HostRuntime, unit: Unit, path: &str) -> io::Result<SocketLink> {
     let listener = UnixListener::bind(rt, path)?;
     let link = connected(rt, unit, &listener, path);
     let _ = fs::remove_file(rt, path);
@@ -64,15 +70,10 @@ impl<'a> Sockets<'a> {
     }
 }
 
-impl<'a> Wires<StreamLink<UnixStream>> for Sockets<'a> {
+impl<'a> Wires<SocketLink> for Sockets<'a> {
     ghost lacks = { λ s folder device. true };
 
-    fn open(
-        &mut self,
-        unit: Unit,
-        folder: &str,
-        device: u8,
-    ) -> Result<StreamLink<UnixStream>, RunFault> {
+    fn open(&mut self, unit: Unit, folder: &str, device: u8) -> Result<SocketLink, RunFault> {
         let Ok(path) = format!(in self.rt.alloc(); "{folder}/{device}.sock") else {
             return Err(RunFault::Memory);
         };

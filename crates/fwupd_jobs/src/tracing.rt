@@ -1,19 +1,18 @@
 //! The packets of a run, written as they go out.
 
-ghost use Rattle.std.specs.Prelude.{◌≡◌, [], IfErr, IfOk, IfSome, OnOk, length, map, slice_get};
+ghost use Rattle.std.specs.Prelude.{◌≡◌, [], IfErr, IfOk, IfSome, OnOk, length, slice_get};
 ghost use Rattle.std.specs.Io.Buffered.{writer_buffer, writer_contents, writer_inner};
 ghost use Rattle.std.specs.Io.KnownBytes.{Appends, Keeps};
-ghost use Rattle.exch_lane.specs.Journals.{sent_of};
 ghost use Rattle.fw_edge.specs.Ledgers.{packet_counts};
 ghost use Rattle.fw_text.specs.Printing.{Adds};
+ghost use Rattle.fw_world.specs.Packets.{sent_of};
 ghost use Rattle.fwupd_jobs.specs.Traces.{pair_text, pairs_text, trace_line, trace_text, way_of, written_at as written_of};
 
 use crate::running::WatchFault;
 use arrayvec::ArrayVec;
-use exch_lane::SentPacket;
 use fd_core::MemBank;
 use fw_text::{push_number, push_words};
-use fw_world::World;
+use fw_world::{SentPacket, SentPackets, World};
 use std::alloc::{AllocError, Global};
 use std::io::{BufWriter, Write};
 
@@ -43,25 +42,28 @@ fn push_line(
     alloc: Global,
     text: &mut Vec<u8>,
     device: u8,
-    packet: &SentPacket,
+    packet: &SentPacket<'_>,
 ) -> Result<(), AllocError>
     ensures { OnOk result (Adds text.old.items text.new.items (trace_line device (sent_of packet.now))) }
 {
     push_number(alloc, text, "", packet.date as usize)?;
     push_number(alloc, text, " ", usize::from(device))?;
-    push_words(text, way(device, packet.bytes.as_slice()))?;
-    push_words(text, &hex::encode_upper(alloc, packet.bytes.as_slice())?)?;
+    push_words(text, way(device, packet.bytes))?;
+    push_words(text, &hex::encode_upper(alloc, packet.bytes)?)?;
     push_words(text, "\n")?;
     Ok(())
 }
 
 /// The lines of these packets.
-fn lines(alloc: Global, device: u8, packets: &[SentPacket]) -> Result<Vec<u8>, AllocError>
-    ensures { IfOk result (λ text. text.items ≡ trace_text device (map sent_of packets.now)) }
+fn lines(alloc: Global, device: u8, packets: &SentPackets<'_>) -> Result<Vec<u8>, AllocError>
+    ensures { IfOk result (λ text. text.items ≡ trace_text device packets.now) }
 {
     let mut text = Vec::new(alloc);
-    for packet in packets {
-        push_line(alloc, &mut text, device, packet)?;
+    for place in 0..packets.len() {
+        let Some(packet) = packets.get(place) else {
+            unreachable!()
+        };
+        push_line(alloc, &mut text, device, &packet)?;
     }
     Ok(text)
 }
@@ -83,7 +85,7 @@ fn write_pair<W: Write>(
     if packets.len() <= written {
         return Ok(packets.len());
     }
-    let Ok(text) = lines(alloc, node.eid(), &packets[written..]) else {
+    let Ok(text) = lines(alloc, node.eid(), &packets.behind(written)) else {
         return Err(WatchFault::Memory);
     };
     match writer.write_all(&text) {

@@ -20,7 +20,7 @@ fn goes(alloc: Global, world: &mut Small<'_>, links: &mut [BadLink], turns: u32)
 /// When the packet of this number was sent, and, where it is an answer, to which command and with which code.
 fn answered(world: &Small<'_>, number: usize) -> Option<(u32, u8, u8)> {
     let packet = world.packets(DEVICE)?.get(number.checked_sub(1)?)?;
-    match packet.bytes.as_slice() {
+    match packet.bytes {
         [_, _, _, _, _, _, _, command, code, ..] => Some((packet.date, *command, *code)),
         _ => None,
     }

@@ -4,9 +4,9 @@ use crate::tests::packages::{file, package};
 use crate::tests::setup::{
     DEVICE, Small, driven, is_updated, runs_first, stands, start, tells, world,
 };
-use exch_lane::SentPacket;
 use fd_core::State;
 use fw_edge::{Driven, MemLink};
+use fw_world::SentPackets;
 use mctp_wire::Unit;
 use std::alloc::Global;
 use std::test::Fail;
@@ -67,10 +67,13 @@ fn piece_in(packet: &[u8]) -> Option<(u32, u32)> {
 }
 
 /// Whether these packets ask for these pieces, each once, and for no others.
-fn ask_for(packets: &[SentPacket], pieces: &[(u32, u32)]) -> bool {
+fn ask_for(packets: &SentPackets<'_>, pieces: &[(u32, u32)]) -> bool {
     let mut asked: usize = 0;
-    for packet in packets {
-        if let Some(piece) = piece_in(packet.bytes.as_slice()) {
+    for place in 0..packets.len() {
+        let Some(packet) = packets.get(place) else {
+            return false;
+        };
+        if let Some(piece) = piece_in(packet.bytes) {
             if pieces.get(asked) != Some(&piece) {
                 return false;
             }
@@ -83,7 +86,7 @@ fn ask_for(packets: &[SentPacket], pieces: &[(u32, u32)]) -> bool {
 /// Whether the worked device is updated by such packets.
 fn is_updated_so(world: &Small<'_>, row: &Row) -> bool {
     let asked = match world.packets(DEVICE) {
-        Some(packets) => ask_for(packets, row.pieces),
+        Some(packets) => ask_for(&packets, row.pieces),
         None => false,
     };
     asked

@@ -16,7 +16,6 @@ use Rattle.fw_node.specs.Agents.{agent_hears, half_for, ready_for}
 use Rattle.fw_node.specs.Cores.{TimedDevice, device_core}
 use Rattle.fw_node.specs.Halves.{HalfHeard, half_hears}
 use Rattle.fw_node.specs.Nodes.{DeviceNodeOf, device_restarts, finished}
-use Rattle.fw_node.specs.Packets.{all_packets}
 use Rattle.fw_world.specs.Headline.{is_device, is_node, may_step, packet_fault, world_after}
 use Rattle.fw_world.specs.Links.{LinkOf, LinkStep, LinkStepped, delivers_on, device_heard, link_after}
 use Rattle.fw_world.specs.Worlds.{SiteOf, WorldOf, activates_on, agent_pass_sends, asks_log, at_agent, at_device, comes, counts, delivers, judges, packets_of, place_of, posts, restarts, site_for, site_goes_on, site_passes, site_restarts, ticks}

@@ -1,5 +1,4 @@
 -- A packet comes to a half, on both ways between it and the other.
-use Rattle.mctp_wire.specs.declared.unit.Unit.{«Unit»}
 use Rattle.pldm_base.specs.Limits.{reply_limit}
 use Rattle.std.proofs.Common.{◌≡◌, ◌≢◌, ◌⊎◌, ◌≤◌, ◌+◌, ◌==◌, ◌∙◌, ℕ, zero, suc, length, Bool, true, false, if◌then◌else◌, List, [], ◌∷◌, ◌++◌, slice_get, Option, Some, None, inl, inr, refl, sym, ap, subst, arith}
 use Rattle.std.specs.List.{AllByRecursion, filter}

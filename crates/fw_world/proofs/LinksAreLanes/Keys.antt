@@ -7,7 +7,6 @@ use Rattle.fw_node.specs.Agents.{any_packet, agent_hears, agent_unmoved, activat
 use Rattle.fw_node.specs.Cores.{session_core}
 use Rattle.fw_node.specs.Halves.{HalfOf, half_restarts}
 use Rattle.fw_node.specs.Nodes.{device_restarts}
-use Rattle.fw_node.specs.Packets.{all_packets}
 use Rattle.fw_world.specs.Headline.{world_after}
 use Rattle.fw_world.specs.Worlds.{SiteOf, WorldOf, activates_on, agent_pass_sends, agent_passes, asks_log, at_agent, at_device, calls, counts, delivers, packets_of, place_of, post, post_at, posts, restarts, site_for, site_goes_on}
 use Rattle.fw_world.specs.declared.step.Step.{Step}

@@ -8,12 +8,12 @@ use Rattle.fwup_wire.specs.declared.answer.Malformed.{Malformed}
 use Rattle.pldm_exch.specs.Caller.{is_quiet}
 use Rattle.pldm_exch.specs.Sides.{AskerRow, AskerTick, TakerRow, asker_counts, asker_row, taker_counts, taker_row}
 use Rattle.fw_package.specs.Package.{PackageText}
-use Rattle.ua_core.specs.Calls.{activated_stage, agent_activated, agent_cancelled, idle_ticked, may_cancel, times_out}
+use Rattle.ua_core.specs.Calls.{activated_stage, agent_activated, agent_cancelled, may_cancel, times_out}
 use Rattle.ua_core.specs.Learn.{LearnRow, learn_by, learn_row}
 use Rattle.ua_core.specs.Serve.{ServeRow, after_by, serve_row}
 use Rattle.ua_core.specs.Session.{SessionOf, Stage, TimedOf, at_stage}
 use Rattle.fw_node.specs.Cores.{package_of, session_core}
-use Rattle.fw_node.specs.Halves.{CoreOf, HalfHeard, HalfOf, called, half_hears, half_hears_by, half_takes, half_ticks, hears_if, read_by, takes_if, takes_read, unwished_abandoned, with_caller}
+use Rattle.fw_node.specs.Halves.{CoreOf, HalfOf, called, half_hears, half_hears_by, half_takes, half_ticks, hears_if, read_by, takes_if, takes_read, unwished_abandoned, with_caller}
 use Rattle.fw_world.proofs.LinksAreLanes.Hears.{half_in}
 use Rattle.fw_world.proofs.LinksAreLanes.Ticks.{core_stays}
 

@@ -2,7 +2,7 @@
 
 use crate::tests::clocks::missed_by;
 use crate::tests::packages::{file, package};
-use crate::tests::seeing::{is_updated, stands};
+use crate::tests::seeing::{is_updated, sent_alike, stands};
 use crate::tests::setup::{DEVICE, Small, world};
 use crate::tests::steps::perfect;
 use fd_core::State;
@@ -64,7 +64,7 @@ fn is_as_alone(among: &Small<'_>, alone: &Small<'_>) -> bool {
     let silent = SessionState::Failed(Cause::Silent);
     is_done(among)
         && is_done(alone)
-        && among.packets(DEVICE) == alone.packets(DEVICE)
+        && sent_alike(among, alone, DEVICE)
         && stands(among, SILENT, silent, State::Idle, 3)
 }
 

@@ -3,9 +3,8 @@
 use crate::tests::headers::TWO_COUNTED;
 use crate::tests::packages::package;
 use crate::tests::setup::{DEVICE, Small, step, world};
-use exch_lane::SentPacket;
 use fd_core::{State, Verdict};
-use fw_world::{Missed, Refusal, Step, StepFault};
+use fw_world::{Missed, Refusal, SentPacket, Step, StepFault};
 use fwup_wire::Command;
 use mctp_wire::Unit;
 use std::alloc::{AllocError, Global};
@@ -40,7 +39,7 @@ fn file(alloc: Global) -> Result<Vec<u8>, AllocError> {
 }
 
 /// A packet of the device's pair, by its number.
-fn packet_at<'a>(world: &'a Small<'_>, number: usize) -> Option<&'a SentPacket> {
+fn packet_at<'a>(world: &'a Small<'_>, number: usize) -> Option<SentPacket<'a>> {
     world.packets(DEVICE)?.get(number.checked_sub(1)?)
 }
 
@@ -89,7 +88,7 @@ fn waits_for_last(world: &Small<'_>) -> bool {
 /// Whether two packets of the device's pair are the same.
 fn is_same(world: &Small<'_>, one: usize, other: usize) -> bool {
     match (packet_at(world, one), packet_at(world, other)) {
-        (Some(one), Some(other)) => one.bytes.as_slice() == other.bytes.as_slice(),
+        (Some(one), Some(other)) => one.bytes == other.bytes,
         _ => false,
     }
 }

@@ -1,15 +1,15 @@
-use Rattle.std.proofs.Common.{◌∙◌, arith, rules}
+use Rattle.std.proofs.Common.{◌∙◌, arith, rules, sym}
 use Rattle.fw_edge.proofs.Taking.{took_all, took_more}
 use Rattle.fw_edge.proofs.outgoing.write_each.Goals as goal
 
-pub loop-packet-preserved : goal.loop-packet-preserved
-loop-packet-preserved g c = record {
-  wrote = record { counts = search rules; gave_none = c.in-Ok.ensures.gave ∙ c.loop-packet.invariant.wrote.gave_none };
+pub loop-place-preserved : goal.loop-place-preserved
+loop-place-preserved g c = record {
+  wrote = record { counts = search rules; gave_none = c.in-Ok.ensures.gave ∙ c.loop-place.invariant.wrote.gave_none };
   took =
-      took_more c.args.device (g.L.Link.taken c.args.link.now) (g.L.Link.taken c.loop-packet.link) (g.L.Link.taken c.send.new.self) c.args.packets.now c.loop-packet.packet-index c.packet-item.result c.end_of.result
-      (omega arith) c.packet-item.is c.end_of.ensures c.loop-packet.invariant.took c.in-Ok.ensures.taken;
+      took_more c.args.device (g.L.Link.taken c.args.link.now) (g.L.Link.taken c.loop-place.link) (g.L.Link.taken c.send.new.self) c.args.packets.now c.loop-place.place c.in-Some.packet.items c.end_of.result
+      (sym c.in-Some.ensures) c.end_of.ensures c.loop-place.invariant.took c.in-Ok.ensures.taken;
 }
 
 pub returns-clause-took : goal.returns-clause-took
 returns-clause-took g c =
-    took_all c.args.device (g.L.Link.taken c.args.link.now) (g.L.Link.taken c.loop-packet.link) c.args.packets.now c.loop-packet.packet-index (omega arith) c.loop-packet.invariant.took
+    took_all c.args.device (g.L.Link.taken c.args.link.now) (g.L.Link.taken c.loop-place.link) c.args.packets.now c.loop-place.place (omega arith) c.loop-place.invariant.took

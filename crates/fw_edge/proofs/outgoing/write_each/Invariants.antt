@@ -5,8 +5,8 @@ use Rattle.fw_edge.proofs.Taking.{bytes_in}
 use Rattle.fw_edge.proofs.outgoing.write_each.Given as goal
 
 -- so many packets were taken, and nothing was given
-abbrev pub invariant-loop-packet : goal.invariant-loop-packet
-invariant-loop-packet g l = record {
-  wrote : LinkWrote g.L.Link.tally g.L.Link.gave l.packet-index l.fn.link l.link;
-  took : TookAll l.device (g.L.Link.taken l.fn.link) (map bytes_in (take l.packet-index l.packets)) (g.L.Link.taken l.link);
+abbrev pub invariant-loop-place : goal.invariant-loop-place
+invariant-loop-place g l = record {
+  wrote : LinkWrote g.L.Link.tally g.L.Link.gave l.place l.fn.link l.link;
+  took : TookAll l.device (g.L.Link.taken l.fn.link) (map bytes_in (take l.place l.packets)) (g.L.Link.taken l.link);
 }
