@@ -1,7 +1,10 @@
 mod Cuts
 mod Decimals
 mod Keys
+mod ReadBack
+mod SaidSteps
 mod Sites
+mod SpacedLines
 mod Specs
 mod Steps
 mod Whole
