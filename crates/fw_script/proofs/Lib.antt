@@ -6,5 +6,6 @@ mod SaidSteps
 mod Sites
 mod SpacedLines
 mod Specs
+mod Spelling
 mod Steps
 mod Whole

@@ -8,8 +8,8 @@ use Rattle.fw_world.specs.Worlds.{full_tick}
 use Rattle.fw_world.specs.declared.step.Step.{Step}
 use Rattle.fw_world.specs.declared.step.Step.TheVariants as steps
 use Rattle.fw_script.specs.Lines.{lines_of}
-use Rattle.fw_script.specs.ScheduleTexts.{AreSayable, IsSayable, PortionsAreTheWhole, SchedulesReadBack, idle_after, idle_at, is_idle, line_of, spaced, step_text, text_of_steps, text_with, ticks_text, words_for, words_for_ticks}
-use Rattle.fw_script.specs.Schedules.{before, script_from, steps_of, then_lines}
+use Rattle.fw_script.specs.ScheduleTexts.{AreSayable, IsSayable, PortionsAreTheWhole, SchedulesReadBack, idle_after, idle_at, is_idle, line_of, schedule_text, spaced, step_text, text_of_steps, text_with, ticks_text, words_for, words_for_ticks}
+use Rattle.fw_script.specs.Schedules.{before, script_from, script_of, steps_of, then_lines}
 use Rattle.fw_script.proofs.SaidSteps.{step_back, step_words, tick_words, ticks_back}
 use Rattle.fw_script.proofs.SpacedLines.{AreWords, first_of_lines}
 use Rattle.fw_script.proofs.Steps.{repeat_more}
@@ -97,6 +97,10 @@ reads_left idle (step ∷ ss) few h =
 
 pub schedules_read_back : SchedulesReadBack
 schedules_read_back ss h = (reads_left 0 ss (omega arith) h).from 1
+
+-- so is a text that is the steps'
+pub read_written : (text : List ℕ) (ss : List Step) → text ≡ schedule_text ss → AreSayable ss → script_of text ≡ Ok ss
+read_written text ss is h = ap script_of is ∙ schedules_read_back ss h
 
 -- PORTIONS
 

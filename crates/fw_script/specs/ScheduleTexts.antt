@@ -56,14 +56,20 @@ abbrev pub is_idle : Step → Bool
 is_idle (steps.Tick missed) = is_nothing missed.items
 is_idle step = false
 
--- How many ticks are held back after a step. The thousandth is written.
-abbrev pub idle_after : (idle : ℕ) → Step → ℕ
-idle_after idle step = if is_idle step then (if idle == 999 then 0 else idle + 1) else 0
+-- One more such tick is held back, where there are so many. The thousandth is written.
+abbrev pub idle_after_tick : (idle : ℕ) → ℕ
+idle_after_tick idle = if idle == 999 then 0 else idle + 1
 
--- what is written with a step, where so many ticks are held back
+abbrev pub text_with_tick : (idle : ℕ) → List ℕ
+text_with_tick idle = if idle == 999 then ticks_text 1000 else []
+
+-- how many are held back after a step
+abbrev pub idle_after : (idle : ℕ) → Step → ℕ
+idle_after idle step = if is_idle step then idle_after_tick idle else 0
+
+-- what is written with it: where it is another step, the ticks that are held back come first
 abbrev pub text_with : (idle : ℕ) → Step → List ℕ
-text_with idle step =
-    if is_idle step then (if idle == 999 then ticks_text 1000 else []) else ticks_text idle ++ step_text step
+text_with idle step = if is_idle step then text_with_tick idle else ticks_text idle ++ step_text step
 
 -- the same of steps, one after another
 abbrev pub idle_at : (idle : ℕ) → List Step → ℕ

@@ -12,8 +12,10 @@ mod package_spec;
 mod reports;
 mod schedule;
 mod schedule_laws;
+mod schedule_text;
 mod spec_fields;
 mod spec_lines;
+mod step_text;
 mod values;
 
 pub use config::{ComponentConfig, Config, DeviceConfig};
@@ -24,4 +26,5 @@ pub use package_spec::{PackageSpec, SpecComponent, SpecDescriptor, SpecNumbers, 
 pub use reports::{report, rising_keys, session_of};
 pub use schedule::read_schedule;
 pub use schedule_laws::schedules_read_back;
+pub use schedule_text::{ScheduleText, write_schedule};
 pub use spec_lines::read_package_spec;
