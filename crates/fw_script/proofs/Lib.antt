@@ -1,6 +1,7 @@
 mod Cuts
 mod Decimals
 mod Keys
+mod OnlySayable
 mod ReadBack
 mod SaidSteps
 mod Sites

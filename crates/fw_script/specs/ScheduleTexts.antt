@@ -127,6 +127,10 @@ AreSayable steps = AllByRecursion IsSayable steps
 abbrev pub SchedulesReadBack : Type 0
 SchedulesReadBack = (steps : List Step) → AreSayable steps → script_of (schedule_text steps) ≡ Ok steps
 
+-- A schedule reads as no other steps than those that can be said.
+abbrev pub OnlySayableIsRead : Type 0
+OnlySayableIsRead = (text : List ℕ) (steps : List Step) → script_of text ≡ Ok steps → AreSayable steps
+
 -- Steps that are handed over in two portions are written as they are at once, and as many ticks are held back after them.
 pub record IsSameInPortions (idle : ℕ) (first second : List Step) : Type 0 where
   pub text : text_of_steps idle (first ++ second) ≡ text_of_steps idle first ++ text_of_steps (idle_at idle first) second

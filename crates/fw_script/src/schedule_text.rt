@@ -1,8 +1,8 @@
 //! Steps that are written as a schedule's text.
 
-ghost use Rattle.std.specs.Prelude.{◌≡◌, IfOk, Ok, OnErr, OnOk};
+ghost use Rattle.std.specs.Prelude.{◌≡◌, ◌++◌, IfOk, Ok, OnErr, OnOk};
 ghost use Rattle.fw_text.specs.Printing.{Adds};
-ghost use Rattle.fw_script.specs.ScheduleTexts.{AreSayable, idle_after, idle_after_tick, idle_at, is_idle as is_idle_tick, schedule_text, text_of_steps, text_with, text_with_tick, ticks_text};
+ghost use Rattle.fw_script.specs.ScheduleTexts.{AreSayable, idle_after, idle_after_tick, idle_at, is_idle as is_idle_tick, schedule_text, step_text, text_of_steps, text_with, text_with_tick, ticks_text};
 ghost use Rattle.fw_script.specs.Schedules.{script_of};
 
 use crate::step_text::{push_step, push_ticks};
@@ -21,6 +21,15 @@ fn is_idle(step: &Step) -> bool
         Step::Tick(missed) => missed.is_empty(),
         _ => false,
     }
+}
+
+/// Appends the line that says so many ticks, and that of a step behind it.
+fn push_behind(alloc: Global, text: &mut Vec<u8>, idle: u16, step: &Step) -> Result<(), AllocError>
+    ensures { OnOk result (Adds text.old.items text.new.items (ticks_text idle ++ step_text step.now)) }
+{
+    push_ticks(alloc, text, idle)?;
+    push_step(alloc, text, step)?;
+    Ok(())
 }
 
 /// Writes steps as a schedule's text, one after another, in whatever portions they come. `read_schedule` reads the whole
@@ -82,10 +91,7 @@ impl ScheduleText {
         if is_idle(step) {
             return self.hold(alloc, text);
         }
-        let Ok(()) = push_ticks(alloc, text, self.idle) else {
-            return Err(AllocError);
-        };
-        let Ok(()) = push_step(alloc, text, step) else {
+        let Ok(()) = push_behind(alloc, text, self.idle, step) else {
             return Err(AllocError);
         };
         self.idle = 0;
