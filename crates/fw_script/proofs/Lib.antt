@@ -1,7 +1,12 @@
 mod Cuts
 mod Decimals
 mod Keys
+mod OnlySayable
+mod ReadBack
+mod SaidSteps
 mod Sites
+mod SpacedLines
 mod Specs
+mod Spelling
 mod Steps
 mod Whole

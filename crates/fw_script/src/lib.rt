@@ -11,8 +11,11 @@ mod names;
 mod package_spec;
 mod reports;
 mod schedule;
+mod schedule_laws;
+mod schedule_text;
 mod spec_fields;
 mod spec_lines;
+mod step_text;
 mod values;
 
 pub use config::{ComponentConfig, Config, DeviceConfig};
@@ -22,4 +25,6 @@ pub use names::{cause_name, session_name, state_name};
 pub use package_spec::{PackageSpec, SpecComponent, SpecDescriptor, SpecNumbers, SpecRecord};
 pub use reports::{report, rising_keys, session_of};
 pub use schedule::read_schedule;
+pub use schedule_laws::schedules_read_back;
+pub use schedule_text::{ScheduleText, write_schedule};
 pub use spec_lines::read_package_spec;

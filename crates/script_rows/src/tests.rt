@@ -3,4 +3,5 @@
 mod configs;
 mod memory;
 mod noise;
+mod schedule_texts;
 mod schedules;

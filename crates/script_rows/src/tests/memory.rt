@@ -1,7 +1,11 @@
 //! Texts that are read where memory is refused, and what their faults are called.
 
-use fw_script::{ScriptCause, ScriptFault, read_config, read_package_spec, read_schedule};
+use fw_script::{
+    ScheduleText, ScriptCause, ScriptFault, read_config, read_package_spec, read_schedule,
+    write_schedule,
+};
 use fw_setup::opening_world;
+use fw_world::{Missed, Step};
 use std::test::Fail;
 
 /// Holds whichever single allocation is refused.
@@ -42,6 +46,38 @@ fn refused_memory_is_told_of_schedules(rt: HostRuntime) {
     match read_schedule(rt.alloc(), b"tick 4\nsel 4000\nrestart 9\n") {
         Ok(steps) => assert!(rt; steps.len() == 6),
         Err(fault) => assert!(rt; fault.cause == ScriptCause::Memory),
+    }
+}
+
+/// Holds whichever single allocation is refused.
+#[test]
+fn refused_memory_writes_no_schedule(rt: HostRuntime) {
+    let text = b"tick 4\nsel 4000\nmiss 9 8\ndeliver 9 1 8\nverdict 9 apply-ok\ntick\n".as_slice();
+    let Ok(steps) = read_schedule(rt.alloc(), text) else {
+        return;
+    };
+    if let Ok(written) = write_schedule(rt.alloc(), steps.as_slice()) {
+        assert!(rt; written.as_slice() == text);
+    }
+}
+
+/// A step that was refused memory is handed over again. Holds whichever single allocation is refused.
+#[test]
+fn refused_memory_keeps_the_ticks(rt: HostRuntime) {
+    let table: [(Step, &[u8]); 4] = [
+        (Step::Tick(Missed::new()), b""),
+        (Step::Tick(Missed::new()), b""),
+        (Step::Cancel(9), b"tick 2\ncancel 9\n"),
+        (Step::Start(9, 12), b"start 9 12\n"),
+    ];
+    let mut writer = ScheduleText::new();
+    for (step, want) in table {
+        let mut text = Vec::new(rt.alloc());
+        if writer.push(rt.alloc(), &mut text, &step).is_err() {
+            text.clear();
+            assert!(rt; writer.push(rt.alloc(), &mut text, &step).is_ok());
+        }
+        assert!(rt; text.as_slice() == want);
     }
 }
 
