@@ -26,11 +26,7 @@ fn end_of(packet: &[u8], device: u8) -> Side
 }
 
 /// Writes these packets of a pair to its link, each at its sender's end.
-fn write_each<L: Link>(
-    link: &mut L,
-    packets: &SentPackets<'_>,
-    device: u8,
-) -> Result<(), EdgeFault>
+fn write_each<L: Link>(link: &mut L, packets: &SentPackets<'_>, device: u8) -> Result<(), EdgeFault>
     ensures took { OnOk result (TookAll device (L.taken link.old) (map (λ p. p.bytes) packets.now) (L.taken link.new)) }
     ensures wrote { OnOk result (LinkWrote L.tally L.gave (length packets.now) link.old link.new) }
     ensures refused { IfErr result (λ e. LinkRefused L.tally e link.old link.new) }

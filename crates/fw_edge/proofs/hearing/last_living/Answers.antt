@@ -3,7 +3,7 @@ use Rattle.fw_edge.proofs.Latest.{last_lives, none_behind_all, none_behind_less,
 use Rattle.fw_edge.proofs.hearing.last_living.Goals as goal
 
 pub loop-number-init : goal.loop-number-init
-loop-number-init c = none_behind_all c.args.now c.args.packets.now c.args.packet.now.items c.len.result c.len.ensures
+loop-number-init c = none_behind_all c.args.now c.args.packets.now c.args.packet.now.items c.len-number.result c.len-number.ensures
 
 pub loop-number-preserved : goal.loop-number-preserved
 loop-number-preserved c =

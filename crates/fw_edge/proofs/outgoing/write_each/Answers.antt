@@ -7,7 +7,7 @@ loop-place-preserved g c = record {
   wrote = record { counts = search rules; gave_none = c.in-Ok.ensures.gave ∙ c.loop-place.invariant.wrote.gave_none };
   took =
       took_more c.args.device (g.L.Link.taken c.args.link.now) (g.L.Link.taken c.loop-place.link) (g.L.Link.taken c.send.new.self) c.args.packets.now c.loop-place.place c.in-Some.packet.items c.end_of.result
-      (sym c.in-Some.ensures) c.end_of.ensures c.loop-place.invariant.took c.in-Ok.ensures.taken;
+      (sym c.in-Some.ensures) (rw c.as_slice.ensures.value at c.end_of.ensures) c.loop-place.invariant.took c.in-Ok.ensures.taken;
 }
 
 pub returns-clause-took : goal.returns-clause-took
