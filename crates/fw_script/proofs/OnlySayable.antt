@@ -234,7 +234,8 @@ line_ok : (line : List ℕ) → IfOk (steps_of line) AreSayable
 unfolding steps_of
 line_ok line = line_if (is_skipped line) (steps_in (words_of line)) (words_ok (words_of line))
 
-all_sayable : (front back : List Step) → AreSayable front → AreSayable back → AreSayable (front ++ back)
+-- steps of two lists
+pub all_sayable : (front back : List Step) → AreSayable front → AreSayable back → AreSayable (front ++ back)
 all_sayable [] back h k = k
 all_sayable (step ∷ front) back h k = (h.0, all_sayable front back h.1 k)
 

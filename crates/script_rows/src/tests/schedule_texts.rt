@@ -83,9 +83,18 @@ fn ticks(alloc: Global, count: usize) -> Result<Vec<Step>, AllocError> {
     Ok(steps)
 }
 
+/// Whether steps are written as a text, and it reads back as them.
+fn is_text_of(alloc: Global, steps: &[Step], want: &[u8]) -> Result<bool, AllocError> {
+    let text = write_schedule(alloc, steps)?;
+    let Ok(read) = read_schedule(alloc, text.as_slice()) else {
+        return Ok(false);
+    };
+    Ok(text.as_slice() == want && read.as_slice() == steps)
+}
+
 #[test]
 fn each_step_has_its_line(rt: HostRuntime) -> Result<(), Fail> {
-    let table: [(Step, &[u8]); 19] = [
+    let table: [(Step, &[u8]); 9] = [
         (Step::Tick(Missed::new()), b"tick\n"),
         (Step::Deliver(9, 0, 8), b"deliver 9 0 8\n"),
         (
@@ -96,47 +105,54 @@ fn each_step_has_its_line(rt: HostRuntime) -> Result<(), Fail> {
         (Step::Start(10, 0), b"start 10 0\n"),
         (Step::Cancel(254), b"cancel 254\n"),
         (Step::Activate(8), b"activate 8\n"),
-        (
-            Step::Verdict(9, Verdict::VerifyOk),
-            b"verdict 9 verify-ok\n",
-        ),
-        (
-            Step::Verdict(9, Verdict::VerifyFail),
-            b"verdict 9 verify-fail\n",
-        ),
-        (Step::Verdict(9, Verdict::ApplyOk), b"verdict 9 apply-ok\n"),
-        (
-            Step::Verdict(99, Verdict::ApplyFail),
-            b"verdict 99 apply-fail\n",
-        ),
+        (Step::Activate(100), b"activate 100\n"),
         (Step::Restart(10), b"restart 10\n"),
+    ];
+    for (step, want) in table {
+        assert!(rt; is_text_of(rt.alloc(), &[step], want)?);
+    }
+    Ok(())
+}
+
+#[test]
+fn each_verdict_has_its_word(rt: HostRuntime) -> Result<(), Fail> {
+    let table: [(Verdict, &[u8]); 4] = [
+        (Verdict::VerifyOk, b"verdict 9 verify-ok\n"),
+        (Verdict::VerifyFail, b"verdict 9 verify-fail\n"),
+        (Verdict::ApplyOk, b"verdict 9 apply-ok\n"),
+        (Verdict::ApplyFail, b"verdict 9 apply-fail\n"),
+    ];
+    for (verdict, want) in table {
+        assert!(rt; is_text_of(rt.alloc(), &[Step::Verdict(9, verdict)], want)?);
+    }
+    Ok(())
+}
+
+#[test]
+fn requests_and_missed_ticks_list_what_they_have(rt: HostRuntime) -> Result<(), Fail> {
+    let all = [
+        8, 9, 10, 11, 12, 13, 14, 15, 16, 17, 18, 19, 20, 21, 22, 23, 24,
+    ];
+    let table: [(Step, &[u8]); 6] = [
         (request(&[]), b"sel -\n"),
         (request(&[0x40]), b"sel 40\n"),
         (request(&[0x46, 0xFF, 0xC3, 0x0A]), b"sel 46FFC30A\n"),
         (miss(&[8]), b"miss 8\n"),
         (miss(&[254, 9, 10]), b"miss 254 9 10\n"),
         (
-            miss(&[
-                8, 9, 10, 11, 12, 13, 14, 15, 16, 17, 18, 19, 20, 21, 22, 23, 24,
-            ]),
+            miss(&all),
             b"miss 8 9 10 11 12 13 14 15 16 17 18 19 20 21 22 23 24\n",
         ),
-        (Step::Activate(100), b"activate 100\n"),
     ];
     for (step, want) in table {
-        let steps = [step];
-        let text = write_schedule(rt.alloc(), steps.as_slice())?;
-        assert!(rt; text.as_slice() == want);
-        let read = read_schedule(rt.alloc(), text.as_slice())?;
-        assert!(rt; read.as_slice() == steps.as_slice());
+        assert!(rt; is_text_of(rt.alloc(), &[step], want)?);
     }
     Ok(())
 }
 
 #[test]
 fn no_step_is_no_text(rt: HostRuntime) -> Result<(), Fail> {
-    let text = write_schedule(rt.alloc(), &[])?;
-    assert!(rt; text.is_empty());
+    assert!(rt; is_text_of(rt.alloc(), &[], b"")?);
     Ok(())
 }
 
@@ -155,10 +171,7 @@ fn ticks_in_a_row_are_lines_of_a_thousand(rt: HostRuntime) -> Result<(), Fail> {
     ];
     for (count, want) in table {
         let steps = ticks(rt.alloc(), count)?;
-        let text = write_schedule(rt.alloc(), steps.as_slice())?;
-        assert!(rt; text.as_slice() == want);
-        let read = read_schedule(rt.alloc(), text.as_slice())?;
-        assert!(rt; read.as_slice() == steps.as_slice());
+        assert!(rt; is_text_of(rt.alloc(), steps.as_slice(), want)?);
     }
     Ok(())
 }
@@ -223,10 +236,7 @@ fn what_is_read_is_written_in_one_way(rt: HostRuntime) -> Result<(), Fail> {
         rt.alloc(),
         b"# A remark.\ntick 003\n\ntick\n#tick\ntick 0996\ntick\nstart 009 00\nsel 46fFc3\nmiss 010 9\ntick 1",
     )?;
-    let text = write_schedule(rt.alloc(), steps.as_slice())?;
-    let want = b"tick 1000\ntick\nstart 9 0\nsel 46FFC3\nmiss 10 9\ntick\n".as_slice();
-    assert!(rt; text.as_slice() == want);
-    let again = read_schedule(rt.alloc(), text.as_slice())?;
-    assert!(rt; again.as_slice() == steps.as_slice());
+    let want = b"tick 1000\ntick\nstart 9 0\nsel 46FFC3\nmiss 10 9\ntick\n";
+    assert!(rt; is_text_of(rt.alloc(), steps.as_slice(), want)?);
     Ok(())
 }
