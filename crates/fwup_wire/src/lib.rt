@@ -35,6 +35,4 @@ pub use laws::{
 pub use parameter_list::{MAX_PARAMETER_BYTES, ParameterList};
 pub use parameters::Parameters;
 pub use transfers::{MAX_TRANSFER, MIN_TRANSFER, transfer_size};
-pub use values::{
-    ComponentParameters, Descriptor, Key, NO_STAMP, Text, TransferFlag, Version,
-};
+pub use values::{ComponentParameters, Descriptor, Key, NO_STAMP, Text, TransferFlag, Version};
