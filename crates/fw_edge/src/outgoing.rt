@@ -30,7 +30,7 @@ fn end_of(packet: &SentPacket, device: u8) -> Side
 fn write_each<L: Link>(link: &mut L, packets: &[SentPacket], device: u8) -> Result<(), EdgeFault>
     ensures took { OnOk result (TookAll device (L.taken link.old) (map (λ p. p.bytes.items) packets.now) (L.taken link.new)) }
     ensures wrote { OnOk result (LinkWrote L.tally L.gave (length packets.now) link.old link.new) }
-    ensures refused { IfErr result (λ e. LinkRefused L.tally e link.old link.new) }
+    ensures refused { IfErr result (λ e. LinkRefused L.tally e (length packets.now) link.old link.new) }
 {
     for packet in packets {
         match link.send(end_of(packet, device), &packet.bytes) {
@@ -60,7 +60,7 @@ fn write_at<B: Bank + Drop, L: Link>(
 ) -> Result<(), EdgeFault>
     ensures took { OnOk result (TookAt (slice_get world.now.sites place) written (L.taken link.old) (L.taken link.new)) }
     ensures wrote { OnOk result (LinkWrote L.tally L.gave (length (packets_at (slice_get world.now.sites place)) - written) link.old link.new) }
-    ensures refused { IfErr result (λ e. LinkRefused L.tally e link.old link.new) }
+    ensures refused { IfErr result (λ e. LinkRefused L.tally e (length (packets_at (slice_get world.now.sites place)) - written) link.old link.new) }
 {
     let (Some(node), Some(packets)) = (world.device_at(place), world.packets_at(place)) else {
         return Ok(());
