@@ -1,6 +1,7 @@
 //! Links over Unix sockets.
 
-ghost use Rattle.std.specs.Prelude.{true};
+ghost use Rattle.std.specs.Prelude.{◌==◌, ◌≡◌, IfOk, true};
+ghost use Rattle.mctp_wire.specs.Units.{bytes_of};
 
 use crate::faults::RunFault;
 use crate::updating::Wires;
@@ -24,7 +25,9 @@ fn connected(
     unit: Unit,
     listener: &UnixListener,
     path: &str,
-) -> io::Result<StreamLink<UnixStream>> {
+) -> io::Result<StreamLink<UnixStream>>
+    ensures { IfOk result (λ link. link.unit ≡ unit) }
+{
     let device = UnixStream::connect(rt, path)?;
     let (agent, _) = listener.accept()?;
     Ok(StreamLink::new(unit, agent, device))
@@ -34,7 +37,9 @@ fn connected(
 ///
 /// # Errors
 /// The name is taken already, or the socket can't be made. Nothing is left of it then.
-fn socket_link(rt: &HostRuntime, unit: Unit, path: &str) -> io::Result<StreamLink<UnixStream>> {
+fn socket_link(rt: &HostRuntime, unit: Unit, path: &str) -> io::Result<StreamLink<UnixStream>>
+    ensures { IfOk result (λ link. link.unit ≡ unit) }
+{
     let listener = UnixListener::bind(rt, path)?;
     let link = connected(rt, unit, &listener, path);
     let _ = fs::remove_file(rt, path);
@@ -66,6 +71,8 @@ impl<'a> Sockets<'a> {
 
 impl<'a> Wires<StreamLink<UnixStream>> for Sockets<'a> {
     ghost lacks = { λ s folder device. true };
+
+    ghost is_to = { λ unit folder device link. bytes_of link.unit == bytes_of unit };
 
     fn open(
         &mut self,
