@@ -1,5 +1,5 @@
 -- Steps that are due, as the world before them has it.
-use Rattle.std.proofs.Common.{◌≡◌, ◌≢◌, ◌≤◌, ◌<◌, ◌+◌, ◌++◌, ◌∙◌, ℕ, zero, suc, List, [], ◌∷◌, if◌then◌else◌, Option, Some, None, is_some, length, slice_get, take, append_assoc, append-nil, refl, sym, ap, subst, arith}
+use Rattle.std.proofs.Common.{◌≡◌, ◌≢◌, ◌≤◌, ◌<◌, ◌+◌, ◌++◌, ◌∙◌, ℕ, zero, suc, List, [], ◌∷◌, true, if◌then◌else◌, Option, Some, None, is_some, length, slice_get, take, append_assoc, append-nil, refl, sym, ap, subst, arith}
 use Rattle.std.specs.Prelude.{option_map, option_to_list}
 use Rattle.std.proofs.lemmas.Bool.{ne_eqb}
 use Rattle.std.proofs.lemmas.List.{take_all}
@@ -17,8 +17,11 @@ use Rattle.fw_world.proofs.LinksAreLanes.Places.{one_key}
 use Rattle.fw_world.proofs.LinksAreLanes.Posting.{site_put}
 use Rattle.fw_world.proofs.LinksAreLanes.Projection.{becomes_put, judged_site, judges_put}
 use Rattle.fw_world.proofs.Reaching.{run_eids}
-use Rattle.fw_edge.specs.Turns.{TakesAll, TakesIf, activation_for, all_due, awaited_in, due_at, verdict_for}
-use Rattle.fw_edge.proofs.Going.{run_append}
+use Rattle.fw_edge.specs.Drives.{DrivesCounted, ticks_in}
+use Rattle.fw_edge.specs.Outcomes.{StepRefused, StepsStopped}
+use Rattle.fw_edge.specs.Turns.{TakesAll, TakesIf, TakesSome, activation_for, all_due, awaited_in, due_at, verdict_for}
+use Rattle.fw_edge.specs.declared.driving.EdgeFault.{EdgeFault}
+use Rattle.fw_edge.proofs.Going.{drives_same, run_append}
 use Rattle.fw_edge.proofs.Rising.{map_length}
 
 -- A step that is due for one device leaves what is due for another.
@@ -150,3 +153,52 @@ pub due_all : (due : WorldOf → ℕ → Option Step) (n : ℕ) (w v : WorldOf) 
 due_all due n w v before after le h =
     subst (λ es. TakesAll w before (all_due due w es) v after)
     (take_all n (eids_of w.sites) (let same = map_length (λ x. x.node.endpoint.eid) w.sites in omega arith)) h.taken
+
+-- What is due for one device stands behind what is due for those before it.
+record Split (due : WorldOf → ℕ → Option Step) (w : WorldOf) (es : List ℕ) (n : ℕ) : Type 0 where
+  pub refused : Step
+  pub rest : List Step
+  pub are : all_due due w es ≡ all_due due w (take n es) ++ refused ∷ rest
+
+split_first : (due : WorldOf → ℕ → Option Step) (w : WorldOf) (e : ℕ) (es : List ℕ) (o : Option Step) → due w e ≡ o → is_some o ≡ true → Split due w (e ∷ es) 0
+split_first due w e es None is h = absurd (cc)
+split_first due w e es (Some s) is h = record { refused = s; rest = all_due due w es; are = ap (λ x. option_to_list x ++ all_due due w es) is }
+
+split_due : (due : WorldOf → ℕ → Option Step) (w : WorldOf) (es : List ℕ) (n : ℕ) → is_some (due_by due w (slice_get es n)) ≡ true → Split due w es n
+split_due due w [] n h = absurd (cc)
+split_due due w (e ∷ es) zero h = split_first due w e es (due w e) refl h
+split_due due w (e ∷ es) (suc n) h =
+    let k = split_due due w es n h in
+    record {
+      refused = k.refused;
+      rest = k.rest;
+      are = ap (λ ss. option_to_list (due w e) ++ ss) k.are ∙ sym (append_assoc (option_to_list (due w e)) (all_due due w (take n es)) (k.refused ∷ k.rest));
+    }
+
+due_some : (due : WorldOf → ℕ → Option Step) (n : ℕ) (w u v : WorldOf) (before mid after : List Step) → Due due n w before u mid → is_some (due_at due u (slice_get u.sites n)) ≡ true
+    → v ≡ u → after ≡ mid → TakesSome w before (all_due due w (eids_of w.sites)) v after
+due_some due n w u v before mid after h there same unlisted =
+    let one : is_some (due_by due w (slice_get (eids_of w.sites) n)) ≡ true = ap is_some (sym (h.left n (omega arith) ∙ at_place due w n)) ∙ there in
+    let k = split_due due w (eids_of w.sites) n one in
+    record {
+      taken = all_due due w (take n (eids_of w.sites));
+      refused = k.refused;
+      rest = k.rest;
+      are = k.are;
+      takes =
+          subst (λ x. TakesAll w before (all_due due w (take n (eids_of w.sites))) x after) (sym same)
+          (subst (λ xs. TakesAll w before (all_due due w (take n (eids_of w.sites))) u xs) (sym unlisted) h.taken);
+    }
+
+-- The step that is due at a place isn't taken.
+pub due_stops : (due : WorldOf → ℕ → Option Step) (n : ℕ) (e : EdgeFault) (w u v : WorldOf) (before mid after : List Step) → Due due n w before u mid → DrivesCounted w before u mid 0 0
+    → is_some (due_at due u (slice_get u.sites n)) ≡ true → StepRefused e u mid v after → StepsStopped e (all_due due w (eids_of w.sites)) w before v after
+due_stops due n e w u v before mid after h goes there refused = record {
+  drives = drives_same w u v before mid after goes.drives refused.same refused.unlisted;
+  no_tick = ap ticks_in refused.unlisted ∙ goes.ticks_rise ∙ none (ticks_in before);
+  fault = refused.fault;
+  some = due_some due n w u v before mid after h there refused.same refused.unlisted;
+}
+  where
+    none : (k : ℕ) → k + 0 ≡ k
+    none k = omega arith

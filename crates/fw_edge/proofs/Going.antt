@@ -23,6 +23,10 @@ drives_none w ss = record { steps = []; appended = sym (append-nil ss); run = re
 pub goes_none : (w : WorldOf) (ss : List Step) → DrivesCounted w ss w ss 0 0
 goes_none w ss = record { drives = drives_none w ss; ticks_rise = omega arith; delivers_rise = omega arith }
 
+-- nothing more is taken
+pub drives_same : (w u v : WorldOf) (before mid after : List Step) → Drives w before u mid → v ≡ u → after ≡ mid → Drives w before v after
+drives_same w u v before mid after h e l = subst (λ x. Drives w before x after) (sym e) (subst (Drives w before u) (sym l) h)
+
 -- a step is taken
 pub drives_step : (w v : WorldOf) (s : Step) (before after : List Step) → is_driven s ≡ true → Leads w s v → after ≡ before ++ s ∷ [] → Drives w before v after
 drives_step w v s before after d h e = record { steps = s ∷ []; appended = e; run = (v, h, refl); driven = rw d refl }

@@ -13,5 +13,6 @@ mod Parts
 mod Pieces
 pub mod Rising
 pub mod Sending
+mod Stopping
 pub mod Taking
 pub mod Turning

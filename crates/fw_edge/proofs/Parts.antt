@@ -1,41 +1,61 @@
 -- Parts of a turn, one after the other.
-use Rattle.std.proofs.Common.{◌≡◌, ◌≢◌, ◌≤◌, ◌+◌, ◌-◌, ◌*◌, ◌∙◌, ◌^◌, ℕ, List, length, map, refl, sym, subst, arith}
-use Rattle.fw_world.specs.Worlds.{WorldOf}
+use Rattle.std.proofs.Common.{◌≡◌, ◌≢◌, ◌≤◌, ◌+◌, ◌-◌, ◌*◌, ◌∙◌, ◌^◌, ℕ, List, inl, inr, length, map, refl, sym, subst, arith}
+use Rattle.fw_world.specs.Worlds.{WorldOf, eids_of}
 use Rattle.fw_world.specs.declared.step.Step.{Step}
-use Rattle.fw_edge.specs.Drives.{DrivesCounted, delivers_in}
-use Rattle.fw_edge.specs.Ledgers.{AreToldOf, OneFailed, packet_counts}
-use Rattle.fw_edge.specs.Outcomes.{LinksDriven, LinksExchanged, LinksRead, LinksRefused, LinksWrote, PartStopped}
-use Rattle.fw_edge.specs.Turns.{StopsTurn}
+use Rattle.fw_edge.specs.Drives.{DrivesCounted, delivers_in, ticks_in}
+use Rattle.fw_edge.specs.Ledgers.{AreToldOf, packet_counts}
+use Rattle.fw_edge.specs.Outcomes.{LinksDriven, LinksExchanged, LinksRead, LinksRefused, LinksWrote, PartStopped, RoundStopped}
+use Rattle.fw_edge.specs.Links.{EndsOf, LinksOf, links_at}
+use Rattle.fw_edge.specs.Turns.{RoundStops, StopsTurn}
 use Rattle.fw_edge.specs.declared.driving.EdgeFault.{EdgeFault}
 use Rattle.fw_edge.specs.declared.driving.EdgeFault.TheVariants as faults
 use Rattle.fw_edge.specs.declared.tally.Tally.{Tally}
+use Rattle.fw_edge.proofs.Failing.{told_at}
 use Rattle.fw_edge.proofs.Going.{drives_none, goes_off}
 use Rattle.fw_edge.proofs.Rising.{given_none, given_on, map_length, rose_from, rose_less, rose_none, rose_on, rose_to, together_from, together_none, together_sum, together_to}
 use Rattle.fw_edge.proofs.Sending.{sent_none, sent_on, sent_turn}
-
--- a link's fault is told where one failed
-pub told_refused : (e : EdgeFault) (os ns : List ℕ) → e ≡ faults.Frame → OneFailed os ns → AreToldOf e os ns
-told_refused e os ns is failed = (λ same. failed, λ other. absurd (other is))
 
 frame_is_no_step : (e : EdgeFault) → e ≡ faults.Frame → e ≢ faults.Step
 frame_is_no_step e is other = absurd (cc)
 
 -- a packet isn't taken
-pub stopped_refused : {A : Type 0} (t : A → Tally) (e : EdgeFault) (w : WorldOf) (ss : List Step) (olds news : List A) → LinksRefused t e olds news → PartStopped t e w ss olds w ss news
-stopped_refused t e w ss olds news h = record {
+pub stopped_refused : {A : Type 0} (t : A → Tally) (taken gave : A → EndsOf) (e : EdgeFault) (w : WorldOf) (ss : List Step) (written : List ℕ) (olds news : List A) → LinksRefused t e olds news
+    → PartStopped t taken gave (RoundStops (eids_of w.sites)) e w ss written olds w ss news
+stopped_refused t taken gave e w ss written olds news h = record {
   drives = drives_none w ss;
+  no_tick = refl;
+  stops_so = inl (refl, refl);
   fault = frame_is_no_step e h.is;
-  failed = told_refused e (map (λ l. (t l).failures) olds) (map (λ l. (t l).failures) news) h.is h.failed;
+  failed = told_at e (λ l. (t l).failures) olds news h.failed;
+}
+
+-- an end gives no answer, behind the writing
+pub stopped_reading : {A : Type 0} (t : A → Tally) (taken gave : A → EndsOf) (e : EdgeFault) (w v : WorldOf) (before after : List Step) (written : List ℕ) (olds mids news : List A)
+    → map (λ l. (t l).failures) mids ≡ map (λ l. (t l).failures) olds → RoundStopped t e w before mids v after news
+    → PartStopped t taken gave (RoundStops (eids_of w.sites)) e w before written olds v after news
+stopped_reading t taken gave e w v before after written olds mids news kept h = record {
+  drives = h.drives;
+  no_tick = h.no_tick;
+  stops_so = inr h.some;
+  fault = h.fault;
+  failed = subst (λ os. AreToldOf e os (map (λ l. (t l).failures) news)) kept (told_at e (λ l. (t l).failures) mids news h.failed);
 }
 
 -- a part stops behind another
-pub stopped_later : {A : Type 0} (t : A → Tally) (e : EdgeFault) (w u v : WorldOf) (before mid after : List Step) (olds mids news : List A) (ticks delivers : ℕ) → DrivesCounted w before u mid ticks delivers
-    → map (λ l. (t l).failures) mids ≡ map (λ l. (t l).failures) olds → PartStopped t e u mid mids v after news → PartStopped t e w before olds v after news
-stopped_later t e w u v before mid after olds mids news ticks delivers g kept h = record {
-  drives = goes_off w u v before mid after ticks delivers g h.drives;
+pub stopped_later : {A : Type 0} (t : A → Tally) (taken gave : A → EndsOf) (later stops : WorldOf → List Step → LinksOf → WorldOf → List Step → Type 0) (e : EdgeFault) (w u v : WorldOf)
+    (before mid after : List Step) (ws us : List ℕ) (olds mids news : List A) (delivers : ℕ) → DrivesCounted w before u mid 0 delivers
+    → map (λ l. (t l).failures) mids ≡ map (λ l. (t l).failures) olds → PartStopped t taken gave later e u mid us mids v after news
+    → stops w before (links_at ws (map taken olds) (map gave olds)) v after → PartStopped t taken gave stops e w before ws olds v after news
+stopped_later t taken gave later stops e w u v before mid after ws us olds mids news delivers g kept h so = record {
+  drives = goes_off w u v before mid after 0 delivers g h.drives;
+  no_tick = h.no_tick ∙ g.ticks_rise ∙ none (ticks_in before);
+  stops_so = so;
   fault = h.fault;
   failed = subst (λ os. AreToldOf e os (map (λ l. (t l).failures) news)) kept h.failed;
 }
+  where
+    none : (k : ℕ) → k + 0 ≡ k
+    none k = omega arith
 
 -- nothing is exchanged
 pub exchanged_none : {A : Type 0} (t : A → Tally) (ws : List ℕ) (links : List A) (given : ℕ) → given ≡ 0 → length ws ≡ length links → LinksExchanged t 0 given ws ws links links

@@ -34,7 +34,7 @@ came_frame w v before after old new device side bytes count h g e = record {
 }
 
 -- more is asked
-hears_append : (w u v : WorldOf) (before mid after : List Step) (xs ys : List Ask) → Hears w before xs u mid → Hears u mid ys v after → Hears w before (xs ++ ys) v after
+pub hears_append : (w u v : WorldOf) (before mid after : List Step) (xs ys : List Ask) → Hears w before xs u mid → Hears u mid ys v after → Hears w before (xs ++ ys) v after
 hears_append w u v before mid after [] ys h k = subst (λ x. Hears x before ys v after) h.0 (subst (λ ss. Hears u ss ys v after) h.1 k)
 hears_append w u v before mid after (a ∷ xs) ys h k = (h.0, h.1, h.2, hears_append h.0 u v h.1 mid after xs ys h.3 k)
 

@@ -2,21 +2,23 @@
 use Rattle.std.specs.Prelude.{ℕ, ◌≡◌, ◌≢◌, ◌≤◌, ◌<◌, ◌+◌, ◌-◌, ◌^◌, ◌⊎◌, List, [], ◌∷◌, length, map}
 use Rattle.fw_edge.specs.declared.driving.EdgeFault.{EdgeFault}
 use Rattle.fw_edge.specs.declared.driving.EdgeFault.TheVariants as faults
+use Rattle.fw_edge.specs.Links.{Rises}
 use Rattle.fw_edge.specs.declared.tally.Tally.{Tally}
 use Rattle.fw_world.specs.Worlds.{SiteOf}
 
--- a count of failures rose, or stands at its last value
-abbrev pub HasFailed : ℕ → ℕ → Type 0
-HasFailed old new = (old < new) ⊎ (new ≡ 2 ^ 64 - 1)
-
--- one of these did
+-- one of these counts of failures rose by one, or stands at its last value, and no other changed
 abbrev pub OneFailed : List ℕ → List ℕ → Type 0
-OneFailed (o ∷ os) (n ∷ ns) = HasFailed o n ⊎ OneFailed os ns
+OneFailed (o ∷ os) (n ∷ ns) = (Rises o n × (ns ≡ os)) ⊎ ((n ≡ o) × OneFailed os ns)
 OneFailed os ns = ⊥
 
--- `Frame` is told where a link failed, and another fault where it didn't.
+-- `Frame` is told where a link failed, once, and another fault where it didn't.
 abbrev pub IsToldOf : EdgeFault → ℕ → ℕ → Type 0
-IsToldOf fault old new = (fault ≡ faults.Frame → HasFailed old new) × (fault ≢ faults.Frame → new ≡ old)
+IsToldOf fault old new = (fault ≡ faults.Frame → Rises old new) × (fault ≢ faults.Frame → new ≡ old)
+
+-- So it is of one of these links, by its count. Those before it count as they did, and those behind it are as they were.
+abbrev pub StopsAt : {A : Type 0} → EdgeFault → (A → ℕ) → List A → List A → Type 0
+StopsAt fault count (o ∷ os) (n ∷ ns) = (IsToldOf fault (count o) (count n) × (ns ≡ os)) ⊎ ((count n ≡ count o) × StopsAt fault count os ns)
+StopsAt fault count os ns = ⊥
 
 -- where one of these did, and where none did
 abbrev pub AreToldOf : EdgeFault → List ℕ → List ℕ → Type 0
@@ -25,6 +27,13 @@ AreToldOf fault os ns = (fault ≡ faults.Frame → OneFailed os ns) × (fault �
 -- So many packets were taken.
 pub record Writes (packets : ℕ) (old new : Tally) : Type 0 where
   pub failures : new.failures ≡ old.failures
+  pub sent_rise : new.sent < 2 ^ 64 - 1 → new.sent ≡ old.sent + packets
+  pub asked : new.asked ≡ old.asked
+  pub given : new.given ≡ old.given
+
+-- So many packets were taken, and then one was refused, which is counted.
+pub record Refuses (packets : ℕ) (old new : Tally) : Type 0 where
+  pub failures : Rises old.failures new.failures
   pub sent_rise : new.sent < 2 ^ 64 - 1 → new.sent ≡ old.sent + packets
   pub asked : new.asked ≡ old.asked
   pub given : new.given ≡ old.given

@@ -6,9 +6,9 @@ use Rattle.fw_world.specs.Replays.{needs_memory}
 use Rattle.fw_world.specs.Worlds.{WorldOf, eids_of}
 use Rattle.fw_world.specs.declared.step.Step.{Step}
 use Rattle.fw_edge.specs.Drives.{Drives, DrivesCounted, all_over, delivers_in, ticks_in}
-use Rattle.fw_edge.specs.Ledgers.{AllRose, AllSent, AreGiven, AreToldOf, HasFailed, IsToldOf, OneFailed, Reads, RoseTogether, Writes, packet_counts}
+use Rattle.fw_edge.specs.Ledgers.{AllRose, AllSent, AreGiven, AreToldOf, IsToldOf, Reads, Refuses, RoseTogether, StopsAt, Writes, packet_counts}
 use Rattle.fw_edge.specs.Links.{EndsOf, LinksOf, links_at}
-use Rattle.fw_edge.specs.Turns.{Came, CameAt, Drove, Stopped, StopsTurn}
+use Rattle.fw_edge.specs.Turns.{AsksSome, Came, CameAt, Drove, Stopped, StopsTurn, TakesSome, TurnStops, round_ends}
 use Rattle.fw_edge.specs.declared.driving.EdgeFault.{EdgeFault}
 use Rattle.fw_edge.specs.declared.driving.EdgeFault.TheVariants as faults
 use Rattle.fw_edge.specs.declared.tally.Tally.{Tally}
@@ -18,10 +18,12 @@ pub record LinkWrote {A : Type 0} (tally : A → Tally) (gave : A → EndsOf) (p
   pub counts : Writes packets (tally old) (tally new)
   pub gave_none : gave new ≡ gave old
 
--- It didn't take one: that is the fault, and it counts it.
-pub record LinkRefused {A : Type 0} (tally : A → Tally) (told : EdgeFault) (old new : A) : Type 0 where
+-- It took fewer, and didn't take the next: that is the fault, and it counts it, and nothing after it.
+pub record LinkRefused {A : Type 0} (tally : A → Tally) (told : EdgeFault) (packets : ℕ) (old new : A) : Type 0 where
   pub is : told ≡ faults.Frame
-  pub failed : HasFailed (tally old).failures (tally new).failures
+  pub taken : ℕ
+  pub fewer : taken < packets
+  pub counts : Refuses taken (tally old) (tally new)
 
 -- Ends of a link were asked for a frame each, in this order. Of the frames that came so many are living packets of its pair, each of which
 -- was delivered, and so many are foreign; the link took nothing.
@@ -32,11 +34,19 @@ pub record EndsRead {A : Type 0} (tally : A → Tally) (taken gave : A → EndsO
   pub took_none : taken new ≡ taken old
   pub reads : Reads most (known + foreign) (tally old) (tally new)
 
--- A fault ended that. The steps that were taken are listed; the fault isn't the clock's, and the link's only where it failed.
-pub record LinkStopped {A : Type 0} (tally : A → Tally) (told : EdgeFault) (w : WorldOf) (before : List Step) (old : A) (v : WorldOf) (after : List Step) (new : A) : Type 0 where
+-- A fault ended that, at one of the ends: those before it were asked, and no others. The steps that were taken are listed; the fault isn't
+-- the clock's, and the link's only where it failed, once.
+pub record LinkStopped {A : Type 0} (tally : A → Tally) (told : EdgeFault) (ends : List (ℕ × Side)) (w : WorldOf) (before : List Step) (old : A) (v : WorldOf) (after : List Step) (new : A) : Type 0 where
   pub drives : Drives w before v after
+  pub no_tick : ticks_in after ≡ ticks_in before
   pub fault : told ≢ faults.Step
   pub failed : IsToldOf told (tally old).failures (tally new).failures
+  pub some : AsksSome ends w before v after
+  pub sent : (tally new).sent ≡ (tally old).sent
+  pub answered : ℕ
+  pub fewer : told ≡ faults.Frame → answered < length ends
+  pub few : answered ≤ length ends
+  pub asked_rise : (tally new).asked < 2 ^ 64 - 1 → (tally new).asked ≡ (tally old).asked + answered
 
 -- No link failed, was asked for a frame, or gave one; and each took the packets by which the count of its pair rose.
 pub record LinksWrote {A : Type 0} (tally : A → Tally) (before after : List ℕ) (olds news : List A) : Type 0 where
@@ -45,10 +55,10 @@ pub record LinksWrote {A : Type 0} (tally : A → Tally) (before after : List �
   pub given : map (λ l. (tally l).given) news ≡ map (λ l. (tally l).given) olds
   pub sent : AllSent before after (map (λ l. (tally l).sent) olds) (map (λ l. (tally l).sent) news)
 
--- One didn't take one: that is the fault, and it counts it.
+-- One didn't take one: that is the fault, and it counts it. Those behind it are as they were.
 pub record LinksRefused {A : Type 0} (tally : A → Tally) (told : EdgeFault) (olds news : List A) : Type 0 where
   pub is : told ≡ faults.Frame
-  pub failed : OneFailed (map (λ l. (tally l).failures) olds) (map (λ l. (tally l).failures) news)
+  pub failed : StopsAt told (λ l. (tally l).failures) olds news
 
 -- No link failed or took a packet; each was asked so often at least, and all gave so many frames together.
 pub record LinksRead {A : Type 0} (tally : A → Tally) (most frames : ℕ) (olds news : List A) : Type 0 where
@@ -73,6 +83,15 @@ pub record RoundRead {A : Type 0} (tally : A → Tally) (taken gave : A → Ends
   pub few : known + foreign ≤ 32
   pub counts : LinksRead tally 2 (known + foreign) olds news
 
+-- A fault ended that, at one of the ends: those before it were asked, and no others, and the links behind its own are as they were. The steps
+-- that were taken are listed; the fault isn't the clock's, and a link's only where one failed, once.
+pub record RoundStopped {A : Type 0} (tally : A → Tally) (told : EdgeFault) (w : WorldOf) (before : List Step) (olds : List A) (v : WorldOf) (after : List Step) (news : List A) : Type 0 where
+  pub drives : Drives w before v after
+  pub no_tick : ticks_in after ≡ ticks_in before
+  pub fault : told ≢ faults.Step
+  pub failed : StopsAt told (λ l. (tally l).failures) olds news
+  pub some : AsksSome (round_ends (eids_of w.sites)) w before v after
+
 -- A part of a turn did what it is to do, over links to which so many packets of each pair were written before, and so many are now. Of the
 -- frames that came so many are living packets, each of which was delivered, and so many are foreign.
 pub record PartDone {A : Type 0} (tally : A → Tally) (taken gave : A → EndsOf) (does : WorldOf → List Step → LinksOf → WorldOf → List Step → LinksOf → (count : ℕ) → Type 0) (ticks most : ℕ) (w : WorldOf) (before : List Step) (written_before : List ℕ) (olds : List A) (v : WorldOf) (after : List Step) (written : List ℕ) (news : List A) (known foreign : ℕ) : Type 0 where
@@ -81,16 +100,21 @@ pub record PartDone {A : Type 0} (tally : A → Tally) (taken gave : A → EndsO
   pub few : known + foreign ≤ most
   pub counts : LinksExchanged tally 2 (known + foreign) written_before written olds news
 
--- A fault ended it. The steps that were taken are listed; the fault isn't the clock's, and a link's only where one failed.
-pub record PartStopped {A : Type 0} (tally : A → Tally) (told : EdgeFault) (w : WorldOf) (before : List Step) (olds : List A) (v : WorldOf) (after : List Step) (news : List A) : Type 0 where
+-- A fault ended it, in this way. The steps that were taken are listed, none of them a tick; the fault isn't the clock's, and a link's only
+-- where one failed, once.
+pub record PartStopped {A : Type 0} (tally : A → Tally) (taken gave : A → EndsOf) (stops : WorldOf → List Step → LinksOf → WorldOf → List Step → Type 0) (told : EdgeFault) (w : WorldOf) (before : List Step) (written : List ℕ) (olds : List A) (v : WorldOf) (after : List Step) (news : List A) : Type 0 where
   pub drives : Drives w before v after
+  pub no_tick : ticks_in after ≡ ticks_in before
+  pub stops_so : stops w before (links_at written (map taken olds) (map gave olds)) v after
   pub fault : told ≢ faults.Step
   pub failed : AreToldOf told (map (λ l. (tally l).failures) olds) (map (λ l. (tally l).failures) news)
 
--- A fault ended a turn. The steps that were taken are listed; the fault is the clock's where that stands at its end, and a link's only
--- where one failed.
-pub record TurnStopped {A : Type 0} (tally : A → Tally) (told : EdgeFault) (w : WorldOf) (before : List Step) (olds : List A) (v : WorldOf) (after : List Step) (news : List A) : Type 0 where
+-- A fault ended a turn, in one of its parts. The steps that were taken are listed, one of them a tick at most; the fault is the clock's where
+-- that stands at its end, and a link's only where one failed, once.
+pub record TurnStopped {A : Type 0} (tally : A → Tally) (taken gave : A → EndsOf) (told : EdgeFault) (w : WorldOf) (before : List Step) (written : List ℕ) (olds : List A) (v : WorldOf) (after : List Step) (news : List A) : Type 0 where
   pub drives : Drives w before v after
+  pub few : ticks_in after ≤ ticks_in before + 1
+  pub last : TurnStops w before (links_at written (map taken olds) (map gave olds)) v after
   pub failed : AreToldOf told (map (λ l. (tally l).failures) olds) (map (λ l. (tally l).failures) news)
   pub stops : StopsTurn told w before v after
 
@@ -110,21 +134,32 @@ pub record RunDone {A : Type 0} (tally : A → Tally) (taken gave : A → EndsOf
   pub ended : turns < asked_for → all_over v ≡ true
   pub counts : LinksDriven tally turns w before olds v after news foreign
 
--- A fault ended it, in the turn behind so many: a link's where one failed, and the clock's where that stands at its end.
-pub record RunStopped {A : Type 0} (tally : A → Tally) (taken gave : A → EndsOf) (told : EdgeFault) (w : WorldOf) (before : List Step) (written_before : List ℕ) (olds : List A) (v : WorldOf) (after : List Step) (news : List A) : Type 0 where
+-- A fault ended it, in the turn behind so many, fewer than were asked for: a link's where one failed, once, and the clock's where that stands
+-- at its end.
+pub record RunStopped {A : Type 0} (tally : A → Tally) (taken gave : A → EndsOf) (asked_for : ℕ) (told : EdgeFault) (w : WorldOf) (before : List Step) (written_before : List ℕ) (olds : List A) (v : WorldOf) (after : List Step) (news : List A) : Type 0 where
   pub failed : AreToldOf told (map (λ l. (tally l).failures) olds) (map (λ l. (tally l).failures) news)
   pub step : told ≡ faults.Step → v.now ≡ 2 ^ 32 - 1
   pub stopped : Stopped told w before (links_at written_before (map taken olds) (map gave olds)) v after
+  pub within : stopped.turns < asked_for
+  pub ticks : ticks_in after ≤ ticks_in before + (stopped.turns + 1)
 
 -- Steps were taken that are no ticks and no deliveries, and nothing was sent.
 pub record SentNone (w : WorldOf) (before : List Step) (v : WorldOf) (after : List Step) : Type 0 where
   pub goes : DrivesCounted w before v after 0 0
   pub sent : packet_counts v.sites ≡ packet_counts w.sites
 
--- Memory was refused. The steps that were taken are listed.
-pub record StepsStopped (told : EdgeFault) (w : WorldOf) (before : List Step) (v : WorldOf) (after : List Step) : Type 0 where
-  pub drives : Drives w before v after
+-- Memory was refused, and nothing has changed.
+pub record StepRefused (told : EdgeFault) (w : WorldOf) (before : List Step) (v : WorldOf) (after : List Step) : Type 0 where
   pub fault : told ≡ faults.Memory
+  pub same : v ≡ w
+  pub unlisted : after ≡ before
+
+-- Memory was refused to one of these steps, none of which is a tick. Those before it were taken, and are listed.
+pub record StepsStopped (told : EdgeFault) (ss : List Step) (w : WorldOf) (before : List Step) (v : WorldOf) (after : List Step) : Type 0 where
+  pub drives : Drives w before v after
+  pub no_tick : ticks_in after ≡ ticks_in before
+  pub fault : told ≡ faults.Memory
+  pub some : TakesSome w before ss v after
 
 -- Memory may be lacking for a step: a list of so many steps had no room for one more; or it has, and the step itself needs some.
 abbrev pub LacksMemory : Step → (listed room_before room_now : ℕ) → Type 0

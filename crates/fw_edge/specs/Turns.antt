@@ -180,6 +180,84 @@ pub record Turned (w : WorldOf) (before : List Step) (old : LinksOf) (v : WorldO
   pub verdicts : TakesAll heard heard_steps (all_due verdict_for heard (eids_of heard.sites)) judged judged_steps
   pub activations : TakesAll judged judged_steps (all_due activation_for judged (eids_of judged.sites)) v after
 
+-- Some of these steps are taken, and listed, up to one that isn't.
+pub record TakesSome (w : WorldOf) (before : List Step) (ss : List Step) (v : WorldOf) (after : List Step) : Type 0 where
+  pub taken : List Step
+  pub refused : Step
+  pub rest : List Step
+  pub are : ss ≡ taken ++ refused ∷ rest
+  pub takes : TakesAll w before taken v after
+
+-- Some of these ends of links are asked, in this order, up to one that gives no answer, or a frame that can't be handed over.
+pub record AsksSome (ends : List (ℕ × Side)) (w : WorldOf) (before : List Step) (v : WorldOf) (after : List Step) : Type 0 where
+  pub asks : List Ask
+  pub failed : ℕ × Side
+  pub rest : List (ℕ × Side)
+  pub are : ends ≡ map (λ a. (a.device, a.side)) asks ++ failed ∷ rest
+  pub hears : Hears w before asks v after
+
+-- A round stops: where a packet isn't taken, so that no end is asked; or at one of the ends.
+abbrev pub RoundStops : List ℕ → WorldOf → List Step → LinksOf → WorldOf → List Step → Type 0
+RoundStops es w before old v after = ((v ≡ w) × (after ≡ before)) ⊎ AsksSome (round_ends es) w before v after
+
+-- The rounds of a turn stop within one, behind rounds that go on.
+pub record RoundsStop (es : List ℕ) (w : WorldOf) (before : List Step) (old : LinksOf) (v : WorldOf) (after : List Step) : Type 0 where
+  pub rounds : ℕ
+  pub mid : WorldOf
+  pub steps : List Step
+  pub links : LinksOf
+  pub read : ℕ
+  pub earlier : RoundsOn es rounds w before old mid steps links read
+  pub last : RoundStops es mid steps links v after
+
+-- The rounds of a turn are over, and something unwritten isn't taken.
+pub record RoundsOver (es : List ℕ) (w : WorldOf) (before : List Step) (old : LinksOf) (v : WorldOf) (after : List Step) : Type 0 where
+  pub links : LinksOf
+  pub count : ℕ
+  pub rounds : Rounds es w before old v after links count
+
+abbrev pub ExchangeStops : List ℕ → WorldOf → List Step → LinksOf → WorldOf → List Step → Type 0
+ExchangeStops es w before old v after = RoundsStop es w before old v after ⊎ RoundsOver es w before old v after
+
+-- A turn stops in its rounds.
+pub record StopsInRounds (w : WorldOf) (before : List Step) (old : LinksOf) (v : WorldOf) (after : List Step) : Type 0 where
+  pub ticked : WorldOf
+  pub ticked_steps : List Step
+  pub tick : TakesIf w before (Some full_tick) ticked ticked_steps
+  pub stops : ExchangeStops (eids_of ticked.sites) ticked ticked_steps old v after
+
+-- Its rounds are over.
+pub record TurnsHeard (w : WorldOf) (before : List Step) (old : LinksOf) (heard : WorldOf) (heard_steps : List Step) : Type 0 where
+  pub ticked : WorldOf
+  pub ticked_steps : List Step
+  pub tick : TakesIf w before (Some full_tick) ticked ticked_steps
+  pub links : LinksOf
+  pub count : ℕ
+  pub exchanged : Exchanged (eids_of ticked.sites) ticked ticked_steps old heard heard_steps links count
+
+-- It stops at a verdict that is due.
+pub record StopsInVerdicts (w : WorldOf) (before : List Step) (old : LinksOf) (v : WorldOf) (after : List Step) : Type 0 where
+  pub heard : WorldOf
+  pub heard_steps : List Step
+  pub hears : TurnsHeard w before old heard heard_steps
+  pub some : TakesSome heard heard_steps (all_due verdict_for heard (eids_of heard.sites)) v after
+
+-- It stops at an activation that is due.
+pub record StopsInActivations (w : WorldOf) (before : List Step) (old : LinksOf) (v : WorldOf) (after : List Step) : Type 0 where
+  pub heard : WorldOf
+  pub heard_steps : List Step
+  pub hears : TurnsHeard w before old heard heard_steps
+  pub judged : WorldOf
+  pub judged_steps : List Step
+  pub verdicts : TakesAll heard heard_steps (all_due verdict_for heard (eids_of heard.sites)) judged judged_steps
+  pub some : TakesSome judged judged_steps (all_due activation_for judged (eids_of judged.sites)) v after
+
+-- A turn stops: at its tick, so that nothing is done; or in one of its parts, of which the steps before are taken, and no others.
+abbrev pub TurnStops : WorldOf → List Step → LinksOf → WorldOf → List Step → Type 0
+TurnStops w before old v after =
+    ((v ≡ w) × (after ≡ before))
+    ⊎ (StopsInRounds w before old v after ⊎ (StopsInVerdicts w before old v after ⊎ StopsInActivations w before old v after))
+
 -- A turn stops for this reason: `Step` where the clock stands at its last unit, which is looked at before all else, so that nothing is
 -- done; and another fault where it doesn't.
 abbrev pub StopsTurn : EdgeFault → WorldOf → List Step → WorldOf → List Step → Type 0
@@ -210,3 +288,4 @@ pub record Stopped (fault : EdgeFault) (w : WorldOf) (before : List Step) (old :
   pub turned : Turns turns w before old mid steps links count
   pub on : all_over mid ≡ false
   pub stops : StopsTurn fault mid steps v after
+  pub last : TurnStops mid steps links v after

@@ -29,7 +29,7 @@ fn end_of(packet: &[u8], device: u8) -> Side
 fn write_each<L: Link>(link: &mut L, packets: &SentPackets<'_>, device: u8) -> Result<(), EdgeFault>
     ensures took { OnOk result (TookAll device (L.taken link.old) (map (λ p. p.bytes) packets.now) (L.taken link.new)) }
     ensures wrote { OnOk result (LinkWrote L.tally L.gave (length packets.now) link.old link.new) }
-    ensures refused { IfErr result (λ e. LinkRefused L.tally e link.old link.new) }
+    ensures refused { IfErr result (λ e. LinkRefused L.tally e (length packets.now) link.old link.new) }
 {
     for place in 0..packets.len() {
         let Some(packet) = packets.copied(place) else {
@@ -62,7 +62,7 @@ fn write_at<B: Bank + Drop, L: Link>(
 ) -> Result<(), EdgeFault>
     ensures took { OnOk result (TookAt (slice_get world.now.sites place) written (L.taken link.old) (L.taken link.new)) }
     ensures wrote { OnOk result (LinkWrote L.tally L.gave (length (packets_at (slice_get world.now.sites place)) - written) link.old link.new) }
-    ensures refused { IfErr result (λ e. LinkRefused L.tally e link.old link.new) }
+    ensures refused { IfErr result (λ e. LinkRefused L.tally e (length (packets_at (slice_get world.now.sites place)) - written) link.old link.new) }
 {
     let (Some(node), Some(packets)) = (world.device_at(place), world.packets_at(place)) else {
         return Ok(());

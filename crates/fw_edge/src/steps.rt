@@ -3,7 +3,7 @@
 ghost use Rattle.std.specs.Prelude.{[], ◌≡◌, ◌≢◌, ◌-◌, ◌^◌, ◌++◌, ◌∷◌, IfErr, IfSome, None, OnErr, OnOk, Some, is_some, slice_get, true, vec_capacity, vec_len};
 ghost use Rattle.fw_edge.specs.Drives.{Drives, DrivesCounted, all_over, deliver_in, is_driven, is_good, is_over, tick_in};
 ghost use Rattle.fw_edge.specs.Ledgers.{packet_counts};
-ghost use Rattle.fw_edge.specs.Outcomes.{LacksMemory, SentNone, StepsStopped};
+ghost use Rattle.fw_edge.specs.Outcomes.{LacksMemory, SentNone, StepRefused, StepsStopped};
 ghost use Rattle.fw_edge.specs.Turns.{TakesAll, TakesIf, activation_for, all_due, awaited_in, due_at, verdict_for};
 ghost use Rattle.fw_node.specs.Agents.{half_for, ready_for};
 ghost use Rattle.fw_world.specs.Headline.{Leads, may_step};
@@ -108,7 +108,8 @@ fn judge<B: Bank + Drop>(
 ) -> Result<(), EdgeFault>
     ensures due { OnOk result (TakesIf world.old steps.old.items (due_at verdict_for world.old (slice_get world.old.sites place)) world.new steps.new.items) }
     ensures quiet { OnOk result (SentNone world.old steps.old.items world.new steps.new.items) }
-    ensures stopped { IfErr result (λ e. StepsStopped e world.old steps.old.items world.new steps.new.items) }
+    ensures refused { IfErr result (λ e. StepRefused e world.old steps.old.items world.new steps.new.items) }
+    ensures one { OnErr result (is_some (due_at verdict_for world.old (slice_get world.old.sites place)) ≡ true) }
 {
     let Some(node) = world.device_at(place) else {
         return Ok(());
@@ -129,7 +130,8 @@ fn activate<B: Bank + Drop>(
 ) -> Result<(), EdgeFault>
     ensures due { OnOk result (TakesIf world.old steps.old.items (due_at activation_for world.old (slice_get world.old.sites place)) world.new steps.new.items) }
     ensures quiet { OnOk result (SentNone world.old steps.old.items world.new steps.new.items) }
-    ensures stopped { IfErr result (λ e. StepsStopped e world.old steps.old.items world.new steps.new.items) }
+    ensures refused { IfErr result (λ e. StepRefused e world.old steps.old.items world.new steps.new.items) }
+    ensures one { OnErr result (is_some (due_at activation_for world.old (slice_get world.old.sites place)) ≡ true) }
 {
     let Some(node) = world.device_at(place) else {
         return Ok(());
@@ -148,7 +150,7 @@ pub(crate) fn judge_all<B: Bank + Drop>(
 ) -> Result<(), EdgeFault>
     ensures due { OnOk result (TakesAll world.old steps.old.items (all_due verdict_for world.old (eids_of world.old.sites)) world.new steps.new.items) }
     ensures quiet { OnOk result (SentNone world.old steps.old.items world.new steps.new.items) }
-    ensures stopped { IfErr result (λ e. StepsStopped e world.old steps.old.items world.new steps.new.items) }
+    ensures stopped { IfErr result (λ e. StepsStopped e (all_due verdict_for world.old (eids_of world.old.sites)) world.old steps.old.items world.new steps.new.items) }
 {
     world.is_promised();
     for place in 0..world.device_count() {
@@ -167,7 +169,7 @@ pub(crate) fn activate_all<B: Bank + Drop>(
 ) -> Result<(), EdgeFault>
     ensures due { OnOk result (TakesAll world.old steps.old.items (all_due activation_for world.old (eids_of world.old.sites)) world.new steps.new.items) }
     ensures quiet { OnOk result (SentNone world.old steps.old.items world.new steps.new.items) }
-    ensures stopped { IfErr result (λ e. StepsStopped e world.old steps.old.items world.new steps.new.items) }
+    ensures stopped { IfErr result (λ e. StepsStopped e (all_due activation_for world.old (eids_of world.old.sites)) world.old steps.old.items world.new steps.new.items) }
 {
     world.is_promised();
     for place in 0..world.device_count() {

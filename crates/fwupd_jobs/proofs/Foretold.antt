@@ -1,5 +1,5 @@
 -- What is foretold of the updates of a configuration's devices.
-use Rattle.std.proofs.Common.{◌≡◌, ◌≤◌, ◌∙◌, ℕ, List, Ok, inl, length, map, ap, subst, Vec, String, Global}
+use Rattle.std.proofs.Common.{◌≡◌, ◌≤◌, ◌<◌, ◌∙◌, ◌⊎◌, ℕ, List, Ok, inl, inr, length, map, ap, arith, subst, sym, Vec, String, Global}
 use Rattle.std.specs.Prelude.{string_bytes}
 use Rattle.fw_package.specs.Package.{PackageText}
 use Rattle.fw_package.specs.Reading.{package_of}
@@ -15,7 +15,8 @@ use Rattle.fwupd_jobs.specs.Planned.{Forecasts, PlanEnds}
 use Rattle.fwupd_jobs.specs.Setups.{ArePacked, FileOf, Says}
 use Rattle.fwupd_jobs.specs.declared.faults.RunFault.{RunFault}
 use Rattle.fwupd_jobs.specs.declared.faults.RunFault.TheVariants as faults
-use Rattle.fwupd_jobs.proofs.Packed.{packages_so, through}
+use Rattle.fw_edge.proofs.Rising.{map_length}
+use Rattle.fwupd_jobs.proofs.Packed.{as_many, packages_so, through}
 
 -- The text of a package among those that a configuration names.
 pub foretold : (files : List ℕ → FileOf) (path : List ℕ) (number : ℕ) (form : Form) (config : Config) (names : List (String Global)) (contents slice : List (Vec ℕ Global)) (ps lent : List PackageText)
@@ -37,6 +38,22 @@ foretold files path number form config names contents slice ps lent p devices te
       told ∙ ap (λ q. plan_in form number q (map device_of devices)) (numbered ∙ ap (λ qs. package_at qs number) are)
       ∙ ap (λ xs. plan_in form number (package_at ps number) (map device_of xs)) all;
 }
+
+-- A package of a number that the configuration names is there.
+none_there : (n m number : ℕ) → n ≡ m → 1 ≤ number → number ≤ m → (number ≡ 0) ⊎ (n < number) → ⊥
+none_there n m number same counted there (inl none) = absurd (omega arith)
+none_there n m number same counted there (inr few) = absurd (omega arith)
+
+pub package_there : (files : List ℕ → FileOf) (number count : ℕ) (names : List (String Global)) (contents slice : List (Vec ℕ Global)) (ps lent : List PackageText)
+    → ArePacked files (map (λ q. string_bytes q) names) (map (λ f. f.items) contents) → slice ≡ contents → map (λ q. Ok q) ps ≡ map (λ f. package_of f.items) slice → lent ≡ ps → count ≡ length names
+    → 1 ≤ number → number ≤ count → (number ≡ 0) ⊎ (length lent < number) → ⊥
+package_there files number count names contents slice ps lent packed same read are all counted there none =
+    none_there (length lent) count number
+    (ap length are
+    ∙ as_many files (map (λ q. string_bytes q) names) ps
+    (packages_so files (map (λ q. string_bytes q) names) (map (λ f. f.items) contents) ps packed (read ∙ ap (map (λ f. package_of f.items)) same ∙ through contents))
+    ∙ map_length (λ q. string_bytes q) names ∙ sym all)
+    counted there none
 
 -- It isn't written whole.
 pub plan_breaks : (files : List ℕ → FileOf) (path : List ℕ) (number : ℕ) (form : Form) (text : List ℕ) (told : RunFault) (before now : OutputOf) → told ≡ faults.Output → Forecasts files path number form text

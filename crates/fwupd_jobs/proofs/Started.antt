@@ -15,11 +15,12 @@ use Rattle.fw_node.specs.Nodes.{DeviceNodeOf}
 use Rattle.fw_world.specs.Headline.{Leads, Run, may_step}
 use Rattle.fw_world.specs.Worlds.{SiteOf, WorldOf}
 use Rattle.fw_world.specs.declared.step.StepFault.{StepFault}
+use Rattle.mctp_wire.specs.declared.unit.Unit.{«Unit»}
 use Rattle.fw_world.specs.declared.step.Step.{Step}
 use Rattle.fw_world.specs.declared.step.Step.TheVariants as steps
 use Rattle.fw_edge.specs.declared.driving.EdgeFault.{EdgeFault}
 use Rattle.fw_edge.specs.declared.driving.EdgeFault.TheVariants as edges
-use Rattle.fwupd_jobs.specs.Running.{IsCaused, IsLost, IsRefusedStart, IsUnlinked, MayEnd, NamesLost, StepsLead, Updates, WatchOf, starts_of, told_by, told_of}
+use Rattle.fwupd_jobs.specs.Running.{AreLinked, IsCaused, IsLost, IsRefusedStart, IsUnlinked, MayEnd, NamesLost, StepsLead, StepsSeen, Updates, WatchOf, starts_of, told_by, told_of}
 use Rattle.fwupd_jobs.specs.declared.faults.RunFault.{RunFault}
 use Rattle.fwupd_jobs.specs.declared.faults.RunFault.TheVariants as told
 use Rattle.fwupd_jobs.specs.declared.running.WatchFault.{WatchFault}
@@ -134,6 +135,32 @@ updates_off number w v u ticks before after h k =
     (run_append w v u (starts_of number w.sites ++ h.steps) k.steps h.run k.run))
     (driven_append h.steps k.steps h.driven k.driven)
 
+-- what looks on saw each tick
+pub updates_seen : (number : ℕ) (w v : WorldOf) (ticks seen : ℕ) → Updates number w v ticks → seen ≡ ticks → StepsSeen number w v seen
+unfolding updates_reached led
+updates_seen number w v ticks seen h is =
+    let all : ticks_in (updates_reached number w v ticks h).steps ≡ ticks = h.ticks_are in
+    record { lead = updates_reached number w v ticks h; each = omega arith; few = omega arith }
+
+-- also of a turn that stopped, or was over before it began
+pub updates_seen_off : (number : ℕ) (w v u : WorldOf) (ticks seen : ℕ) (before after : List Step) → Updates number w v ticks → before ≡ [] → Drives v before u after → ticks_in after ≤ ticks_in before + 1
+    → seen ≡ ticks + 1 → StepsSeen number w u seen
+unfolding updates_off led
+updates_seen_off number w v u ticks seen before after h none k few is =
+    let a : ticks_in h.steps ≡ ticks = h.ticks_are in
+    let all : after ≡ k.steps = k.appended ∙ ap (λ ss. ss ++ k.steps) none in
+    let none_before : ticks_in before ≡ 0 = ap ticks_in none in
+    let same : ticks_in after ≡ ticks_in k.steps = ap ticks_in all in
+    let sum : ticks_in (updates_off number w v u ticks before after h k).steps ≡ ticks_in h.steps + ticks_in k.steps = sum_by-append tick_in h.steps k.steps in
+    record { lead = updates_off number w v u ticks before after h k; each = omega arith; few = omega arith }
+
+-- before all are started, none
+pub begun_seen : (number : ℕ) (w v : WorldOf) (place : ℕ) → Begun number w place v → StepsSeen number w v 0
+unfolding begun_reached
+begun_seen number w v place h =
+    let none : ticks_in (begun_reached number w v place h).steps ≡ 0 = refl in
+    record { lead = begun_reached number w v place h; each = omega arith; few = omega arith }
+
 -- what ends the watch is told otherwise than what ends a turn
 pub watched_apart : (f : WatchFault) (e : EdgeFault) → told_by f ≡ told.Edge e → ⊥
 watched_apart watches.Unwritten e h = cc
@@ -150,7 +177,7 @@ unwritten_by watches.Unwritten seen e is = is
 unwritten_by watches.Memory seen e is = absurd (let h : told.Memory ≡ told.Trace = e in cc)
 
 -- and its first fault stays
-pub first_still : (r : Result Unit WatchFault) (old new : Option WatchFault) (f : WatchFault) → old ≡ Some f → IfSome old (λ g. r ≡ Err g) → IfErr r (λ g. new ≡ Some g) → new ≡ Some f
+pub first_still : (r : Result (Prim.Unit {0}) WatchFault) (old new : Option WatchFault) (f : WatchFault) → old ≡ Some f → IfSome old (λ g. r ≡ Err g) → IfErr r (λ g. new ≡ Some g) → new ≡ Some f
 first_still r old new f e first after =
     let is : r ≡ Err f = subst (λ o. IfSome o (λ g. r ≡ Err g)) e first in
     subst (λ q. IfErr q (λ g. new ≡ Some g)) is after
@@ -170,6 +197,29 @@ unlinked_at w lacks place device n fault at is (inr h) =
     let own : device ≡ there.0.node.endpoint.eid = is ∙ ap (λ m. m.endpoint.eid) (sym there.2) in
     inr (record { place = place; site = there.0; at = there.1; is = h.0 ∙ ap (λ d. told.Socket d) own; lacking = subst (λ d. lacks d ≡ true) own h.1 })
 
+-- a link more, that of the device at its place
+linked_append : {L : Type 0} (is_to : «Unit» → ℕ → L → Bool) (xs : List SiteOf) (links : List L) (x : SiteOf) (link : L) → is_to x.node.half.unit x.node.endpoint.eid link ≡ true → AreLinked is_to xs links
+    → AreLinked is_to (xs ++ x ∷ []) (links ++ link ∷ [])
+linked_append is_to [] [] x link own h = (own, tt)
+linked_append is_to [] (l ∷ links) x link own h = absurd h
+linked_append is_to (y ∷ xs) [] x link own h = absurd h
+linked_append is_to (y ∷ xs) (l ∷ links) x link own h = (h.0, linked_append is_to xs links x link own h.1)
+
+pub linked_next : {L : Type 0} (is_to : «Unit» → ℕ → L → Bool) (sites : List SiteOf) (links longer : List L) (link : L) (place device : ℕ) (unit : «Unit») (n : DeviceNodeOf)
+    → option_map (λ x. x.node) (slice_get sites place) ≡ Some n → unit ≡ n.half.unit → device ≡ n.endpoint.eid → is_to unit device link ≡ true → longer ≡ links ++ link ∷ []
+    → AreLinked is_to (take place sites) links → AreLinked is_to (take (place + 1) sites) longer
+linked_next is_to sites links longer link place device unit n at is_unit is own all h =
+    let there = node_there (slice_get sites place) n at in
+    let its : is_to there.0.node.half.unit there.0.node.endpoint.eid link ≡ true =
+    subst (λ m. is_to m.half.unit m.endpoint.eid link ≡ true) (sym there.2) (subst (λ d. is_to n.half.unit d link ≡ true) is (subst (λ u. is_to u device link ≡ true) is_unit own)) in
+    let next : suc place ≡ place + 1 = omega arith in
+    subst (λ ls. AreLinked is_to (take (place + 1) sites) ls) (sym all)
+    (subst (λ k. AreLinked is_to (take k sites) (links ++ link ∷ [])) next
+    (subst (λ xs. AreLinked is_to xs (links ++ link ∷ [])) (sym (take_next sites place there.0 there.1)) (linked_append is_to (take place sites) links there.0 link its h)))
+
+pub linked_all : {L : Type 0} (is_to : «Unit» → ℕ → L → Bool) (sites : List SiteOf) (links : List L) (place : ℕ) → place ≡ length sites → AreLinked is_to (take place sites) links → AreLinked is_to sites links
+linked_all is_to sites links place all h = subst (λ xs. AreLinked is_to xs links) (ap (λ n. take n sites) all ∙ take-length sites) h
+
 -- as many counts as there are links, one a pair
 pub counted_alike : {A : Type 0} (sites : List SiteOf) (f : A → ℕ) (xs : List A) → length xs ≡ length sites → length (packet_counts sites) ≡ length (map f xs)
 counted_alike sites f xs e = map_length (λ x. length x.packets) sites ∙ sym e ∙ sym (map_length f xs)
@@ -180,13 +230,15 @@ some_failures (suc n) more = (n, refl)
 
 -- the device at the place of a link that has failed
 pub lost_at : {A : Type 0} (w : WorldOf) (failures : A → ℕ) (links : List A) (link : A) (place device count : ℕ) (n : DeviceNodeOf) → place < length links → link ≡ get_or links place link
-    → count ≡ failures link → 0 < count → option_map (λ x. x.node) (slice_get w.sites place) ≡ Some n → device ≡ n.endpoint.eid → IsLost w (map failures links) device
-lost_at w failures links link place device count n lt is told more at named =
+    → count ≡ failures link → 0 < count → option_map (λ x. x.node) (slice_get w.sites place) ≡ Some n → device ≡ n.endpoint.eid
+    → AllByRecursion (λ k. k ≡ 0) (take place (map failures links)) → IsLost w (map failures links) device
+lost_at w failures links link place device count n lt is told more at named none =
     let there = node_there (slice_get w.sites place) n at in
     let some = some_failures count more in
     record {
       place = place;
       count = some.0;
+      first = none;
       failed =
           slice_get-map failures links place ∙ ap (option_map failures) (slice_get-get_or links place link lt ∙ ap Some (sym is))
           ∙ ap Some (sym told ∙ some.1);
@@ -201,13 +253,16 @@ seen_next old new n few is (inl more) = omega (arith, is, more)
 seen_next old new n few is (inr last) = absurd (omega (arith, is, last.0))
 
 -- where no link has failed, none did just now
+rises_some : (o n : ℕ) → Rises o n → n ≡ 0 → ⊥
+rises_some o n (inl more) none = absurd (omega (arith, none, more))
+rises_some o n (inr last) none = absurd (let own = last.0 in let same = last.1 in omega (arith, none, own, same))
+
 pub none_failed : (os ns : List ℕ) → AllByRecursion (λ n. n ≡ 0) ns → OneFailed os ns → ⊥
 none_failed [] [] none h = h
 none_failed [] (n ∷ ns) none h = h
 none_failed (o ∷ os) [] none h = h
-none_failed (o ∷ os) (n ∷ ns) none (inl (inl more)) = let zero : n ≡ 0 = none.0 in absurd (omega (arith, zero, more))
-none_failed (o ∷ os) (n ∷ ns) none (inl (inr last)) = let zero : n ≡ 0 = none.0 in absurd (omega (arith, zero, last))
-none_failed (o ∷ os) (n ∷ ns) none (inr h) = none_failed os ns none.1 h
+none_failed (o ∷ os) (n ∷ ns) none (inl h) = rises_some o n h.0 none.0
+none_failed (o ∷ os) (n ∷ ns) none (inr h) = none_failed os ns none.1 h.1
 
 -- the device of a link that has failed
 pub names_lost : (w : WorldOf) (failures : List ℕ) (device : ℕ) (lost : Option ℕ) → IsLost w failures device → lost ≡ Some device → NamesLost w lost

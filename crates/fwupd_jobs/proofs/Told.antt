@@ -10,7 +10,7 @@ use Rattle.fw_world.specs.declared.step.StepFault.{StepFault}
 use Rattle.fwupd_jobs.specs.Replayed.{IsReplayed, IsReport, Leaves, ReplayEnds, Reports}
 use Rattle.fwupd_jobs.specs.Outputs.{FailsToPrint, OutputOf, Prints}
 use Rattle.fwupd_jobs.specs.Promises.{IsSafeSince}
-use Rattle.fwupd_jobs.specs.Running.{DrivingEnds, IsUnlinked, IsWatched, LacksLink, LacksTrace, NamesLost, ShowOf, StepsLead, UpdateEnds, WatchOf, shown_of, starts_of}
+use Rattle.fwupd_jobs.specs.Running.{DrivingEnds, IsUnlinked, IsWatched, LacksLink, LacksTrace, NamesLost, ShowOf, StepsLead, StepsSeen, UpdateEnds, WatchOf, shown_of, starts_of}
 use Rattle.fwupd_jobs.specs.Setups.{FileOf, IsSetup, LacksPackage, Says, SetupFails, TextFails}
 use Rattle.fw_edge.specs.declared.driving.EdgeFault.TheVariants as edges
 use Rattle.fwupd_jobs.specs.declared.faults.RunFault.{RunFault}
@@ -53,13 +53,13 @@ unopened files path number show refuses lacks w told watched begins (inr u) = in
 
 -- a run over links that doesn't end well
 pub update_ends : (files : List ℕ → FileOf) (path : List ℕ) (number : ℕ) (show : ShowOf) (refuses : List ℕ → Bool) (lacks : ℕ → Bool) (w v : WorldOf) (told : RunFault) (watched : WatchOf) (before now : OutputOf)
-    → IsWatched files path number show w → watched.shows ≡ shown_of show → StepsLead number w v → IsSafeSince w v → (told ≡ faults.Edge edges.Frame → NamesLost v watched.lost) → DrivingEnds number show.form lacks w v told watched before now
+    → IsWatched files path number show w → watched.shows ≡ shown_of show → StepsLead number w v → IsSafeSince w v → StepsSeen number w v watched.seen → (told ≡ faults.Edge edges.Frame → NamesLost v watched.lost) → DrivingEnds number show.form lacks w v told watched before now
     → UpdateEnds files path number show refuses lacks told watched before now
-update_ends files path number show refuses lacks w v told watched before now begins shown reached promised lost (inl h) =
-    inl (record { world = w; begins = begins; shown = shown; left = v; reached = reached; promised = promised; caused = h.0; lost = lost; written = h.1 })
-update_ends files path number show refuses lacks w v told watched before now begins shown reached promised lost (inr (inl h)) =
+update_ends files path number show refuses lacks w v told watched before now begins shown reached promised sees lost (inl h) =
+    inl (record { world = w; begins = begins; shown = shown; left = v; reached = reached; promised = promised; caused = h.0; sees = sees; lost = lost; written = h.1 })
+update_ends files path number show refuses lacks w v told watched before now begins shown reached promised sees lost (inr (inl h)) =
     inr (inl (record { is = h.0; world = w; begins = begins; left = v; reached = reached; promised = promised; begun = h.1 }))
-update_ends files path number show refuses lacks w v told watched before now begins shown reached promised lost (inr (inr h)) =
+update_ends files path number show refuses lacks w v told watched before now begins shown reached promised sees lost (inr (inr h)) =
     inr (inr (record { kept = h.1; cause = unopened files path number show refuses lacks w told watched begins h.0 }))
 
 -- a replay whose schedule isn't read

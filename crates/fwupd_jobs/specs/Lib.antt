@@ -12,3 +12,4 @@ pub mod Running
 pub mod Sessions
 pub mod Setups
 pub mod Traces
+pub mod Words

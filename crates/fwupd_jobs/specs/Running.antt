@@ -1,5 +1,5 @@
 -- What a run over links makes of a world, and what is written of it.
-use Rattle.std.specs.Prelude.{ℕ, suc, ◌≡◌, ◌≢◌, ◌≤◌, ◌-◌, ◌^◌, ◌++◌, ◌⊎◌, Bool, false, true, if◌then◌else◌, List, [], ◌∷◌, Option, None, Some, IfSome, is_some, length, map, option_map, slice_get, take}
+use Rattle.std.specs.Prelude.{ℕ, suc, ◌≡◌, ◌≢◌, ◌≤◌, ◌+◌, ◌-◌, ◌^◌, ◌++◌, ◌⊎◌, Bool, false, true, if◌then◌else◌, List, [], ◌∷◌, Option, None, Some, IfSome, is_some, length, map, option_map, slice_get, take}
 use Rattle.std.specs.List.{AllByRecursion}
 use Rattle.fw_edge.specs.Drives.{AreDriven, all_over, ticks_in}
 use Rattle.fw_edge.specs.Ledgers.{OneFailed}
@@ -9,6 +9,7 @@ use Rattle.fw_json.specs.Forms.{report_in}
 use Rattle.fw_json.specs.declared.forms.Form.{Form}
 use Rattle.fw_world.specs.Headline.{Run, may_step}
 use Rattle.fw_world.specs.Worlds.{SiteOf, WorldOf}
+use Rattle.mctp_wire.specs.declared.unit.Unit.{«Unit»}
 use Rattle.fw_world.specs.declared.step.StepFault.{StepFault}
 use Rattle.fw_world.specs.declared.step.Step.{Step}
 use Rattle.fw_world.specs.declared.step.Step.TheVariants as steps
@@ -53,11 +54,17 @@ pub record StepsLead (number : ℕ) (w v : WorldOf) : Type 0 where
   pub driven : AreDriven steps
   pub all : (steps ≡ []) ⊎ (started ≡ length w.sites)
 
+-- So they lead, and what looks on saw so many turns: each tick of the steps, and one turn more at most, whose tick wasn't taken.
+pub record StepsSeen (number : ℕ) (w v : WorldOf) (seen : ℕ) : Type 0 where
+  pub lead : StepsLead number w v
+  pub each : ticks_in lead.steps ≤ seen
+  pub few : seen ≤ ticks_in lead.steps + 1
+
 -- a run doesn't go on: what is told of the world that was reached. Want of memory is told alone.
 abbrev pub IsBroken : RunFault → Type 0
-IsBroken (faults.Edge edges.Frame) = Unit {0}
-IsBroken (faults.Edge edges.Step) = Unit {0}
-IsBroken faults.Trace = Unit {0}
+IsBroken (faults.Edge edges.Frame) = Prim.Unit {0}
+IsBroken (faults.Edge edges.Step) = Prim.Unit {0}
+IsBroken faults.Trace = Prim.Unit {0}
 IsBroken fault = ⊥
 
 -- how a run is told of that ends within a turn
@@ -142,6 +149,12 @@ pub record IsCaused (number : ℕ) (w v : WorldOf) (told : RunFault) (watched : 
   pub unwritten : told ≡ faults.Trace → watched.fault ≡ Some watches.Unwritten
   pub let_end : watched.has_ended ≡ true
 
+-- Each of these links is that of the device at its place, in a network with its transmission unit.
+abbrev pub AreLinked : {L : Type 0} → («Unit» → (device : ℕ) → L → Bool) → List SiteOf → List L → Type 0
+AreLinked is_to [] [] = Prim.Unit {0}
+AreLinked is_to (x ∷ xs) (link ∷ links) = (is_to x.node.half.unit x.node.endpoint.eid link ≡ true) × AreLinked is_to xs links
+AreLinked is_to xs links = ⊥
+
 -- No link to this device of a world is opened, and it may be lacking.
 pub record IsUnlinked (w : WorldOf) (lacks : ℕ → Bool) (told : RunFault) : Type 0 where
   pub place : ℕ
@@ -150,10 +163,11 @@ pub record IsUnlinked (w : WorldOf) (lacks : ℕ → Bool) (told : RunFault) : T
   pub is : told ≡ faults.Socket site.node.endpoint.eid
   pub lacking : lacks site.node.endpoint.eid ≡ true
 
--- The link at this device's place among those of a world has failed.
+-- The link at this device's place among those of a world has failed, the first of them.
 pub record IsLost (w : WorldOf) (failures : List ℕ) (device : ℕ) : Type 0 where
   pub place : ℕ
   pub count : ℕ
+  pub first : AllByRecursion (λ n. n ≡ 0) (take place failures)
   pub failed : slice_get failures place ≡ Some (suc count)
   pub site : SiteOf
   pub at : slice_get w.sites place ≡ Some site
@@ -210,6 +224,7 @@ pub record ReportsReached (files : List ℕ → FileOf) (config : List ℕ) (num
   pub reached : StepsLead number world left
   pub promised : IsSafeSince world left
   pub caused : IsCaused number world left told watched
+  pub sees : StepsSeen number world left watched.seen
   pub lost : told ≡ faults.Edge edges.Frame → NamesLost left watched.lost
   pub written : Prints before now (report_in show.form left)
 

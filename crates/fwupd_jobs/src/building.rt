@@ -159,7 +159,7 @@ fn lent_records<'a, 's: 'a>(
     let mut lent = Vec::new(alloc);
     for (place, said) in records.iter().enumerate() {
         let Some(own) = own_descriptors(descriptors, place) else {
-            return Err(RunFault::Memory);
+            unreachable!()
         };
         let Ok(()) = lent.push(lent_record(said, own)) else {
             return Err(RunFault::Memory);

@@ -1,7 +1,8 @@
 //! The command line: what the words ask for.
 
-ghost use Rattle.std.specs.Prelude.{◌≡◌, Some, codes, false, option_map, true};
-ghost use Rattle.clap.specs.Words.{first_value, found_of, one_text};
+ghost use Rattle.std.specs.Prelude.{◌≡◌, IfOk};
+ghost use Rattle.clap.specs.Words.{found_of};
+ghost use Rattle.fwupd_jobs.specs.Words.{Asks, AsksEndpoint, AsksForm, AsksNumber, AsksOrder, AsksShow, text_under};
 
 use clap::error::ErrorKind;
 use clap::{Arg, ArgAction, ArgMatches, Command, value_parser};
@@ -343,8 +344,13 @@ fn package_option<'a>(alloc: Global) -> Arg<'a> {
 }
 
 /// The number that the option says.
-fn package_number(matches: &ArgMatches<'_>) -> usize {
-    matches.get_one::<u32>("package").unwrap_or(1) as usize
+fn package_number(matches: &ArgMatches<'_>) -> usize
+    ensures { AsksNumber (found_of matches.now) result }
+{
+    match matches.get_one::<u32>("package") {
+        Some(number) => number as usize,
+        None => 1,
+    }
 }
 
 /// What stands below the help of `plan`.
@@ -418,14 +424,26 @@ fn command<'a>(alloc: Global) -> Result<Command<'a>, clap::Error> {
     Ok(command)
 }
 
-/// The job of `answer`: its endpoint.
-fn answer_job<'a>(alloc: Global, matches: &ArgMatches<'a>) -> Result<Job<'a>, clap::Error> {
+/// The text that the words give under a name, and none where they give nothing.
+fn text_under<'a>(matches: &ArgMatches<'a>, name: &str) -> &'a str
+    ensures { result.now ≡ text_under (found_of matches.now) name.now }
+{
+    match matches.get_str(name) {
+        Some(text) => text,
+        None => "",
+    }
+}
+
+/// The endpoint that the words of `answer` name.
+fn endpoint_in<'a>(alloc: Global, matches: &ArgMatches<'a>) -> Result<Endpoint, clap::Error>
+    ensures { IfOk result (AsksEndpoint (found_of matches.now)) }
+{
     let Some(eid) = matches.get_one::<u8>("EID") else {
         return Err(command(alloc)?.error(ErrorKind::MissingRequiredArgument, "EID is required")?);
     };
-    let text = matches.get_str("uuid").unwrap_or("");
+    let text = text_under(matches, "uuid");
     match Uuid::parse_str(text) {
-        Ok(uuid) => Ok(Job::Answer(Endpoint { eid, uuid })),
+        Ok(uuid) => Ok(Endpoint { eid, uuid }),
         Err(error) => {
             let message = format!(in alloc; "invalid value '{text}' for '--uuid <UUID>': {error}")?;
             Err(command(alloc)?.error(ErrorKind::ValueValidation, &message)?)
@@ -443,8 +461,7 @@ fn json_option<'a>(alloc: Global) -> Arg<'a> {
 
 /// The form that the words ask for.
 fn form_in(matches: &ArgMatches<'_>) -> Form
-    ensures json { one_text (found_of matches.now) (codes "json") ≡ Some (codes "true") → result ≡ Form.Json }
-    ensures text { one_text (found_of matches.now) (codes "json") ≡ Some (codes "false") → result ≡ Form.Text }
+    ensures { AsksForm (found_of matches.now) result }
 {
     if matches.get_flag("json") {
         Form::Json
@@ -455,14 +472,53 @@ fn form_in(matches: &ArgMatches<'_>) -> Form
 
 /// What the words of `run` ask to be shown.
 fn show_in<'a>(matches: &ArgMatches<'a>) -> Show<'a>
-    ensures quiet { one_text (found_of matches.now) (codes "quiet") ≡ Some (codes "true") → result.is_quiet ≡ true }
-    ensures loud { one_text (found_of matches.now) (codes "quiet") ≡ Some (codes "false") → result.is_quiet ≡ false }
-    ensures trace { option_map (λ path. path.now) result.trace ≡ first_value (found_of matches.now) (codes "trace") }
+    ensures { AsksShow (found_of matches.now) result }
 {
     Show {
         is_quiet: matches.get_flag("quiet"),
         trace: matches.get_str("trace"),
         form: form_in(matches),
+    }
+}
+
+/// What the words ask of a run.
+fn order_in(matches: &ArgMatches<'_>) -> Order
+    ensures { AsksOrder (found_of matches.now) result }
+{
+    Order {
+        number: package_number(matches),
+        is_checked: matches.get_flag("check"),
+    }
+}
+
+/// The job that the subcommand of this name asks for, with these words.
+fn job_of<'a>(alloc: Global, name: &str, matches: &ArgMatches<'a>) -> Result<Job<'a>, clap::Error>
+    ensures { IfOk result (Asks name.now (found_of matches.now)) }
+{
+    match name {
+        "answer" => match endpoint_in(alloc, matches) {
+            Ok(endpoint) => Ok(Job::Answer(endpoint)),
+            Err(error) => Err(error),
+        },
+        "inspect" => Ok(Job::Inspect(text_under(matches, "FILE"), form_in(matches))),
+        "replay" => Ok(Job::Replay(
+            text_under(matches, "CONFIG"),
+            text_under(matches, "SCHEDULE"),
+            form_in(matches),
+        )),
+        "plan" => Ok(Job::Plan(
+            text_under(matches, "CONFIG"),
+            package_number(matches),
+            form_in(matches),
+        )),
+        "run" => Ok(Job::Run(
+            text_under(matches, "CONFIG"),
+            text_under(matches, "FOLDER"),
+            order_in(matches),
+            show_in(matches),
+        )),
+        "build" => Ok(Job::Build(text_under(matches, "SPEC"), text_under(matches, "FILE"))),
+        _ => Err(command(alloc)?.error(ErrorKind::MissingSubcommand, "a subcommand is required")?),
     }
 }
 
@@ -473,34 +529,10 @@ fn show_in<'a>(matches: &ArgMatches<'a>) -> Show<'a>
 pub fn parse<'a>(alloc: Global, words: &'a [String]) -> Result<Job<'a>, clap::Error> {
     let matches = command(alloc)?.try_get_matches_from(words)?;
     match matches.subcommand() {
-        Some(("answer", matches)) => answer_job(alloc, matches),
-        Some(("inspect", matches)) => Ok(Job::Inspect(
-            matches.get_str("FILE").unwrap_or(""),
-            form_in(matches),
-        )),
-        Some(("replay", matches)) => Ok(Job::Replay(
-            matches.get_str("CONFIG").unwrap_or(""),
-            matches.get_str("SCHEDULE").unwrap_or(""),
-            form_in(matches),
-        )),
-        Some(("plan", matches)) => Ok(Job::Plan(
-            matches.get_str("CONFIG").unwrap_or(""),
-            package_number(matches),
-            form_in(matches),
-        )),
-        Some(("run", matches)) => Ok(Job::Run(
-            matches.get_str("CONFIG").unwrap_or(""),
-            matches.get_str("FOLDER").unwrap_or(""),
-            Order {
-                number: package_number(matches),
-                is_checked: matches.get_flag("check"),
-            },
-            show_in(matches),
-        )),
-        Some(("build", matches)) => Ok(Job::Build(
-            matches.get_str("SPEC").unwrap_or(""),
-            matches.get_str("FILE").unwrap_or(""),
-        )),
-        _ => Err(command(alloc)?.error(ErrorKind::MissingSubcommand, "a subcommand is required")?),
+        Some((name, matches)) => job_of(alloc, name, matches),
+        None => Err(command(alloc)?.error(
+            ErrorKind::MissingSubcommand,
+            "a subcommand is required",
+        )?),
     }
 }

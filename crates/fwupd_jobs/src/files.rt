@@ -1,6 +1,7 @@
 //! The files that a job reads.
 
-ghost use Rattle.std.specs.Prelude.{◌≡◌, ◌≢◌, ◌∷◌, IfErr, IfOk, List, false, map, string_bytes, true, ℕ};
+ghost use Rattle.std.specs.Io.KnownBytes.{IsAtEnd};
+ghost use Rattle.std.specs.Prelude.{◌≡◌, ◌≢◌, ◌∷◌, IfErr, IfOk, IfSome, List, OnOk, false, map, string_bytes, true, ℕ};
 ghost use Rattle.std.specs.List.{AllByRecursion};
 ghost use Rattle.fwupd_jobs.specs.Setups.{FileOf, IsApartFrom, IsOver, IsOverOne, MayBe, MayHold, any_file};
 
@@ -63,10 +64,26 @@ impl<'a> SystemFiles<'a> {
             Ok(found) => usize::try_from(found.len()).unwrap_or(0),
             Err(_) => 0,
         };
-        let mut bytes = Vec::new(alloc);
-        bytes.reserve(size.saturating_add(1))?;
-        file.read_to_end(&mut bytes)?;
-        Ok(bytes)
+        read_whole(alloc, &mut file, size)
+    }
+}
+
+/// All bytes that a reader gives up to its end, into room for so many at first.
+///
+/// # Errors
+/// Why the reader failed, which isn't that it was interrupted, or memory is refused.
+fn read_whole<R: Read>(alloc: Global, reader: &mut R, size: usize) -> io::Result<Vec<u8>>
+    ensures bytes { IfOk result (λ bytes. IfSome (R.remaining reader.old) (λ given. bytes.items ≡ given)) }
+    ensures end { OnOk result (IsAtEnd (R.remaining reader.new)) }
+{
+    let mut bytes = Vec::new(alloc);
+    match bytes.reserve(size.saturating_add(1)) {
+        Ok(()) => {}
+        Err(error) => return Err(io::Error::from(error)),
+    }
+    match reader.read_to_end(&mut bytes) {
+        Ok(_) => Ok(bytes),
+        Err(error) => Err(error),
     }
 }
 

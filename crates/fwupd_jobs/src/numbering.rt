@@ -1,6 +1,6 @@
 //! The numbers of packages, which count from 1.
 
-ghost use Rattle.std.specs.Prelude.{◌≡◌, ◌≤◌, ◌<◌, ◌⊎◌, IfSome, false, length, true};
+ghost use Rattle.std.specs.Prelude.{◌≡◌, ◌≤◌, ◌<◌, ◌⊎◌, IfNone, IfSome, false, length, true};
 ghost use Rattle.ua_core.specs.Lent.{package_at};
 
 use fw_package::Package;
@@ -17,6 +17,7 @@ pub fn is_numbered(count: usize, number: usize) -> bool
 pub fn numbered<'a>(packages: &'a [Package<'a>], number: usize) -> Option<&'a Package<'a>>
     ensures is { IfSome result (λ p. p.now ≡ package_at packages.now number) }
     ensures there { IfSome result (λ p. (1 ≤ number) × (number ≤ length packages.now)) }
+    ensures none { IfNone result ((number ≡ 0) ⊎ (length packages.now < number)) }
 {
     let Some(place) = number.checked_sub(1) else {
         return None;

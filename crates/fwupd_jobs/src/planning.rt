@@ -53,7 +53,7 @@ pub fn plan_file<F: Files, W: Write + Drop>(
         Err(fault) => return Err(fault),
     };
     let Some(contents) = numbered(packages.as_slice(), number) else {
-        return Err(RunFault::Memory);
+        unreachable!()
     };
     let Ok(text) = plan_in(alloc, number, contents, devices.as_slice(), form) else {
         return Err(RunFault::Memory);

@@ -3,7 +3,7 @@
 ghost use Rattle.std.specs.Prelude.{◌≡◌, ◌-◌, ◌^◌, ◌⊎◌, Bool, Err, IfErr, IfSome, List, None, OnOk, Some, length, map, true, ℕ};
 ghost use Rattle.fw_edge.specs.Ledgers.{AllSent, packet_counts};
 ghost use Rattle.fw_edge.specs.Links.{Rises};
-ghost use Rattle.fwupd_jobs.specs.Running.{AreToldOf, IsCaused, IsRefusedStart, IsUpdated, MayEnd, MayRefuse, Starts, StepsLead, Updates, show_of, shown_of, told_by, told_of};
+ghost use Rattle.fwupd_jobs.specs.Running.{AreToldOf, IsCaused, IsRefusedStart, IsUpdated, MayEnd, MayRefuse, Starts, StepsLead, StepsSeen, Updates, show_of, shown_of, told_by, told_of};
 
 use crate::command_line::Show;
 use crate::faults::{RunFault, edge_fault};
@@ -93,6 +93,7 @@ fn start_all(world: &mut World<'_, MemBank>, number: usize) -> Result<(), RunFau
     ensures started { OnOk result (Starts number world.old world.new) }
     ensures same { world.new.sites ≡ world.old.sites }
     ensures reached { StepsLead number world.old world.new }
+    ensures unseen_steps { StepsSeen number world.old world.new 0 }
     ensures fault { IfErr result MayEnd }
     ensures refused { IfErr result (λ e. e ≡ RunFault.Edge EdgeFault.Step → IsRefusedStart number world.old world.new) }
     ensures none { IfErr result (λ e. e ≡ RunFault.Edge EdgeFault.Frame → ⊥) }
@@ -100,7 +101,7 @@ fn start_all(world: &mut World<'_, MemBank>, number: usize) -> Result<(), RunFau
 {
     for place in 0..world.device_count() {
         let Some(node) = world.device_at(place) else {
-            return Err(RunFault::Memory);
+            unreachable!()
         };
         let start = Step::Start(node.eid(), number);
         match world.step(&start) {
@@ -148,6 +149,7 @@ pub fn update_all<L: Link, V: Watch>(
     ensures unwritten { IfErr result (λ e. e ≡ RunFault.Trace → (V.watched watch.new).fault ≡ Some WatchFault.Unwritten) }
     ensures same { (V.watched watch.new).shows ≡ (V.watched watch.old).shows }
     ensures turns { OnOk result ((V.watched watch.old).seen ≡ 0 → Updates number world.old world.new (V.watched watch.new).seen) }
+    ensures sees { (V.watched watch.old).seen ≡ 0 → StepsSeen number world.old world.new (V.watched watch.new).seen }
     ensures lost { (V.watched watch.new).lost ≡ (V.watched watch.old).lost }
 {
     match start_all(world, number) {
@@ -191,6 +193,7 @@ pub fn update_watched<L: Link, V: Watch>(
     ensures devices { length links.new ≡ length world.new.sites }
     ensures same { (V.watched watch.new).shows ≡ (V.watched watch.old).shows }
     ensures turns { OnOk result ((V.watched watch.old).seen ≡ 0 → Updates number world.old world.new (V.watched watch.new).seen) }
+    ensures sees { (V.watched watch.old).seen ≡ 0 → StepsSeen number world.old world.new (V.watched watch.new).seen }
     ensures lost { (V.watched watch.new).lost ≡ (V.watched watch.old).lost }
     ensures fault { IfErr result (λ e. (e ≡ RunFault.Memory) ⊎ IsCaused number world.old world.new e (V.watched watch.new)) }
     ensures kept { OnOk result (map (λ l. (L.tally l).failures) links.new ≡ map (λ l. (L.tally l).failures) links.old) }

@@ -145,7 +145,7 @@ pub fn packages_in<'p>(alloc: Global, contents: &'p [Vec<u8>]) -> Result<Vec<Pac
     let mut packages = Vec::new(alloc);
     for bytes in contents {
         let Ok(package) = Package::read(bytes) else {
-            return Err(RunFault::Memory);
+            unreachable!()
         };
         let Ok(()) = packages.push(package) else {
             return Err(RunFault::Memory);

@@ -1,6 +1,7 @@
 //! Links over Unix sockets.
 
-ghost use Rattle.std.specs.Prelude.{true};
+ghost use Rattle.std.specs.Prelude.{◌==◌, ◌≡◌, IfOk, true};
+ghost use Rattle.mctp_wire.specs.Units.{bytes_of};
 
 use crate::faults::RunFault;
 use crate::read_ahead::ReadAhead;
@@ -28,7 +29,9 @@ fn connected(
     unit: Unit,
     listener: &UnixListener,
     path: &str,
-) -> io::Result<SocketLink> {
+) -> io::Result<SocketLink>
+    ensures { IfOk result (λ link. link.unit ≡ unit) }
+{
     let device = UnixStream::connect(rt, path)?;
     let (agent, _) = listener.accept()?;
     let agent = ReadAhead::new(rt.alloc(), agent)?;
@@ -40,7 +43,9 @@ fn connected(
 ///
 /// # Errors
 /// The name is taken already, or the socket can't be made. Nothing is left of it then.
-fn socket_link(rt: &HostRuntime, unit: Unit, path: &str) -> io::Result<SocketLink> {
+fn socket_link(rt: &HostRuntime, unit: Unit, path: &str) -> io::Result<SocketLink>
+    ensures { IfOk result (λ link. link.unit ≡ unit) }
+{
     let listener = UnixListener::bind(rt, path)?;
     let link = connected(rt, unit, &listener, path);
     let _ = fs::remove_file(rt, path);
@@ -72,6 +77,8 @@ impl<'a> Sockets<'a> {
 
 impl<'a> Wires<SocketLink> for Sockets<'a> {
     ghost lacks = { λ s folder device. true };
+
+    ghost is_to = { λ unit folder device link. bytes_of link.unit == bytes_of unit };
 
     fn open(&mut self, unit: Unit, folder: &str, device: u8) -> Result<SocketLink, RunFault> {
         let Ok(path) = format!(in self.rt.alloc(); "{folder}/{device}.sock") else {

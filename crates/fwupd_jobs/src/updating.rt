@@ -5,7 +5,7 @@ ghost use Rattle.std.specs.List.{AllByRecursion};
 ghost use Rattle.fw_json.specs.Forms.{report_in};
 ghost use Rattle.fwupd_jobs.specs.Outputs.{FailsToPrint, Prints};
 ghost use Rattle.fwupd_jobs.specs.Sessions.{undone_in};
-ghost use Rattle.fwupd_jobs.specs.Running.{DrivingEnds, IsApart, IsBarred, IsCaused, IsLost, IsUnlinked, IsUpdated, NamesLost, ReportsUpdate, StepsLead, UpdateEnds, Updates, show_of, shown_of};
+ghost use Rattle.fwupd_jobs.specs.Running.{AreLinked, AreToldOf, DrivingEnds, IsApart, IsBarred, IsCaused, IsLost, IsUnlinked, IsUpdated, NamesLost, ReportsUpdate, StepsLead, StepsSeen, UpdateEnds, Updates, show_of, shown_of};
 
 use crate::command_line::Show;
 use crate::faults::RunFault;
@@ -25,15 +25,21 @@ use mctp_wire::Unit;
 use std::alloc::Global;
 use std::io::Write;
 
-/// Where links to devices are opened, in a folder. It is known before to which devices they may be lacking.
+/// Where links to devices are opened, in a folder. It is known before to which devices they may be lacking, and may be told of a link
+/// that it is one of a network with some transmission unit, in some folder, to some device.
 pub trait Wires<L> {
+    ghost use Rattle.mctp_wire.specs.declared.unit.Unit.{«Unit»};
+
     ghost lacks: { Self → List ℕ → ℕ → Bool };
+
+    ghost is_to: { «Unit» → List ℕ → ℕ → L → Bool } = { λ unit folder device link. true };
 
     /// Opens a link to a device in a folder, in a network with this transmission unit.
     ///
     /// # Errors
     /// `Socket` where it can't be made, and `Memory`.
     fn open(&mut self, unit: Unit, folder: &str, device: u8) -> Result<L, RunFault>
+        ensures to { IfOk result (λ link. is_to unit folder.now device link ≡ true) }
         ensures same { lacks self.new ≡ lacks self.old }
         ensures fault { IfErr result (λ e. (e ≡ RunFault.Memory) ⊎ ((e ≡ RunFault.Socket device) × (lacks self.old folder.now device ≡ true))) };
 }
@@ -46,12 +52,13 @@ fn open_all<L: Link + Drop, S: Wires<L>>(
     wires: &mut S,
 ) -> Result<Vec<L>, RunFault>
     ensures links { IfOk result (λ links. length links.items ≡ length world.now.sites) }
+    ensures each { IfOk result (λ links. AreLinked (λ unit. S.is_to unit folder.now) world.now.sites links.items) }
     ensures fault { IfErr result (λ e. (e ≡ RunFault.Memory) ⊎ IsUnlinked world.now (S.lacks wires.old folder.now) e) }
 {
     let mut links = Vec::new(alloc);
     for place in 0..world.device_count() {
         let Some(node) = world.device_at(place) else {
-            return Err(RunFault::Memory);
+            unreachable!()
         };
         let link = match wires.open(node.unit(), folder, node.eid()) {
             Ok(link) => link,
@@ -127,6 +134,7 @@ fn lost_device<L: Link>(world: &World<'_, MemBank>, links: &[L]) -> Option<u8>
 
 /// Tells what looks on of the first device whose link has failed, if one has.
 fn lose_failed<L: Link, V: Watch>(world: &World<'_, MemBank>, links: &[L], watch: &mut V)
+    ensures seen { (V.watched watch.new).seen ≡ (V.watched watch.old).seen }
     ensures lost { length links.now ≡ length world.now.sites → AllByRecursion (λ n. n ≡ 0) (map (λ l. (L.tally l).failures) links.now) ⊎ NamesLost world.now (V.watched watch.new).lost }
     ensures fault { (V.watched watch.new).fault ≡ (V.watched watch.old).fault }
     ensures same { (V.watched watch.new).shows ≡ (V.watched watch.old).shows }
@@ -159,6 +167,9 @@ fn update_told<L: Link, V: Watch>(
     ensures lost { IfErr result (λ e. e ≡ RunFault.Edge EdgeFault.Frame → NamesLost world.new (V.watched watch.new).lost) }
     ensures none_lost { OnOk result ((V.watched watch.new).lost ≡ (V.watched watch.old).lost) }
     ensures fault { IfErr result (λ e. (e ≡ RunFault.Memory) ⊎ IsCaused number world.old world.new e (V.watched watch.new)) }
+    ensures kept { OnOk result (map (λ l. (L.tally l).failures) links.new ≡ map (λ l. (L.tally l).failures) links.old) }
+    ensures failed { IfErr result (λ e. AreToldOf e (map (λ l. (L.tally l).failures) links.old) (map (λ l. (L.tally l).failures) links.new)) }
+    ensures sees { (V.watched watch.old).seen ≡ 0 → StepsSeen number world.old world.new (V.watched watch.new).seen }
 {
     match update_watched(alloc, world, number, links, watch) {
         Ok(()) => Ok(()),
@@ -192,6 +203,7 @@ fn update_over<L: Link + Drop, S: Wires<L>, V: Watch, W: Write + Drop>(
     ensures written { OnOk result (Prints output.old output.new (report_in form world.new)) }
     ensures undone { IfOk result (λ u. u ≡ undone_in world.new) }
     ensures reached { StepsLead number world.old world.new }
+    ensures sees { (V.watched watch.old).seen ≡ 0 → StepsSeen number world.old world.new (V.watched watch.new).seen }
     ensures fault { IfErr result (λ e. DrivingEnds number form (S.lacks wires.old folder.now) world.old world.new e (V.watched watch.new) output.old output.new) }
 {
     let mut links = match open_all(alloc, world, folder, wires) {

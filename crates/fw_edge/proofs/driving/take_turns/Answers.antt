@@ -31,7 +31,10 @@ returns-in-Err-clause-stopped g c = record {
     turned = c.loop-count.invariant.drove.turned;
     on = sym c.all_over.ensures ∙ c.if-all_over.false;
     stops = c.in-Err.ensures.stopped.stops;
+    last = c.in-Err.ensures.stopped.last;
   };
+  within = omega arith;
+  ticks = (let earlier = c.loop-count.invariant.ticks in let later = c.in-Err.ensures.stopped.few in omega arith);
 }
 
 pub loop-count-preserved : goal.loop-count-preserved

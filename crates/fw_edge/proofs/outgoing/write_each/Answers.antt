@@ -1,6 +1,15 @@
-use Rattle.std.proofs.Common.{◌∙◌, arith, rules, sym}
+use Rattle.std.proofs.Common.{◌∙◌, arith, refl, rules, sym}
+use Rattle.fw_edge.proofs.Stopping.{refuses_then}
 use Rattle.fw_edge.proofs.Taking.{took_all, took_more}
 use Rattle.fw_edge.proofs.outgoing.write_each.Goals as goal
+
+pub returns-in-Err-clause-refused : goal.returns-in-Err-clause-refused
+returns-in-Err-clause-refused g c = record {
+  is = refl;
+  taken = c.loop-place.place;
+  fewer = omega arith;
+  counts = refuses_then c.loop-place.place (g.L.Link.tally c.args.link.now) (g.L.Link.tally c.loop-place.link) (g.L.Link.tally c.send.new.self) c.loop-place.invariant.wrote.counts c.in-Err.ensures.err;
+}
 
 pub loop-place-preserved : goal.loop-place-preserved
 loop-place-preserved g c = record {

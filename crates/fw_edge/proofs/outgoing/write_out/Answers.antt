@@ -1,6 +1,6 @@
 use Rattle.std.proofs.Common.{◌≡◌, ◌∙◌, arith, length, map, refl, sym}
 use Rattle.fw_edge.specs.Ledgers.{packet_counts}
-use Rattle.fw_edge.proofs.Failing.{failed_from, same_from}
+use Rattle.fw_edge.proofs.Failing.{behind_next, same_from, stops_put}
 use Rattle.fw_edge.proofs.Gaining.{fell_length}
 use Rattle.fw_edge.proofs.Rising.{map_length}
 use Rattle.fw_edge.proofs.Sending.{count_at, sent_next, sent_none, written_all, written_next, written_within}
@@ -11,14 +11,15 @@ pub returns-in-Err-clause-refused : goal.returns-in-Err-clause-refused
 returns-in-Err-clause-refused g c = record {
   is = c.in-Err.ensures.refused.is;
   failed =
-      failed_from (λ k. (g.L.Link.tally k).failures) (map (λ k. (g.L.Link.tally k).failures) c.args.links.now) c.loop-place.links c.loop-place.place c.index-links-place.result c.write_at.new.link
-      c.loop-place.invariant.wrote.kept (omega arith) c.in-Err.ensures.refused.failed;
+      stops_put c.in-Err.fault (λ k. (g.L.Link.tally k).failures) c.loop-place.place c.loop-place.links c.args.links.now c.index-links-place.result c.write_at.new.link (omega arith) (omega arith)
+      c.loop-place.invariant.wrote.kept c.loop-place.invariant.behind (λ is. c.in-Err.ensures.refused.counts.failures, λ other. absurd (other c.in-Err.ensures.refused.is));
 }
 
 pub loop-place-init : goal.loop-place-init
 loop-place-init g c = record {
   took = (refl, refl);
   gave = refl;
+  behind = refl;
   wrote = record {
     kept = refl;
     asked = refl;
@@ -37,6 +38,7 @@ loop-place-preserved g c =
           took_next g.L.Link.taken c.loop-place.place c.args.world.now.sites c.args.written.now c.loop-place.written (map g.L.Link.taken c.args.links.now) c.loop-place.links c.sent_at.result c.index-links-place.result c.write_at.new.link
           (omega arith) (omega arith) (omega arith) c.loop-place.invariant.took c.in-Ok.ensures.took;
       gave = same_from g.L.Link.gave (map g.L.Link.gave c.args.links.now) c.loop-place.links c.loop-place.place c.index-links-place.result c.write_at.new.link c.loop-place.invariant.gave c.in-Ok.ensures.wrote.gave_none;
+      behind = behind_next c.loop-place.place c.loop-place.links c.args.links.now c.write_at.new.link (omega arith) (omega arith) c.loop-place.invariant.behind;
       wrote = record {
         kept = same_from (λ k. (g.L.Link.tally k).failures) (map (λ k. (g.L.Link.tally k).failures) c.args.links.now) c.loop-place.links c.loop-place.place c.index-links-place.result c.write_at.new.link c.loop-place.invariant.wrote.kept c.in-Ok.ensures.wrote.counts.failures;
         asked = same_from (λ k. (g.L.Link.tally k).asked) (map (λ k. (g.L.Link.tally k).asked) c.args.links.now) c.loop-place.links c.loop-place.place c.index-links-place.result c.write_at.new.link c.loop-place.invariant.wrote.asked c.in-Ok.ensures.wrote.counts.asked;

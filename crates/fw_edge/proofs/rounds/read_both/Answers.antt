@@ -1,17 +1,18 @@
 use Rattle.std.proofs.Common.{◌∙◌, ◌∷◌, ◌+◌, [], arith, refl, rules}
-use Rattle.fw_edge.proofs.Going.{goes_off, goes_sum}
+use Rattle.fw_edge.proofs.Going.{goes_sum}
 use Rattle.fw_message.specs.declared.side.Side.TheVariants as sides
+use Rattle.fw_edge.proofs.Stopping.{link_first, link_second}
 use Rattle.fw_edge.proofs.Turning.{came_on}
 use Rattle.fw_edge.proofs.rounds.read_both.Goals as goal
 
+pub returns-in-Err-clause-stopped : goal.returns-in-Err-clause-stopped
+returns-in-Err-clause-stopped g c =
+    link_first g.L.Link.tally c.in-Err.fault c.args.device c.args.world.now c.read_end.new.world c.args.steps.now.items c.read_end.new.steps.items c.args.link.now c.read_end.new.link c.in-Err.ensures.stopped
+
 pub returns-in-Err-read_end-clause-stopped : goal.returns-in-Err-read_end-clause-stopped
-returns-in-Err-read_end-clause-stopped g c = record {
-  drives =
-      goes_off c.args.world.now c.read_end.new.world c.read_end-2.new.world c.args.steps.now.items c.read_end.new.steps.items c.read_end-2.new.steps.items
-      0 c.in-Ok.frames.known c.in-Ok.ensures.read.goes c.in-Err-read_end.ensures.stopped.drives;
-  fault = c.in-Err-read_end.ensures.stopped.fault;
-  failed = rw c.in-Ok.ensures.read.reads.failures at c.in-Err-read_end.ensures.stopped.failed;
-}
+returns-in-Err-read_end-clause-stopped g c =
+    link_second g.L.Link.tally g.L.Link.taken g.L.Link.gave c.in-Err-read_end.fault c.args.device c.args.world.now c.read_end.new.world c.read_end-2.new.world c.args.steps.now.items c.read_end.new.steps.items
+    c.read_end-2.new.steps.items c.args.link.now c.read_end.new.link c.read_end-2.new.link c.in-Ok.frames.known c.in-Ok.frames.foreign c.in-Ok.ensures.read c.in-Err-read_end.ensures.stopped
 
 pub returns-clause-read : goal.returns-clause-read
 returns-clause-read g c = record {

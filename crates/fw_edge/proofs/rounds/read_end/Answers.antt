@@ -1,7 +1,18 @@
-use Rattle.std.proofs.Common.{◌+◌, arith, rules}
+use Rattle.std.proofs.Common.{◌+◌, arith, refl, rules}
 use Rattle.fw_edge.proofs.Going.{goes_none}
+use Rattle.fw_edge.proofs.Stopping.{link_failed, link_refused}
 use Rattle.fw_edge.proofs.Turning.{came_frame, came_nothing}
+use Rattle.fw_edge.specs.declared.driving.EdgeFault.TheVariants as faults
 use Rattle.fw_edge.proofs.rounds.read_end.Goals as goal
+
+pub returns-in-Err-clause-stopped : goal.returns-in-Err-clause-stopped
+returns-in-Err-clause-stopped g c =
+    link_failed g.L.Link.tally faults.Frame c.args.device c.args.end c.args.world.now c.args.steps.now.items c.args.link.now c.receive.new.self refl c.in-Err.ensures.err
+
+pub returns-in-Err-hand_over-clause-stopped : goal.returns-in-Err-hand_over-clause-stopped
+returns-in-Err-hand_over-clause-stopped g c =
+    link_refused g.L.Link.tally c.in-Err-hand_over.fault c.args.device c.args.end c.args.world.now c.hand_over.new.world c.args.steps.now.items c.hand_over.new.steps.items _ c.args.link.now c.receive.new.self
+    c.in-Err-hand_over.ensures.refused c.in-Ok.ensures.ok
 
 pub returns-in_default-clause-read : goal.returns-in_default-clause-read
 returns-in_default-clause-read g c = record {

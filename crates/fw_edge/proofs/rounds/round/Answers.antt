@@ -3,20 +3,19 @@ use Rattle.fw_world.specs.Worlds.{eids_of}
 use Rattle.fw_edge.specs.Links.{links_at}
 use Rattle.fw_edge.specs.Ledgers.{packet_counts}
 use Rattle.fw_edge.proofs.Gaining.{drives_gain, fell_length}
-use Rattle.fw_edge.proofs.Going.{goes_none}
-use Rattle.fw_edge.proofs.Parts.{exchanged_read, stopped_later, stopped_refused}
+use Rattle.fw_edge.proofs.Parts.{exchanged_read, stopped_reading, stopped_refused}
 use Rattle.fw_edge.proofs.Rising.{map_length}
 use Rattle.fw_edge.proofs.Turning.{came_with}
 use Rattle.fw_edge.proofs.rounds.round.Goals as goal
 
 pub returns-in-Err-clause-stopped : goal.returns-in-Err-clause-stopped
 returns-in-Err-clause-stopped g c =
-    stopped_refused g.L.Link.tally c.in-Err.fault c.args.world.now c.args.steps.now.items c.args.links.now c.write_out.new.links c.in-Err.ensures.refused
+    stopped_refused g.L.Link.tally g.L.Link.taken g.L.Link.gave c.in-Err.fault c.args.world.now c.args.steps.now.items c.args.written.now c.args.links.now c.write_out.new.links c.in-Err.ensures.refused
 
 pub returns-in-Err-read_round-clause-stopped : goal.returns-in-Err-read_round-clause-stopped
 returns-in-Err-read_round-clause-stopped g c =
-    stopped_later g.L.Link.tally c.in-Err-read_round.fault c.args.world.now c.args.world.now c.read_round.new.world c.args.steps.now.items c.args.steps.now.items c.read_round.new.steps.items
-    c.args.links.now c.write_out.new.links c.read_round.new.links 0 0 (goes_none c.args.world.now c.args.steps.now.items) c.in-Ok.ensures.wrote.kept c.in-Err-read_round.ensures.stopped
+    stopped_reading g.L.Link.tally g.L.Link.taken g.L.Link.gave c.in-Err-read_round.fault c.args.world.now c.read_round.new.world c.args.steps.now.items c.read_round.new.steps.items c.args.written.now
+    c.args.links.now c.write_out.new.links c.read_round.new.links c.in-Ok.ensures.wrote.kept c.in-Err-read_round.ensures.stopped
 
 pub returns-clause-within : goal.returns-clause-within
 returns-clause-within g c =

@@ -3,14 +3,28 @@ use Rattle.fw_edge.proofs.Going.{goes_none, goes_sum}
 use Rattle.fw_edge.proofs.Parts.{exchanged_less, exchanged_none, exchanged_on, stopped_later}
 use Rattle.fw_world.specs.Worlds.{eids_of}
 use Rattle.fw_edge.specs.Links.{links_at}
+use Rattle.fw_edge.specs.Turns.{RoundStops, RoundsStop}
+use Rattle.fw_edge.proofs.Stopping.{same_stops}
 use Rattle.fw_edge.proofs.Turning.{rounds_next, rounds_read, same_round}
 use Rattle.fw_edge.proofs.rounds.rounds.Goals.{then-count-eq0-via-then-count-eq0, then-count-eq0-via-else-count-eq0+then-count-ge-MAX_FRAMES}
 use Rattle.fw_edge.proofs.rounds.rounds.Goals as goal
 
 pub returns-in-Err-clause-stopped : goal.returns-in-Err-clause-stopped
 returns-in-Err-clause-stopped g c =
-    stopped_later g.L.Link.tally c.in-Err.fault c.args.world.now c.loop.world c.round.new.world c.args.steps.now.items c.loop.steps.items c.round.new.steps.items
-    c.args.links.now c.loop.links c.round.new.links 0 c.loop.frames.known c.loop.invariant.goes c.loop.invariant.counts.kept c.in-Err.ensures.stopped
+    stopped_later g.L.Link.tally g.L.Link.taken g.L.Link.gave (RoundStops (eids_of c.loop.world.sites)) (RoundsStop (eids_of c.args.world.now.sites)) c.in-Err.fault
+    c.args.world.now c.loop.world c.round.new.world c.args.steps.now.items c.loop.steps.items c.round.new.steps.items c.args.written.now c.loop.written
+    c.args.links.now c.loop.links c.round.new.links c.loop.frames.known c.loop.invariant.goes c.loop.invariant.counts.kept c.in-Err.ensures.stopped
+    (record {
+      rounds = c.loop.counter;
+      mid = c.loop.world;
+      steps = c.loop.steps.items;
+      links = links_at c.loop.written (map g.L.Link.taken c.loop.links) (map g.L.Link.gave c.loop.links);
+      read = c.loop.frames.known + c.loop.frames.foreign;
+      earlier = c.loop.invariant.on;
+      last =
+          same_stops c.args.world.now c.loop.world c.round.new.world c.args.steps.now.items c.loop.steps.items c.round.new.steps.items
+          (links_at c.loop.written (map g.L.Link.taken c.loop.links) (map g.L.Link.gave c.loop.links)) c.loop.invariant.goes.drives c.in-Err.ensures.stopped.stops_so;
+    })
 
 pub loop-init : goal.loop-init
 loop-init g c = record {

@@ -1,16 +1,13 @@
 use Rattle.std.proofs.Common.{◌∙◌, arith, refl}
-use Rattle.fw_edge.proofs.Dues.{due_all, due_next, due_none, verdicts_for_one}
-use Rattle.fw_edge.proofs.Going.{goes_none, goes_off, goes_on}
+use Rattle.fw_edge.proofs.Dues.{due_all, due_next, due_none, due_stops, verdicts_for_one}
+use Rattle.fw_edge.proofs.Going.{goes_none, goes_on}
 use Rattle.fw_edge.specs.Turns.{verdict_for}
 use Rattle.fw_edge.proofs.steps.judge_all.Goals as goal
 
 pub returns-in-Err-clause-stopped : goal.returns-in-Err-clause-stopped
-returns-in-Err-clause-stopped g c = record {
-  drives =
-      goes_off c.args.world.now c.loop-place.world c.judge.new.world c.args.steps.now.items c.loop-place.steps.items c.judge.new.steps.items 0 0
-      c.loop-place.invariant.quiet.goes c.in-Err.ensures.stopped.drives;
-  fault = c.in-Err.ensures.stopped.fault;
-}
+returns-in-Err-clause-stopped g c =
+    due_stops verdict_for c.loop-place.place c.in-Err.fault c.args.world.now c.loop-place.world c.judge.new.world c.args.steps.now.items c.loop-place.steps.items c.judge.new.steps.items
+    c.loop-place.invariant.due c.loop-place.invariant.quiet.goes c.in-Err.ensures.one c.in-Err.ensures.refused
 
 pub loop-place-init : goal.loop-place-init
 loop-place-init g c = record {

@@ -1,6 +1,6 @@
-use Rattle.std.proofs.Common.{map}
+use Rattle.std.proofs.Common.{map, rules}
 use Rattle.std.specs.Prelude.{string_bytes}
-use Rattle.fwupd_jobs.proofs.Foretold.{foretold, plan_breaks}
+use Rattle.fwupd_jobs.proofs.Foretold.{foretold, package_there, plan_breaks}
 use Rattle.fwupd_jobs.proofs.Packed.{packed_slice}
 use Rattle.fwupd_jobs.proofs.planning.plan_file.Goals as goal
 
@@ -29,3 +29,9 @@ returns-clause-fault g c =
     c.in-Ok.ensures.says c.as_slice.ensures.value c.in-Ok-package_files.ensures.packed c.as_slice-2.ensures.value c.in-Ok-packages_in.ensures.is c.as_slice-3.ensures.value
     c.in-Some.ensures.is c.in-Some.ensures.there.0 c.in-Some.ensures.there.1 c.as_slice-4.ensures.value c.in-Ok-plan_in.ensures)
     (rw c.deref.ensures.value at c.in-Err-write.ensures.failed)
+
+pub unreachable-requires : goal.unreachable-requires
+unreachable-requires g c =
+    package_there (g.F.Files.holds c.args.files.now) c.args.number c.len.result c.as_slice.result.now c.in-Ok-package_files.contents.items c.as_slice-2.result.now c.in-Ok-packages_in.packages.items
+    c.as_slice-3.result.now c.in-Ok-package_files.ensures.packed c.as_slice-2.ensures.value c.in-Ok-packages_in.ensures.is c.as_slice-3.ensures.value (search rules)
+    (search rules) (search rules) (rw c.in_default.is at c.numbered.ensures.none)

@@ -1,8 +1,8 @@
 use Rattle.std.proofs.Common.{◌∙◌, ◌+◌, arith, ap, inl, length, map, refl, subst, sym}
-use Rattle.fwupd_jobs.specs.Running.{Updates}
+use Rattle.fwupd_jobs.specs.Running.{StepsSeen, Updates}
 use Rattle.fw_edge.specs.Ledgers.{AllSent, packet_counts}
 use Rattle.fw_edge.proofs.Sending.{sent_none, sent_on}
-use Rattle.fwupd_jobs.proofs.Started.{counted_alike, seen_next, turned_apart, unwritten_by, updates_more, updates_none, updates_off, updates_reached, watched_apart}
+use Rattle.fwupd_jobs.proofs.Started.{counted_alike, seen_next, turned_apart, unwritten_by, updates_more, updates_none, updates_off, updates_reached, updates_seen, updates_seen_off, watched_apart}
 use Rattle.fw_edge.specs.declared.driving.EdgeFault.TheVariants as edges
 use Rattle.fwupd_jobs.proofs.running.update_all.Goals as goal
 
@@ -80,3 +80,31 @@ loop-preserved g c = record {
 
 pub returns-clause-reached : goal.returns-clause-reached
 returns-clause-reached g c = updates_reached c.args.number c.args.world.now c.loop.world c.loop.counter c.loop.invariant.updates
+
+pub returns-in-Err-drive-clause-sees : goal.returns-in-Err-drive-clause-sees
+returns-in-Err-drive-clause-sees g c none =
+    updates_seen_off c.args.number c.args.world.now c.loop.world c.drive.new.world c.loop.counter (g.V.Watch.watched c.broken_off.new.watch).seen c.loop.steps.items c.drive.new.steps.items c.loop.invariant.updates
+    c.loop.invariant.none c.drive.ensures.drives.drives (let few = c.in-Err-drive.ensures.stopped.ticks in let first = c.in-Err-drive.ensures.stopped.within in omega arith)
+    (seen_next (g.V.Watch.watched c.loop.watch).seen (g.V.Watch.watched c.broken_off.new.watch).seen c.loop.counter (omega arith) (c.loop.invariant.seen none) c.broken_off.ensures.seen)
+
+pub returns-then-driven-eq0-clause-sees : goal.returns-then-driven-eq0-clause-sees
+returns-then-driven-eq0-clause-sees g c none =
+    updates_seen c.args.number c.args.world.now c.drive.new.world c.loop.counter (g.V.Watch.watched c.loop.watch).seen
+    (subst (λ n. Updates c.args.number c.args.world.now c.drive.new.world n) (omega (arith, c.if-driven-eq0.true))
+    (updates_more c.args.number c.args.world.now c.loop.world c.drive.new.world c.loop.counter c.in-Ok-drive.driven.turns c.loop.steps.items c.drive.new.steps.items c.loop.invariant.updates
+    c.loop.invariant.none c.drive.ensures.drives.drives c.in-Ok-drive.ensures.done.ticks))
+    (c.loop.invariant.seen none)
+
+pub returns-in-Err-see-clause-sees : goal.returns-in-Err-see-clause-sees
+returns-in-Err-see-clause-sees g c none =
+    updates_seen c.args.number c.args.world.now c.drive.new.world (c.loop.counter + 1) (g.V.Watch.watched c.see.new.self).seen
+    (subst (λ n. Updates c.args.number c.args.world.now c.drive.new.world (c.loop.counter + n)) (omega (arith, c.in-Ok-drive.ensures.done.within, c.if-driven-eq0.false))
+    (updates_more c.args.number c.args.world.now c.loop.world c.drive.new.world c.loop.counter c.in-Ok-drive.driven.turns c.loop.steps.items c.drive.new.steps.items c.loop.invariant.updates
+    c.loop.invariant.none c.drive.ensures.drives.drives c.in-Ok-drive.ensures.done.ticks))
+    (seen_next (g.V.Watch.watched c.loop.watch).seen (g.V.Watch.watched c.see.new.self).seen c.loop.counter (omega arith) (c.loop.invariant.seen none) c.see.ensures.seen)
+
+pub returns-clause-sees : goal.returns-clause-sees
+returns-clause-sees g c none = updates_seen c.args.number c.args.world.now c.loop.world c.loop.counter (g.V.Watch.watched c.loop.watch).seen c.loop.invariant.updates (c.loop.invariant.seen none)
+
+pub returns-in-Err-clause-sees : goal.returns-in-Err-clause-sees
+returns-in-Err-clause-sees g c none = subst (StepsSeen c.args.number c.args.world.now c.start_all.new.world) (sym none) c.start_all.ensures.unseen_steps

@@ -1,4 +1,5 @@
-use Rattle.std.proofs.Common.{sym, ◌∙◌}
+use Rattle.std.proofs.Common.{subst, sym, ◌∙◌}
+use Rattle.fwupd_jobs.specs.Running.{StepsSeen}
 use Rattle.fw_edge.specs.declared.driving.EdgeFault.TheVariants as edges
 use Rattle.fwupd_jobs.specs.declared.running.WatchFault.TheVariants as watches
 use Rattle.fwupd_jobs.proofs.Started.{first_still, unwritten_by, update_caused, watched_apart}
@@ -13,3 +14,12 @@ pub returns-in-Err-watched-clause-fault : goal.returns-in-Err-watched-clause-fau
 returns-in-Err-watched-clause-fault g c =
     update_caused c.args.number _ _ _ _ c.watch_fault.ensures.ends (λ e. absurd (watched_apart c.in-Err-watched.fault edges.Step (sym c.watch_fault.ensures.told ∙ e)))
     (λ e. unwritten_by c.in-Err-watched.fault _ (sym c.watch_fault.ensures.told ∙ e) c.in-Err-watched.ensures.err) c.end-watched.ensures.ended
+
+pub returns-in-Err-clause-sees : goal.returns-in-Err-clause-sees
+returns-in-Err-clause-sees g c none = subst (StepsSeen c.args.number c.args.world.now c.update_all-end.new.world) (sym c.end-watched.ensures.seen) (c.update_all-end.ensures.sees none)
+
+pub returns-in-Err-watched-clause-sees : goal.returns-in-Err-watched-clause-sees
+returns-in-Err-watched-clause-sees g c none = subst (StepsSeen c.args.number c.args.world.now c.update_all-end.new.world) (sym c.end-watched.ensures.seen) (c.update_all-end.ensures.sees none)
+
+pub returns-in-Ok-watched-clause-sees : goal.returns-in-Ok-watched-clause-sees
+returns-in-Ok-watched-clause-sees g c none = subst (StepsSeen c.args.number c.args.world.now c.update_all-end.new.world) (sym c.end-watched.ensures.seen) (c.update_all-end.ensures.sees none)

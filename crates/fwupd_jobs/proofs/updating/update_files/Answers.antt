@@ -51,5 +51,6 @@ returns-clause-fault g c =
     (c.update_over.ensures.same ∙ c.in-Ok-begin_apart.ensures.shows)
     c.update_over.ensures.reached
     (safe_reached c.args.number c.in-Ok-opening_world.world c.update_over.new.world c.packets_are_safe.ensures.law c.in-Ok-opening_world.ensures.opens c.update_over.ensures.reached)
+    (c.update_over.ensures.sees c.in-Ok-begin_apart.ensures.anew.0)
     c.in-Err-update_over.ensures.lost
     c.in-Err-update_over.ensures.fault

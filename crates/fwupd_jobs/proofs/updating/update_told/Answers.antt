@@ -1,4 +1,5 @@
-use Rattle.std.proofs.Common.{inl, inr}
+use Rattle.std.proofs.Common.{inl, inr, subst, sym}
+use Rattle.fwupd_jobs.specs.Running.{StepsSeen}
 use Rattle.fwupd_jobs.proofs.Started.{caused_still, lost_told}
 use Rattle.fwupd_jobs.proofs.updating.update_told.Goals as goal
 
@@ -12,3 +13,7 @@ returns-in-Err-clause-fault g c = elim c.in-Err.ensures.fault [
   | inl e ↦ inl e
   | inr h ↦ inr (caused_still c.args.number c.args.world.now c.update_watched.new.world c.in-Err.fault (g.V.Watch.watched c.update_watched.new.watch) (g.V.Watch.watched c.lose_failed.new.watch) c.lose_failed.ensures.fault c.lose_failed.ensures.ended h)
 ]
+
+pub returns-in-Err-clause-sees : goal.returns-in-Err-clause-sees
+returns-in-Err-clause-sees g c none =
+    subst (StepsSeen c.args.number c.args.world.now c.update_watched.new.world) (sym c.lose_failed.ensures.seen) (c.update_watched.ensures.sees none)

@@ -1,0 +1,171 @@
+-- Parts of a turn that stop, and what was taken before.
+use Rattle.std.proofs.Common.{◌≡◌, ◌≢◌, ◌<◌, ◌+◌, ◌++◌, ◌-◌, ◌^◌, ◌∙◌, ℕ, zero, suc, Bool, List, [], ◌∷◌, Some, drop, inl, inr, length, map, slice_get, take, append_assoc, refl, sym, ap, subst, arith}
+use Rattle.std.proofs.lemmas.List.{map-append}
+use Rattle.fw_message.specs.declared.side.Side.{Side}
+use Rattle.fw_message.specs.declared.side.Side.TheVariants as sides
+use Rattle.fw_world.specs.Worlds.{WorldOf, eids_of}
+use Rattle.fw_world.specs.declared.step.Step.{Step}
+use Rattle.fw_edge.specs.Drives.{Drives, ticks_in}
+use Rattle.fw_edge.specs.Links.{Asks, EndsOf, Fails, LinksOf, Rises}
+use Rattle.fw_edge.specs.Ledgers.{Refuses, Writes}
+use Rattle.fw_edge.specs.Outcomes.{EndsRead, LinkStopped, StepRefused}
+use Rattle.fw_edge.specs.Turns.{Ask, AsksSome, Came, Hears, RoundStops, both_ends, eid_in, round_ends}
+use Rattle.fw_edge.specs.declared.driving.EdgeFault.{EdgeFault}
+use Rattle.fw_edge.specs.declared.driving.EdgeFault.TheVariants as faults
+use Rattle.fw_edge.specs.declared.tally.Tally.{Tally}
+use Rattle.fw_edge.proofs.Gaining.{as_many_sites}
+use Rattle.fw_edge.proofs.Going.{drives_none, drives_same, goes_off}
+use Rattle.fw_edge.proofs.Naming.{drives_eids, eid_there}
+use Rattle.fw_edge.proofs.Turning.{hears_append}
+
+-- a packet isn't taken behind so many
+pub refuses_then : (k : ℕ) (o m n : Tally) → Writes k o m → Fails m n → Refuses k o n
+refuses_then k o m n h f = record {
+  failures = subst (λ x. Rises x n.failures) h.failures f.failures;
+  sent_rise = λ lt. f.sent ∙ h.sent_rise (subst (λ x. x < 2 ^ 64 - 1) f.sent lt);
+  asked = f.asked ∙ h.asked;
+  given = f.given ∙ h.given;
+}
+
+-- no end was asked
+pub asks_none : (w : WorldOf) (ss : List Step) (device : ℕ) (side : Side) → AsksSome ((device, side) ∷ []) w ss w ss
+asks_none w ss device side = record { asks = []; failed = (device, side); rest = []; are = refl; hears = (refl, refl) }
+
+-- or some were, of more
+pub asks_wider : (ends more : List (ℕ × Side)) (w v : WorldOf) (before after : List Step) → AsksSome ends w before v after → AsksSome (ends ++ more) w before v after
+asks_wider ends more w v before after h = record {
+  asks = h.asks;
+  failed = h.failed;
+  rest = h.rest ++ more;
+  are = ap (λ xs. xs ++ more) h.are ∙ append_assoc (map (λ a. (a.device, a.side)) h.asks) (h.failed ∷ h.rest) more;
+  hears = h.hears;
+}
+
+-- behind others
+pub asks_on : (asks : List Ask) (ends more : List (ℕ × Side)) (w u v : WorldOf) (before mid after : List Step) → map (λ a. (a.device, a.side)) asks ≡ ends → Hears w before asks u mid
+    → AsksSome more u mid v after → AsksSome (ends ++ more) w before v after
+asks_on asks ends more w u v before mid after are hears k = record {
+  asks = asks ++ k.asks;
+  failed = k.failed;
+  rest = k.rest;
+  are =
+      ap (λ xs. ends ++ xs) k.are ∙ sym (append_assoc ends (map (λ a. (a.device, a.side)) k.asks) (k.failed ∷ k.rest))
+      ∙ ap (λ xs. xs ++ k.failed ∷ k.rest) (ap (λ xs. xs ++ map (λ a. (a.device, a.side)) k.asks) (sym are) ∙ sym (map-append (λ a. (a.device, a.side)) asks k.asks));
+  hears = hears_append w u v before mid after asks k.asks hears k.hears;
+}
+
+-- in a round
+round_split : (es : List ℕ) (i e : ℕ) → slice_get es i ≡ Some e → round_ends es ≡ (round_ends (take i es) ++ both_ends e) ++ round_ends (drop (suc i) es)
+round_split [] i e there = absurd (cc)
+round_split (x ∷ es) zero e there = let same : x ≡ e = cc in ap (λ n. both_ends n ++ round_ends es) same
+round_split (x ∷ es) (suc i) e there = ap (λ xs. both_ends x ++ xs) (round_split es i e there)
+
+pub asks_round : (asks : List Ask) (es : List ℕ) (i e : ℕ) (w u v : WorldOf) (before mid after : List Step) → slice_get es i ≡ Some e
+    → map (λ a. (a.device, a.side)) asks ≡ round_ends (take i es) → Hears w before asks u mid → AsksSome (both_ends e) u mid v after → AsksSome (round_ends es) w before v after
+asks_round asks es i e w u v before mid after there are hears k =
+    subst (λ xs. AsksSome xs w before v after) (sym (round_split es i e there))
+    (asks_wider (round_ends (take i es) ++ both_ends e) (round_ends (drop (suc i) es)) w v before after (asks_on asks (round_ends (take i es)) (both_ends e) w u v before mid after are hears k))
+
+pub asks_at : (i n device : ℕ) (w u v : WorldOf) (before mid after : List Step) (old new : LinksOf) → Drives w before u mid → i < length w.sites → device ≡ eid_in (slice_get u.sites i)
+    → Came i (eids_of w.sites) w before old u mid new n → AsksSome (both_ends device) u mid v after → AsksSome (round_ends (eids_of w.sites)) w before v after
+asks_at i n device w u v before mid after old new d lt is h k =
+    asks_round h.asks (eids_of w.sites) i device w u v before mid after
+    (ap (λ es. slice_get es i) (sym (drives_eids w before u mid d)) ∙ eid_there u.sites i (let same = as_many_sites w before u mid d in omega arith) ∙ ap Some (sym is)) h.ends_are h.hears k
+
+-- the fault isn't the clock's
+frame_is_no_step : (e : EdgeFault) → e ≡ faults.Frame → e ≢ faults.Step
+frame_is_no_step e is other = absurd (cc)
+
+memory_is_no_step : (e : EdgeFault) → e ≡ faults.Memory → e ≢ faults.Step
+memory_is_no_step e is other = absurd (cc)
+
+memory_is_no_frame : {A : Type 0} (e : EdgeFault) → e ≡ faults.Memory → e ≡ faults.Frame → A
+memory_is_no_frame e is other = absurd (cc)
+
+-- an end gives no answer
+pub link_failed : {A : Type 0} (t : A → Tally) (e : EdgeFault) (device : ℕ) (side : Side) (w : WorldOf) (ss : List Step) (old new : A) → e ≡ faults.Frame → Fails (t old) (t new)
+    → LinkStopped t e ((device, side) ∷ []) w ss old w ss new
+link_failed t e device side w ss old new is f = record {
+  drives = drives_none w ss;
+  no_tick = refl;
+  fault = frame_is_no_step e is;
+  failed = (λ same. f.failures, λ other. absurd (other is));
+  some = asks_none w ss device side;
+  sent = f.sent;
+  answered = 0;
+  fewer = λ same. omega arith;
+  few = omega arith;
+  asked_rise = λ lt. f.asked ∙ more (t old).asked;
+}
+  where
+    more : (k : ℕ) → k ≡ k + 0
+    more k = omega arith
+
+-- a count that rises
+rises_by : (o n : ℕ) → Rises o n → n < 2 ^ 64 - 1 → n ≡ o + 1
+rises_by o n (inl e) lt = e
+rises_by o n (inr h) lt = absurd (let a = h.0 in let b = h.1 in omega arith)
+
+-- or a frame that isn't handed over
+pub link_refused : {A : Type 0} (t : A → Tally) (e : EdgeFault) (device : ℕ) (side : Side) (w v : WorldOf) (before after : List Step) (gave : Bool) (old new : A) → StepRefused e w before v after
+    → Asks gave (t old) (t new) → LinkStopped t e ((device, side) ∷ []) w before old v after new
+link_refused t e device side w v before after gave old new r a = record {
+  drives = drives_same w w v before before after (drives_none w before) r.same r.unlisted;
+  no_tick = ap ticks_in r.unlisted;
+  fault = memory_is_no_step e r.fault;
+  failed = (λ is. memory_is_no_frame e r.fault is, λ other. a.failures);
+  some = record { asks = []; failed = (device, side); rest = []; are = refl; hears = (r.same, r.unlisted) };
+  sent = a.sent;
+  answered = 1;
+  fewer = λ is. memory_is_no_frame e r.fault is;
+  few = omega arith;
+  asked_rise = λ lt. rises_by (t old).asked (t new).asked a.asked lt;
+}
+
+-- the first of both ends
+pub link_first : {A : Type 0} (t : A → Tally) (e : EdgeFault) (device : ℕ) (w v : WorldOf) (before after : List Step) (old new : A) → LinkStopped t e ((device, sides.Device) ∷ []) w before old v after new
+    → LinkStopped t e (both_ends device) w before old v after new
+link_first t e device w v before after old new h = record {
+  drives = h.drives;
+  no_tick = h.no_tick;
+  fault = h.fault;
+  failed = h.failed;
+  some = asks_wider ((device, sides.Device) ∷ []) ((device, sides.Agent) ∷ []) w v before after h.some;
+  sent = h.sent;
+  answered = h.answered;
+  fewer = λ is. (let less = h.fewer is in omega arith);
+  few = let less = h.few in omega arith;
+  asked_rise = h.asked_rise;
+}
+
+-- and the second
+pub link_second : {A : Type 0} (t : A → Tally) (taken gave : A → EndsOf) (e : EdgeFault) (device : ℕ) (w u v : WorldOf) (before mid after : List Step) (old between new : A) (known foreign : ℕ)
+    → EndsRead t taken gave ((device, sides.Device) ∷ []) 1 w before old u mid between known foreign → LinkStopped t e ((device, sides.Agent) ∷ []) u mid between v after new
+    → LinkStopped t e (both_ends device) w before old v after new
+link_second t taken gave e device w u v before mid after old between new known foreign h k = record {
+  drives = goes_off w u v before mid after 0 known h.goes k.drives;
+  no_tick = (let first = h.goes.ticks_rise in let second = k.no_tick in omega arith);
+  fault = k.fault;
+  failed = rw h.reads.failures at k.failed;
+  some = asks_on h.came.asks ((device, sides.Device) ∷ []) ((device, sides.Agent) ∷ []) w u v before mid after h.came.ends_are h.came.hears k.some;
+  sent = k.sent ∙ h.reads.sent;
+  answered = 1 + k.answered;
+  fewer = λ is. (let less = k.fewer is in omega arith);
+  few = let less = k.few in omega arith;
+  asked_rise = both;
+}
+  where
+    sum : (a b c n : ℕ) → n ≡ b + c → b ≡ a + 1 → n ≡ a + (1 + c)
+    sum a b c n f g = omega arith
+
+    below : (b c n : ℕ) → n ≡ b + c → n < 2 ^ 64 - 1 → b < 2 ^ 64 - 1
+    below b c n f lt = omega arith
+
+    both : (t new).asked < 2 ^ 64 - 1 → (t new).asked ≡ (t old).asked + (1 + k.answered)
+    both lt =
+        let last : (t new).asked ≡ (t between).asked + k.answered = k.asked_rise lt in
+        sum (t old).asked (t between).asked k.answered (t new).asked last (h.reads.asked_rise (below (t between).asked k.answered (t new).asked last lt))
+
+-- the devices of a round that stops are those of the first
+pub same_stops : (w u v : WorldOf) (before mid after : List Step) (old : LinksOf) → Drives w before u mid → RoundStops (eids_of u.sites) u mid old v after → RoundStops (eids_of w.sites) u mid old v after
+same_stops w u v before mid after old d h = subst (λ es. RoundStops es u mid old v after) (drives_eids w before u mid d) h

@@ -1,0 +1,8 @@
+use Rattle.std.proofs.Common.{subst, sym}
+use Rattle.fwupd_jobs.specs.Running.{StepsSeen}
+use Rattle.fwupd_jobs.proofs.Started.{begun_none, begun_seen}
+use Rattle.fwupd_jobs.proofs.updating.update_over.Goals as goal
+
+pub returns-in-Err-clause-sees : goal.returns-in-Err-clause-sees
+returns-in-Err-clause-sees g c none =
+    subst (StepsSeen c.args.number c.args.world.now c.args.world.now) (sym none) (begun_seen c.args.number c.args.world.now c.args.world.now 0 (begun_none c.args.number c.args.world.now))

@@ -1,0 +1,67 @@
+-- What the words of a command line ask for, by the texts that stand under their names.
+use Rattle.std.specs.Prelude.{ℕ, ◌≡◌, ◌<◌, ◌^◌, Bool, true, false, List, [], Option, None, Some, codes, option_map}
+use Rattle.std.specs.Str.Parse.{IsNumeral, digits_value, without_leading_plus}
+use Rattle.clap.specs.Words.{first_value, one_text}
+use Rattle.clap.specs.declared.parser.matches.Found.{Found}
+use Rattle.fw_json.specs.declared.forms.Form.{Form}
+use Rattle.fw_json.specs.declared.forms.Form.TheVariants as forms
+use Rattle.mctp_ctl.specs.declared.answers.Endpoint.{Endpoint}
+use Rattle.uuid.specs.Text.{parsed}
+use Rattle.fwupd_jobs.specs.declared.command_line.Job.{Job}
+use Rattle.fwupd_jobs.specs.declared.command_line.Job.TheVariants as jobs
+use Rattle.fwupd_jobs.specs.declared.command_line.Order.{Order}
+use Rattle.fwupd_jobs.specs.declared.command_line.Show.{Show}
+
+-- the text under a name, and none where nothing stands there
+abbrev text_or_none : Option (List ℕ) → List ℕ
+text_or_none None = []
+text_or_none (Some text) = text
+
+abbrev pub text_under : Found → (name : List ℕ) → List ℕ
+text_under words name = text_or_none (first_value words name)
+
+-- the number that a text spells
+abbrev pub number_of : List ℕ → ℕ
+number_of text = digits_value 10 (without_leading_plus text)
+
+-- A flag is set, or it isn't.
+pub record AsksFlag (words : Found) (name : List ℕ) (flag : Bool) : Type 0 where
+  pub set : one_text words name ≡ Some (codes "true") → flag ≡ true
+  pub unset : one_text words name ≡ Some (codes "false") → flag ≡ false
+
+-- The form is JSON where that flag is set, and else the text.
+pub record AsksForm (words : Found) (form : Form) : Type 0 where
+  pub json : one_text words (codes "json") ≡ Some (codes "true") → form ≡ forms.Json
+  pub text : one_text words (codes "json") ≡ Some (codes "false") → form ≡ forms.Text
+
+-- The number of a package, where it is one of 32 bits.
+pub record AsksNumber (words : Found) (number : ℕ) : Type 0 where
+  pub is : (text : List ℕ) → one_text words (codes "package") ≡ Some text → IsNumeral 10 (without_leading_plus text) → number_of text < 2 ^ 32 → number ≡ number_of text
+
+-- What is shown of a run.
+pub record AsksShow (words : Found) (show : Show) : Type 0 where
+  pub quiet : AsksFlag words (codes "quiet") show.is_quiet
+  pub trace : option_map (λ path. path.now) show.trace ≡ first_value words (codes "trace")
+  pub form : AsksForm words show.form
+
+-- The endpoint that answers.
+pub record AsksEndpoint (words : Found) (endpoint : Endpoint) : Type 0 where
+  pub eid : (text : List ℕ) → one_text words (codes "EID") ≡ Some text → endpoint.eid ≡ number_of text
+  pub uuid : Some endpoint.uuid ≡ parsed (text_under words (codes "uuid"))
+
+-- What is asked of a run.
+pub record AsksOrder (words : Found) (order : Order) : Type 0 where
+  pub number : AsksNumber words order.number
+  pub check : AsksFlag words (codes "check") order.is_checked
+
+-- The subcommand of a name, with these words, asks for a job.
+abbrev pub Asks : (name : List ℕ) → Found → Job → Type 0
+Asks name words (jobs.Answer endpoint) = (name ≡ codes "answer") × AsksEndpoint words endpoint
+Asks name words (jobs.Inspect path form) = (name ≡ codes "inspect") × (path.now ≡ text_under words (codes "FILE")) × AsksForm words form
+Asks name words (jobs.Replay config schedule form) =
+    (name ≡ codes "replay") × (config.now ≡ text_under words (codes "CONFIG")) × (schedule.now ≡ text_under words (codes "SCHEDULE")) × AsksForm words form
+Asks name words (jobs.Run config folder order show) =
+    (name ≡ codes "run") × (config.now ≡ text_under words (codes "CONFIG")) × (folder.now ≡ text_under words (codes "FOLDER")) × AsksOrder words order × AsksShow words show
+Asks name words (jobs.Build spec file) = (name ≡ codes "build") × (spec.now ≡ text_under words (codes "SPEC")) × (file.now ≡ text_under words (codes "FILE"))
+Asks name words (jobs.Plan config number form) =
+    (name ≡ codes "plan") × (config.now ≡ text_under words (codes "CONFIG")) × AsksNumber words number × AsksForm words form
