@@ -21,9 +21,9 @@ pair_at (Some x) n ps written device at has is =
     ap (λ d. trace_text d (drop written x.packets)) (ap (λ m. m.endpoint.eid) node ∙ sym is) ∙ ap (λ qs. trace_text device (drop written qs)) packets
 
 -- one line more
-pub lines_more : (device place : ℕ) (ps : List Sent) (p : Sent) (before text after all : List ℕ) → slice_get ps place ≡ Some p → before ++ trace_text device (drop place ps) ≡ all
+pub lines_more : (device place : ℕ) (ps : List Sent) (p : Sent) (before after all : List ℕ) → slice_get ps place ≡ Some p → before ++ trace_text device (drop place ps) ≡ all
     → after ≡ before ++ trace_line device p → after ++ trace_text device (drop (place + 1) ps) ≡ all
-lines_more device place ps p before text after all at h is =
+lines_more device place ps p before after all at h is =
     let next : place + 1 ≡ suc place = omega arith in
     rw (is, next) (append_assoc before (trace_line device p) (trace_text device (drop (suc place) ps)) ∙ ap (λ it. before ++ it) (sym (first ps place at)) ∙ h)
   where

@@ -1,9 +1,7 @@
 //! A byte stream that is read ahead.
 
-ghost use Rattle.std.specs.Prelude.{◌≡◌, IfErr, IfOk};
-ghost use Rattle.std.specs.Io.Buffered.{reader_inner, reader_remaining};
-ghost use Rattle.std.specs.IoError.{error_kind};
-ghost use Rattle.std.specs.declared.io.error.ErrorKind.{ErrorKind};
+ghost use Rattle.std.specs.Prelude.{◌≡◌, [], IfOk};
+ghost use Rattle.std.specs.Io.Buffered.{reader_buffer, reader_inner, reader_remaining};
 
 use std::alloc::Global;
 use std::io::{self, BufReader, Read, Write};
@@ -22,7 +20,7 @@ impl<S: Read + Write + Drop> ReadAhead<S> {
     /// `OutOfMemory` where room for what is read ahead is refused.
     pub fn new(alloc: Global, stream: S) -> io::Result<ReadAhead<S>>
         ensures stream { IfOk result (λ s. reader_inner s.reader ≡ stream) }
-        ensures fault { IfErr result (λ e. error_kind e ≡ ErrorKind.OutOfMemory) }
+        ensures none { IfOk result (λ s. reader_buffer s.reader ≡ []) }
     {
         let reader = BufReader::new(alloc, stream)?;
         Ok(ReadAhead { reader })
