@@ -74,7 +74,7 @@ fn asks_for_last(world: &Small<'_>, number: usize, date: u32) -> bool {
     let Some(packet) = packet_at(world, number) else {
         return false;
     };
-    packet.date == date && packet.bytes.as_slice().get(COMMAND..) == Some(ASKED)
+    packet.date == date && packet.bytes.get(COMMAND..) == Some(ASKED)
 }
 
 /// Whether the device waits in DOWNLOAD for those bytes.

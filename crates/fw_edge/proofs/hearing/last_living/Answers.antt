@@ -1,4 +1,4 @@
-use Rattle.std.proofs.Common.{◌∙◌, arith, length, refl}
+use Rattle.std.proofs.Common.{arith}
 use Rattle.fw_edge.proofs.Latest.{last_lives, none_behind_all, none_behind_less, none_lives}
 use Rattle.fw_edge.proofs.hearing.last_living.Goals as goal
 

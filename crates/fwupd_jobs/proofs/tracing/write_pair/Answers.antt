@@ -1,4 +1,4 @@
-use Rattle.std.proofs.Common.{rules, sym}
+use Rattle.std.proofs.Common.{sym}
 use Rattle.std.specs.Prelude.{slice_get}
 use Rattle.fwupd_jobs.proofs.Traced.{pair_done, pair_written}
 use Rattle.fwupd_jobs.proofs.tracing.write_pair.Goals as goal
