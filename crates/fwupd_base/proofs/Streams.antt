@@ -1,10 +1,11 @@
 -- Lemmas on lines, and on what is answered of a text so far.
-use Rattle.std.proofs.Common.{IsOk, is_ok, if◌then◌else◌, ◌-◌, min, get_or, OnErr, IfErr, zero, suc, ◌≡◌, ◌≢◌, ◌<◌, ◌≤◌, ◌+◌, ◌∙◌, ℕ, List, [], ◌∷◌, ◌++◌, length, refl, sym, ap, subst, take, drop, append_assoc, append-nil, length-append, arith, OnOk, Result, Ok, Err, Option}
-use Rattle.std.proofs.lemmas.Bool.{ne_eqb}
+use Rattle.std.proofs.Common.{IsOk, is_ok, if◌then◌else◌, ◌-◌, min, get_or, OnErr, IfErr, zero, suc, ◌≡◌, ◌≢◌, ◌<◌, ◌≤◌, ◌+◌, ◌∙◌, ℕ, List, [], ◌∷◌, ◌++◌, length, refl, sym, ap, subst, take, drop, append_assoc, append-nil, length-append, arith, OnOk, Result, Ok, Err, Option, Some, None}
+use Rattle.std.proofs.lemmas.Bool.{eqb-true, ne_eqb}
 use Rattle.std.proofs.lemmas.List.{take_more, drop_more, take_all, take-append-drop, length-drop, length-take-le}
 use Rattle.std.proofs.Math.Seq.{take-add}
 use Rattle.std.specs.Io.KnownBytes.{Appends, Consumes, IsAtEnd, Keeps}
 use Rattle.std.proofs.KnownBytes.{Consumes-nil, Consumes-trans, Consumes-kept, Appends-nil, Appends-trans, Appends-kept}
+use Rattle.memchr.specs.Find.{IsFirstByte, Nowhere, Passes, is_byte}
 use Rattle.mctp_ctl.specs.declared.answers.Endpoint.{Endpoint}
 use Rattle.fwupd_base.specs.Answers.{printed, tid_left_by, lines_text, tid_along, answers_of}
 use Rattle.fwupd_base.specs.Lines.{lines_of, ended, AreLines, IsOneLine}
@@ -12,9 +13,16 @@ use Rattle.fwupd_base.specs.Stream.{Answered, Begins, Broken, BrokenOff, IsEnded
 use Rattle.fwupd_base.specs.declared.stream.AnswerFault.{AnswerFault}
 use Rattle.fwupd_base.specs.declared.stream.AnswerFault.TheVariants.{Read, Write}
 
-pub IsOneLine-push : (xs : List ℕ) (b : ℕ) → IsOneLine xs → b ≢ 10 → IsOneLine (xs ++ b ∷ [])
-IsOneLine-push [] b h n = (n, tt)
-IsOneLine-push (x ∷ xs) b h n = (h.0, IsOneLine-push xs b h.1 n)
+IsOneLine-append : (xs ys : List ℕ) → IsOneLine xs → IsOneLine ys → IsOneLine (xs ++ ys)
+IsOneLine-append [] ys h n = n
+IsOneLine-append (x ∷ xs) ys h n = (h.0, IsOneLine-append xs ys h.1 n)
+
+-- before the first line feed there is none
+pub IsOneLine-before : (xs : List ℕ) (n : ℕ) → Nowhere (Passes (is_byte 10) xs) 0 n → IsOneLine (take n xs)
+IsOneLine-before xs zero none = tt
+IsOneLine-before [] (suc n) none = tt
+IsOneLine-before (x ∷ xs) (suc n) none =
+    (λ is. none 0 (omega arith) (omega arith) (rw is refl), IsOneLine-before xs n (λ k low high found. none (suc k) (omega arith) (omega arith) found))
 
 AreLines-push : (ls : List (List ℕ)) (l : List ℕ) → AreLines ls → IsOneLine l → AreLines (ls ++ l ∷ [])
 AreLines-push [] l h n = (n, tt)
@@ -64,14 +72,14 @@ answers_of-part e ls (b ∷ part) h one more =
 pub stands_start : (e : Endpoint) (w : Option (List ℕ)) → Stands e 0 [] w w []
 stands_start e w = record { lines = []; each = tt; one = tt; is = refl; written = Appends-nil w; terminus = refl }
 
--- a byte of a line
-pub stands_byte : (e : Endpoint) (tid : ℕ) (text : List ℕ) (a w : Option (List ℕ)) (part : List ℕ) (b : ℕ) → Stands e tid text a w part → b ≢ 10
-    → Stands e tid (text ++ b ∷ []) a w (part ++ b ∷ [])
-stands_byte e tid text a w part b h n = record {
+-- more of a line
+pub stands_part : (e : Endpoint) (tid : ℕ) (text : List ℕ) (a w : Option (List ℕ)) (part more : List ℕ) → Stands e tid text a w part → IsOneLine more
+    → Stands e tid (text ++ more) a w (part ++ more)
+stands_part e tid text a w part more h one = record {
   lines = h.lines;
   each = h.each;
-  one = IsOneLine-push part b h.one n;
-  is = rw h.is (append_assoc (ended h.lines) part (b ∷ []));
+  one = IsOneLine-append part more h.one one;
+  is = rw h.is (append_assoc (ended h.lines) part more);
   written = h.written;
   terminus = h.terminus;
 }
@@ -121,24 +129,57 @@ within_more i n xs le more = let here : n ≤ length xs - i = rw (slice_rest i x
 pub appends_more : (a b c : Option (List ℕ)) (xs : List ℕ) (i n : ℕ) → Appends a b (take i xs) → Appends b c (take n (drop i xs)) → Appends a c (take (i + n) xs)
 appends_more a b c xs i n first second = subst (Appends a c) (sym (take-add i n xs)) (Appends-trans a b c (take i xs) (take n (drop i xs)) first second)
 
--- a byte of a piece is a byte of a line
-pub piece_byte : (e : Endpoint) (tid : ℕ) (text piece : List ℕ) (i : ℕ) (a w : Option (List ℕ)) (part : List ℕ) → Stands e tid (text ++ take i piece) a w part → i < length piece → get_or piece i 0 ≢ 10
-    → Stands e tid (text ++ take (i + 1) piece) a w (part ++ get_or piece i 0 ∷ [])
-piece_byte e tid text piece i a w part h below n =
-    rw (take_more piece i 0 below, ← append_assoc text (take i piece) (get_or piece i 0 ∷ [])) (stands_byte e tid (text ++ take i piece) a w part (get_or piece i 0) h n)
+-- the first line feed of a list, where there is one
+line_feed : (xs : List ℕ) (n : ℕ) → Passes (is_byte 10) xs n → get_or xs n 0 ≡ 10
+line_feed xs n found = eqb-true (get_or xs n 0) 10 found
 
--- or it ends one
-pub piece_line : (e : Endpoint) (tid : ℕ) (text piece : List ℕ) (i : ℕ) (a w u : Option (List ℕ)) (part : List ℕ) → Stands e tid (text ++ take i piece) a w part → i < length piece → get_or piece i 0 ≡ 10
-    → Appends w u (printed e tid part) → Stands e (tid_left_by e tid part) (text ++ take (i + 1) piece) a u []
-piece_line e tid text piece i a w u part h below is wrote =
-    rw (take_more piece i 0 below, is, ← append_assoc text (take i piece) (10 ∷ [])) (stands_line e tid (text ++ take i piece) a w u part h wrote)
+line_taken : (text piece : List ℕ) (i n : ℕ) → n < length (drop i piece) → Passes (is_byte 10) (drop i piece) n
+    → text ++ take (i + (n + 1)) piece ≡ ((text ++ take i piece) ++ take n (drop i piece)) ++ 10 ∷ []
+line_taken text piece i n below found =
+    let rest = drop i piece in
+    let more : take (n + 1) rest ≡ take n rest ++ 10 ∷ [] = take_more rest n 0 below ∙ ap (λ b. take n rest ++ b ∷ []) (line_feed rest n found) in
+    ap (λ t. text ++ t) (take-add i (n + 1) piece ∙ ap (λ t. take i piece ++ t) more)
+    ∙ sym (append_assoc text (take i piece) (take n rest ++ 10 ∷ []))
+    ∙ sym (append_assoc (text ++ take i piece) (take n rest) (10 ∷ []))
 
-pub piece_broken : (e : Endpoint) (tid : ℕ) (text piece : List ℕ) (i : ℕ) (a w u : Option (List ℕ)) (part : List ℕ) → Stands e tid (text ++ take i piece) a w part → i < length piece → get_or piece i 0 ≡ 10
-    → Begins w u (printed e tid part) → BrokenOff e (text ++ piece) a u
-piece_broken e tid text piece i a w u part h below is began =
-    let joined : (text ++ take i piece) ++ drop i piece ≡ text ++ piece = append_assoc text (take i piece) (drop i piece) ∙ ap (λ t. text ++ t) (take-append-drop i piece) in
-    subst (λ t. BrokenOff e t a u) joined
-    (broken_line e tid (text ++ take i piece) (drop i piece) a w u part h began (subst IsEnded (sym (drop_more piece i 0 below)) is))
+-- so many of a list's rest
+pub span : (i n : ℕ) (xs : List ℕ) → take (i + n - i) (drop i xs) ≡ take n (drop i xs)
+span i n xs = ap (λ k. take k (drop i xs)) (omega arith)
+
+-- the byte behind the first line feed of a list's rest is one of the list's
+pub found_within : (i n : ℕ) (xs : List ℕ) → i ≤ length xs → IsFirstByte (is_byte 10) (drop i xs) (Some n) → i + (n + 1) ≤ length xs
+found_within i n xs within found = let below : n < length xs - i = rw (length-drop i xs) at found.0.high in omega (arith, below)
+
+-- a piece ends a line at its first line feed from a place on
+pub piece_line : (e : Endpoint) (tid : ℕ) (text piece : List ℕ) (i n : ℕ) (a w u : Option (List ℕ)) (part : List ℕ) → Stands e tid (text ++ take i piece) a w part
+    → IsFirstByte (is_byte 10) (drop i piece) (Some n)
+    → Appends w u (printed e tid (part ++ take n (drop i piece))) → Stands e (tid_left_by e tid (part ++ take n (drop i piece))) (text ++ take (i + (n + 1)) piece) a u []
+piece_line e tid text piece i n a w u part h found wrote =
+    let more = take n (drop i piece) in
+    let line = stands_part e tid (text ++ take i piece) a w part more h (IsOneLine-before (drop i piece) n found.0.before) in
+    subst (λ t. Stands e (tid_left_by e tid (part ++ more)) t a u []) (sym (line_taken text piece i n found.0.high found.1))
+    (stands_line e tid ((text ++ take i piece) ++ more) a w u (part ++ more) line wrote)
+
+pub piece_broken : (e : Endpoint) (tid : ℕ) (text piece : List ℕ) (i n : ℕ) (a w u : Option (List ℕ)) (part : List ℕ) → Stands e tid (text ++ take i piece) a w part
+    → IsFirstByte (is_byte 10) (drop i piece) (Some n)
+    → Begins w u (printed e tid (part ++ take n (drop i piece))) → BrokenOff e (text ++ piece) a u
+piece_broken e tid text piece i n a w u part h found began =
+    let rest = drop i piece in
+    let more = take n rest in
+    let line = stands_part e tid (text ++ take i piece) a w part more h (IsOneLine-before rest n found.0.before) in
+    let whole : ((text ++ take i piece) ++ more) ++ drop n rest ≡ text ++ piece =
+    append_assoc (text ++ take i piece) more (drop n rest) ∙ ap (λ t. (text ++ take i piece) ++ t) (take-append-drop n rest)
+    ∙ append_assoc text (take i piece) rest ∙ ap (λ t. text ++ t) (take-append-drop i piece) in
+    subst (λ t. BrokenOff e t a u) whole
+    (broken_line e tid ((text ++ take i piece) ++ more) (drop n rest) a w u (part ++ more) line began (subst IsEnded (sym (drop_more rest n 0 found.0.high)) (line_feed rest n found.1)))
+
+-- what follows the last line feed of a piece
+pub piece_part : (e : Endpoint) (tid : ℕ) (text piece : List ℕ) (i : ℕ) (a w : Option (List ℕ)) (part : List ℕ) → Stands e tid (text ++ take i piece) a w part
+    → IsFirstByte (is_byte 10) (drop i piece) None → Stands e tid (text ++ piece) a w (part ++ drop i piece)
+piece_part e tid text piece i a w part h none =
+    let one = subst IsOneLine (take_all (length (drop i piece)) (drop i piece) (omega arith)) (IsOneLine-before (drop i piece) (length (drop i piece)) none) in
+    subst (λ t. Stands e tid t a w (part ++ drop i piece)) (append_assoc text (take i piece) (drop i piece) ∙ ap (λ t. text ++ t) (take-append-drop i piece))
+    (stands_part e tid (text ++ take i piece) a w part (drop i piece) h one)
 
 -- nothing follows the last line feed
 pub finish_empty : (e : Endpoint) (tid : ℕ) (text : List ℕ) (a w : Option (List ℕ)) (part : List ℕ) → Stands e tid text a w part → length part ≡ 0 → Appends a w (answers_of e text)
@@ -280,7 +321,7 @@ turn_broken e tid count a b c w v u part got n m r within read most is room off 
       off = off;
     }
 
--- a push with room
-pub pushed : {T E : Type 0} (r : Result T E) (old new : List ℕ) (b : ℕ) → IsOk r → new ≡ (if is_ok r then old ++ b ∷ [] else old) → new ≡ old ++ b ∷ []
-pushed (Ok x) old new b ok is = is
-pushed (Err e) old new b ok is = absurd (cc)
+-- what is appended where there is room
+pub joined : {T E : Type 0} (r : Result T E) (old new more : List ℕ) → IsOk r → new ≡ (if is_ok r then old ++ more else old) → new ≡ old ++ more
+joined (Ok x) old new more ok is = is
+joined (Err e) old new more ok is = absurd (cc)

@@ -29,22 +29,27 @@ pub struct Responder {
 }
 
 impl Responder {
-    /// Answers a packet that holds a whole request, by a packet.
+    /// Answers a packet that holds a whole request, by a packet, which is put into the place of `packet`.
     ///
     /// # Errors
     /// A packet that gets no answer is dropped for the first cause that holds; the terminus keeps its identifier.
-    pub fn answer(&mut self, bytes: &[u8]) -> Result<RawPacket, DropCause>
-        ensures reply { result_map_both (λ p. p.items) (λ e. e) result ≡ (wire_reply self.old.endpoint self.old.tid (packet_of UNIT bytes.now)).reply }
+    pub fn answer(&mut self, bytes: &[u8], packet: &mut RawPacket) -> Result<(), DropCause>
+        ensures reply { result_map_both (λ _. packet.new.items) (λ e. e) result ≡ (wire_reply self.old.endpoint self.old.tid (packet_of UNIT bytes.now)).reply }
         ensures after { self.new ≡ record self.old { tid = (wire_reply self.old.endpoint self.old.tid (packet_of UNIT bytes.now)).tid } }
     {
-        let packet = mctp_wire::decode(UNIT, bytes).map_err(DropCause::Wire)?;
-        self.answer_packet(&packet.head, packet.body)
+        let heard = mctp_wire::decode(UNIT, bytes).map_err(DropCause::Wire)?;
+        self.answer_packet(&heard.head, heard.body, packet)
     }
 
     /// Answers a packet of this head and body, if it is a whole request to this endpoint.
-    fn answer_packet(&mut self, head: &Head, body: &[u8]) -> Result<RawPacket, DropCause>
+    fn answer_packet(
+        &mut self,
+        head: &Head,
+        body: &[u8],
+        packet: &mut RawPacket,
+    ) -> Result<(), DropCause>
         requires { head.now.tag < 8 }
-        ensures reply { result_map_both (λ p. p.items) (λ e. e) result ≡ (packet_reply self.old.endpoint self.old.tid head.now body.now).reply }
+        ensures reply { result_map_both (λ _. packet.new.items) (λ e. e) result ≡ (packet_reply self.old.endpoint self.old.tid head.now body.now).reply }
         ensures after { self.new ≡ record self.old { tid = (packet_reply self.old.endpoint self.old.tid head.now body.now).tid } }
     {
         if head.dest != self.endpoint.eid {
@@ -59,29 +64,42 @@ impl Responder {
         if !head.to {
             return Err(DropCause::NotRequest);
         }
-        self.answer_message(head, body)
+        self.answer_message(head, body, packet)
     }
 
     /// Answers a message that came under this head, by its type.
-    fn answer_message(&mut self, head: &Head, message: &[u8]) -> Result<RawPacket, DropCause>
+    fn answer_message(
+        &mut self,
+        head: &Head,
+        message: &[u8],
+        packet: &mut RawPacket,
+    ) -> Result<(), DropCause>
         requires { head.now.tag < 8 }
-        ensures reply { result_map_both (λ p. p.items) (λ e. e) result ≡ (body_reply self.old.endpoint head.now self.old.tid message.now).reply }
+        ensures reply { result_map_both (λ _. packet.new.items) (λ e. e) result ≡ (body_reply self.old.endpoint head.now self.old.tid message.now).reply }
         ensures after { self.new ≡ record self.old { tid = (body_reply self.old.endpoint head.now self.old.tid message.now).tid } }
     {
         match message {
             [CONTROL, ..] => match mctp_ctl::answer(&self.endpoint, message) {
-                Some(answer) => Ok(self.packet(head, answer.as_slice())),
+                Some(answer) => {
+                    self.carry(head, answer.as_slice(), packet);
+                    Ok(())
+                }
                 None => Err(DropCause::Message),
             },
-            [MESSAGE_TYPE, ..] => self.answer_pldm(head, message),
+            [MESSAGE_TYPE, ..] => self.answer_pldm(head, message, packet),
             _ => Err(DropCause::Kind),
         }
     }
 
     /// Answers a PLDM message.
-    fn answer_pldm(&mut self, head: &Head, message: &[u8]) -> Result<RawPacket, DropCause>
+    fn answer_pldm(
+        &mut self,
+        head: &Head,
+        message: &[u8],
+        packet: &mut RawPacket,
+    ) -> Result<(), DropCause>
         requires { head.now.tag < 8 }
-        ensures reply { result_map_both (λ p. p.items) (λ e. e) result ≡ (pldm_reply self.old.endpoint head.now self.old.tid (pldm_of message.now)).reply }
+        ensures reply { result_map_both (λ _. packet.new.items) (λ e. e) result ≡ (pldm_reply self.old.endpoint head.now self.old.tid (pldm_of message.now)).reply }
         ensures after { self.new ≡ record self.old { tid = (pldm_reply self.old.endpoint head.now self.old.tid (pldm_of message.now)).tid } }
     {
         let Ok((request, fields)) = pldm_base::decode(message) else {
@@ -96,7 +114,8 @@ impl Responder {
             ..request
         };
         let answer = pldm_base::encode(&answering, completion.as_slice());
-        Ok(self.packet(head, answer.as_slice()))
+        self.carry(head, answer.as_slice(), packet);
+        Ok(())
     }
 
     /// The code and fields that answer a PLDM request.
@@ -112,11 +131,11 @@ impl Responder {
         }
     }
 
-    /// The packet that carries an answer to a packet with this head.
-    fn packet(&self, head: &Head, answer: &[u8]) -> RawPacket
+    /// Makes the packet that carries an answer to a packet with this head.
+    fn carry(&self, head: &Head, answer: &[u8], packet: &mut RawPacket)
         requires head { head.now.tag < 8 }
         requires answer { (1 ≤ length answer.now) × (length answer.now ≤ bytes_of UNIT) }
-        ensures { Ok result.items ≡ (answered self.now.endpoint head.now self.now.tid answer.now).reply }
+        ensures { Ok packet.new.items ≡ (answered self.now.endpoint head.now self.now.tid answer.now).reply }
     {
         let head = Head {
             dest: head.source,
@@ -127,9 +146,7 @@ impl Responder {
             to: false,
             tag: head.tag,
         };
-        let mut packet = RawPacket::new();
-        mctp_wire::encode(&head, answer, &mut packet);
-        packet
+        mctp_wire::encode(&head, answer, packet);
     }
 }
 

@@ -1,14 +1,15 @@
 //! Lines in, answers out: the engine of `fwupd answer`.
 
-ghost use Rattle.std.specs.Prelude.{◌≡◌, ◌≢◌, ◌≤◌, ◌+◌, ◌*◌, ◌++◌, List, ℕ, Option, length, vec_capacity, IfErr, OnErr, OnOk};
+ghost use Rattle.std.specs.Prelude.{[], ◌≡◌, ◌≢◌, ◌≤◌, ◌+◌, ◌*◌, ◌++◌, List, ℕ, Option, length, vec_capacity, IfErr, OnErr, OnOk};
 ghost use Rattle.std.specs.Io.KnownBytes.{Appends, Keeps};
 ghost use Rattle.fwupd_base.specs.Answers.{answers_of, endpoint_of, printed, tid_left_by};
 ghost use Rattle.fwupd_base.specs.Stream.{Answered, Begins, Broken, BrokenOff, LacksRoom, Stands, Stopped};
 
 use crate::responder::Responder;
 use crate::retries::{read_some, write_whole};
-use crate::text;
+use crate::text::{LineText, answer_line};
 use mctp_ctl::Endpoint;
+use memchr::memchr;
 use pldm_base::Tid;
 use std::alloc::Global;
 use std::io::{Read, Write};
@@ -48,14 +49,42 @@ fn write_answer<W: Write>(
     ensures fault { IfErr result (λ e. (e ≡ AnswerFault.Write) × Begins (W.contents writer.old) (W.contents writer.new) (printed responder.old.endpoint responder.old.tid digits.now)) }
     ensures capacity { vec_capacity bytes.old ≤ vec_capacity bytes.new }
 {
-    let line = text::answer_line(responder, digits, bytes);
+    let mut line = LineText::new();
+    answer_line(responder, digits, bytes, &mut line);
     match write_whole(writer, line.as_slice()) {
         Ok(()) => Ok(()),
         Err(_) => Err(AnswerFault::Write),
     }
 }
 
-/// Answers the lines that end in a piece of what was read, and holds what follows them.
+/// Answers the line that these digits end, behind those that are held of it, and holds none.
+fn answer_ended<W: Write>(
+    responder: &mut Responder,
+    held: &mut Vec<u8>,
+    digits: &[u8],
+    bytes: &mut Vec<u8>,
+    writer: &mut W,
+) -> Result<(), AnswerFault>
+    requires holds { length held.old.items + length digits.now ≤ vec_capacity held.old }
+    requires decodes { length held.old.items + length digits.now ≤ 2 * vec_capacity bytes.old }
+    ensures ok { OnOk result (Appends (W.contents writer.old) (W.contents writer.new) (printed responder.old.endpoint responder.old.tid (held.old.items ++ digits.now))) }
+    ensures none { OnOk result (held.new.items ≡ []) }
+    ensures after { responder.new ≡ record responder.old { tid = tid_left_by responder.old.endpoint responder.old.tid (held.old.items ++ digits.now) } }
+    ensures fault { IfErr result (λ e. (e ≡ AnswerFault.Write) × Begins (W.contents writer.old) (W.contents writer.new) (printed responder.old.endpoint responder.old.tid (held.old.items ++ digits.now))) }
+    ensures held_room { vec_capacity held.old ≤ vec_capacity held.new }
+    ensures room { vec_capacity bytes.old ≤ vec_capacity bytes.new }
+{
+    if held.is_empty() {
+        return write_answer(responder, digits, bytes, writer);
+    }
+    let _ = held.extend_from_slice(digits);
+    let end = write_answer(responder, held, bytes, writer);
+    held.clear();
+    end
+}
+
+/// Answers the lines that end in a piece of what was read, and holds what follows them. A line that lies whole in the piece
+/// isn't copied.
 fn answer_piece<W: Write>(
     responder: &mut Responder,
     held: &mut Vec<u8>,
@@ -72,16 +101,14 @@ fn answer_piece<W: Write>(
     ensures broken { (text : List ℕ) (before : Option (List ℕ)) → Stands responder.old.endpoint responder.old.tid text before (W.contents writer.old) held.old.items
         → OnErr result (BrokenOff responder.old.endpoint (text ++ piece.now) before (W.contents writer.new)) }
 {
-    for byte in piece {
-        if *byte == b'\n' {
-            match write_answer(responder, held, bytes, writer) {
-                Ok(()) => held.clear(),
-                Err(fault) => return Err(fault),
-            }
-        } else {
-            let _ = held.push(*byte);
+    let mut from = 0;
+    while let Some(count) = memchr(b'\n', &piece[from..]) {
+        match answer_ended(responder, held, &piece[from..from + count], bytes, writer) {
+            Ok(()) => from += count + 1,
+            Err(fault) => return Err(fault),
         }
     }
+    let _ = held.extend_from_slice(&piece[from..]);
     Ok(())
 }
 

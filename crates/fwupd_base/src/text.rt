@@ -36,16 +36,17 @@ fn decode_digits(digits: &[u8], bytes: &mut Vec<u8>) -> Result<(), FromHexError>
     hex::decode_to_slice(digits, bytes.as_mut_slice())
 }
 
+/// The upper-case digits, each at the place of its value.
+const DIGITS: &[u8; 16] = b"0123456789ABCDEF";
+
 /// Appends a byte in two upper-case digits.
 fn push_byte(byte: u8, text: &mut LineText)
     requires { length text.old.items + 2 ≤ MAX_LINE }
     ensures digits { text.new.items ≡ text.old.items ++ encode_upper (byte ∷ []) }
     ensures room { length text.new.items ≡ length text.old.items + 2 }
 {
-    let mut digits = [0u8; 2];
-    hex::encode_to_slice([byte], &mut digits).unwrap();
-    text.push(digits[0].to_ascii_uppercase());
-    text.push(digits[1].to_ascii_uppercase());
+    text.push(DIGITS[usize::from(byte / 16)]);
+    text.push(DIGITS[usize::from(byte % 16)]);
 }
 
 /// Appends a packet in upper-case digits.
@@ -59,33 +60,38 @@ fn push_digits(packet: &[u8], text: &mut LineText)
     }
 }
 
-/// The line that is printed for a reply: the packet in digits, or the cause why there is none.
-fn line_text(reply: &Result<RawPacket, DropCause>) -> LineText
-    ensures { result.items ≡ line_text_of (result_map_both (λ p. p.items) (λ e. e) reply.now) }
+/// Makes the line that is printed for a reply: the packet in digits, or the cause why there is none.
+fn write_line(reply: Result<(), DropCause>, packet: &RawPacket, text: &mut LineText)
+    ensures { text.new.items ≡ line_text_of (result_map_both (λ _. packet.now.items) (λ e. e) reply) }
 {
-    let mut text = LineText::new();
+    text.clear();
     match reply {
-        Ok(packet) => push_digits(packet.as_slice(), &mut text),
+        Ok(()) => push_digits(packet.as_slice(), text),
         Err(cause) => {
             let _ = text.try_extend_from_slice(DROP);
             let _ = text.try_extend_from_slice(cause.name().as_bytes());
         }
     }
     text.push(b'\n');
-    text
 }
 
-/// Answers one line of digits: its text. `bytes` is room that is used again for each line.
+/// Answers one line of digits: its text, which is put into the place of `text`. `bytes` is room that is used again for each line.
 #[tactic(auto, unfolding(crate::specs::Answers::printed, crate::specs::Answers::tid_left_by))]
-pub fn answer_line(responder: &mut Responder, digits: &[u8], bytes: &mut Vec<u8>) -> LineText
+pub fn answer_line(
+    responder: &mut Responder,
+    digits: &[u8],
+    bytes: &mut Vec<u8>,
+    text: &mut LineText,
+)
     requires room { length digits.now ≤ 2 * vec_capacity bytes.old }
-    ensures text { result.items ≡ printed responder.old.endpoint responder.old.tid digits.now }
+    ensures text { text.new.items ≡ printed responder.old.endpoint responder.old.tid digits.now }
     ensures after { responder.new ≡ record responder.old { tid = tid_left_by responder.old.endpoint responder.old.tid digits.now } }
     ensures capacity { vec_capacity bytes.old ≤ vec_capacity bytes.new }
 {
+    let mut packet = RawPacket::new();
     let reply = match decode_digits(digits, bytes) {
-        Ok(()) => responder.answer(bytes.as_slice()),
+        Ok(()) => responder.answer(bytes.as_slice(), &mut packet),
         Err(_) => Err(DropCause::Hex),
     };
-    line_text(&reply)
+    write_line(reply, &packet, text);
 }
