@@ -1,4 +1,4 @@
-use Rattle.std.proofs.Common.{append_assoc, refl, ◌++◌}
+use Rattle.std.proofs.Common.{append_assoc, refl}
 use Rattle.fwupd_base.proofs.Digits.{encode_upper_byte}
 use Rattle.fwupd_base.proofs.text.push_byte.Goals as goal
 
