@@ -1,0 +1,139 @@
+//! A store in memory, which lasts as long as the program.
+
+ghost use Rattle.std.specs.Prelude.{◌≡◌, IfOk, None, OnErr, OnOk, map, option_map};
+ghost use Rattle.fd_core.specs.Banks.{AreApart};
+ghost use Rattle.fd_core.specs.Images.{key_of, same_key};
+ghost use Rattle.fw_store.specs.Kept.{KeptOf, all_running, image_for, kept_after, replaced_by};
+
+use crate::store::{Kept, Store, StoreFault};
+use fd_core::{Bank, Label, MemBank};
+use fwup_wire::Key;
+use std::alloc::{AllocError, Global};
+use std::marker::Model;
+
+/// An image that is kept.
+#[derive(Drop)]
+struct Stored {
+    key: Key,
+    label: Label,
+    bytes: Vec<u8>,
+}
+
+impl Model for Stored {
+    ghost use Rattle.fw_store.specs.Kept.{KeptOf};
+
+    ghost Value = { KeptOf };
+
+    ghost view = { λ s. record { key = s.key; image = record { label = s.label; bytes = s.bytes.items } } };
+}
+
+/// A store in memory. It fails only where memory is refused.
+#[derive(Drop)]
+pub struct MemStore {
+    alloc: Global,
+    images: Vec<Stored>,
+}
+
+/// A copy of an image.
+fn copied(alloc: Global, key: Key, label: &Label, bytes: &[u8]) -> Result<Stored, AllocError>
+    ensures { IfOk result (λ s. s ≡ record { key = key; image = record { label = label.now; bytes = bytes.now } }) }
+{
+    let mut held = Vec::new(alloc);
+    held.extend_from_slice(bytes)?;
+    Ok(Stored {
+        key,
+        label: label.copied(),
+        bytes: held,
+    })
+}
+
+/// Whether two keys are the same.
+fn is_same(one: Key, other: Key) -> bool
+    ensures { result ≡ same_key one other }
+{
+    one.classification == other.classification && one.identifier == other.identifier
+}
+
+/// The image of a component among these, if it is there.
+#[tactic(auto, using(crate::proofs::Keeping::finding))]
+fn find<'a, 'b>(images: &'a [Kept<'b>], key: Key) -> Option<&'a Kept<'b>>
+    ensures { option_map (λ k. k.now.image) result ≡ image_for images.now key }
+{
+    for image in images {
+        if is_same(image.key, key) {
+            return Some(image);
+        }
+    }
+    None
+}
+
+/// What is kept of a component after these images.
+fn replaced(alloc: Global, old: &Stored, images: &[Kept<'_>]) -> Result<Stored, AllocError>
+    ensures { IfOk result (λ s. s ≡ replaced_by old.now (image_for images.now old.now.key)) }
+{
+    match find(images, old.key) {
+        Some(image) => copied(alloc, old.key, image.label, image.bytes),
+        None => copied(alloc, old.key, &old.label, &old.bytes),
+    }
+}
+
+/// What is kept after these images.
+fn replaced_all(
+    alloc: Global,
+    old: &[Stored],
+    images: &[Kept<'_>],
+) -> Result<Vec<Stored>, AllocError>
+    ensures { IfOk result (λ new. new.items ≡ kept_after old.now images.now) }
+{
+    let mut new = Vec::new(alloc);
+    for image in old {
+        new.push(replaced(alloc, image, images)?)?;
+    }
+    Ok(new)
+}
+
+impl MemStore {
+    /// A store that keeps what runs of a bank with components of these keys.
+    ///
+    /// # Errors
+    /// `AllocError` where memory is refused.
+    pub fn of(alloc: Global, bank: &MemBank, keys: &[Key]) -> Result<MemStore, AllocError>
+        requires keys { keys.now ≡ map key_of bank.now.rows }
+        requires apart { AreApart keys.now }
+        ensures { IfOk result (λ s. s.images.items ≡ all_running bank.now.rows) }
+    {
+        let mut images = Vec::new(alloc);
+        for key in keys {
+            let Some((label, bytes)) = bank.active(*key) else {
+                unreachable!()
+            };
+            images.push(copied(alloc, *key, label, bytes)?)?;
+        }
+        Ok(MemStore { alloc, images })
+    }
+
+    /// The bytes that are kept for a component, if it is there.
+    #[tactic(auto, using(crate::proofs::Keeping::finding))]
+    pub fn bytes(&self, key: Key) -> Option<&[u8]>
+        ensures { option_map (λ b. b.now) result ≡ option_map (λ i. i.bytes) (image_for self.now.images.items key) }
+    {
+        for image in &self.images {
+            if is_same(image.key, key) {
+                return Some(&image.bytes);
+            }
+        }
+        None
+    }
+}
+
+impl Store for MemStore {
+    ghost kept = { λ s. s.images.items };
+
+    fn keep(&mut self, images: &[Kept<'_>]) -> Result<(), StoreFault> {
+        let Ok(new) = replaced_all(self.alloc, self.images.as_slice(), images) else {
+            return Err(StoreFault);
+        };
+        self.images = new;
+        Ok(())
+    }
+}
