@@ -1,5 +1,5 @@
 -- A message of one packet is heard whole.
-use Rattle.std.proofs.Common.{◌≡◌, ◌∙◌, ◌≢◌, ◌≤◌, ◌⊎◌, ◌++◌, ◌∷◌, ◌==◌, ℕ, Bool, List, [], Ok, Option, absurd, append-nil, codes, false, if◌then◌else◌, inl, inr, length, refl, sym, true}
+use Rattle.std.proofs.Common.{◌≡◌, ◌∙◌, ◌≢◌, ◌≤◌, ◌⊎◌, ◌++◌, ◌∷◌, ◌==◌, ℕ, Bool, List, [], Ok, Option, append-nil, codes, false, if◌then◌else◌, inl, inr, length, refl, sym, true}
 use Rattle.std.proofs.lemmas.Bool.Decides.{eqb_tells}
 use Rattle.mctp_wire.specs.Packet.{IsHead, ReadsPackets, WritesPackets, packet_bytes}
 use Rattle.mctp_wire.specs.Units.{bytes_of}
@@ -29,18 +29,18 @@ by_kind : (to : Bool) (u : «Unit») (a : Assemblies) (h : Head) (body : List �
 by_kind true u a h body som eom seq = fed_whole u (held_at a.requests h.tag) h body som eom seq
 by_kind false u a h body som eom seq = fed_whole u (held_at a.replies h.tag) h body som eom seq
 
-same : (a b : ℕ) → a ≡ b → (a == b) ≡ true
-same a b e = elim (eqb_tells a b) [ inl same ↦ same.0 | inr other ↦ absurd (other.1 e) ]
+is_same : (a b : ℕ) → a ≡ b → (a == b) ≡ true
+is_same a b e = elim (eqb_tells a b) [ inl equal ↦ equal.0 | inr other ↦ absurd (other.1 e) ]
 
 heard_whole : (r : ReaderOf) (h : Head) (body : List ℕ) → IsBetween r h → h.som ≡ true → h.eom ≡ true → h.seq ≡ 0
     → heard_by r (packet_of h body) ≡ heards.Fed (outcomes.Whole (alone h body))
 unfolding heard_by
 heard_whole r h body (inl way) som eom seq =
-    rw (same h.dest r.device way.1, same h.source r.agent way.0, by_kind h.to r.unit r.at_device h body som eom seq) refl
+    rw (is_same h.dest r.device way.1, is_same h.source r.agent way.0, by_kind h.to r.unit r.at_device h body som eom seq) refl
 heard_whole r h body (inr way) som eom seq =
     elim (eqb_tells h.dest r.device) [
-      | inl end ↦ rw (end.0, same h.source r.agent (way.0 ∙ sym end.1 ∙ way.1), by_kind h.to r.unit r.at_device h body som eom seq) refl
-      | inr end ↦ rw (end.0, same h.dest r.agent way.1, same h.source r.device way.0, by_kind h.to r.unit r.at_agent h body som eom seq) refl
+      | inl end ↦ rw (end.0, is_same h.source r.agent (way.0 ∙ sym end.1 ∙ way.1), by_kind h.to r.unit r.at_device h body som eom seq) refl
+      | inr end ↦ rw (end.0, is_same h.dest r.agent way.1, is_same h.source r.device way.0, by_kind h.to r.unit r.at_agent h body som eom seq) refl
     ]
 
 pub shows_whole_law : WritesPackets → ReadsPackets → ShowsWhole

@@ -5,4 +5,4 @@ use Rattle.fw_trace.proofs.control.push_start.Goals as goal
 pub returns : goal.returns
 unfolding control_start
 returns c =
-    adds_more c.in_ok-push_byte.ensures (rw c.from_code.ensures at (rw c.control_command.ensures at c.in_ok-push_name.ensures))
+    adds_more c.in_ok-push_byte.ensures (rw c.from_code.ensures at (rw c.control_command-name.ensures at c.in_ok-push_name.ensures))
