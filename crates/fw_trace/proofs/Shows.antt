@@ -1,5 +1,5 @@
 -- What is written is what its line shows.
-use Rattle.std.proofs.Common.{◌≡◌, ◌≤◌, ◌++◌, ◌∷◌, ℕ, List, Ok, Some, codes, if◌then◌else◌, true, false, refl, arith}
+use Rattle.std.proofs.Common.{◌≡◌, ◌++◌, ℕ, List, Ok, Some, codes, if◌then◌else◌, true, false, refl, arith}
 use Rattle.pldm_base.specs.Header.{ReadsMessages, WritesMessages, pldm_bytes, pldm_of}
 use Rattle.pldm_base.specs.declared.header.PldmHead.{PldmHead}
 use Rattle.fwup_wire.specs.Answers.{answer_bytes, answer_code, answer_in}
@@ -8,8 +8,8 @@ use Rattle.fwup_wire.specs.Laws.{WritesAnswers, WritesCommands}
 use Rattle.fwup_wire.specs.Values.{AnswerOf, CommandOf}
 use Rattle.fw_trace.specs.Answers.{answer_fields, update_answer}
 use Rattle.fw_trace.specs.Commands.{command_fields, update_request}
-use Rattle.fw_trace.specs.Laws.{ShowsAnswers, ShowsCommands, answered_text, asked_text, command_name, update_head}
-use Rattle.fw_trace.specs.Messages.{message_text, pldm_answer, pldm_read, pldm_request}
+use Rattle.fw_trace.specs.Laws.{ShowsAnswers, ShowsCommands, command_name, update_head}
+use Rattle.fw_trace.specs.Messages.{message_text, pldm_answer, pldm_request}
 use Rattle.fw_trace.specs.Names.{name_or_digits, update_code, update_command}
 
 -- a command's own code has its name

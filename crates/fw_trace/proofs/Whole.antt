@@ -1,15 +1,14 @@
 -- A message of one packet is heard whole.
-use Rattle.std.proofs.Common.{◌≡◌, ◌∙◌, ◌≢◌, ◌≤◌, ◌⊎◌, ◌++◌, ◌∷◌, ◌==◌, ℕ, Bool, List, [], Ok, Option, append-nil, codes, false, if◌then◌else◌, inl, inr, length, refl, sym, true}
+use Rattle.std.proofs.Common.{◌≡◌, ◌∙◌, ◌==◌, ℕ, Bool, List, Option, append-nil, false, if◌then◌else◌, inl, inr, refl, sym, true}
 use Rattle.std.proofs.lemmas.Bool.Decides.{eqb_tells}
-use Rattle.mctp_wire.specs.Packet.{IsHead, ReadsPackets, WritesPackets, packet_bytes}
-use Rattle.mctp_wire.specs.Units.{bytes_of}
+use Rattle.mctp_wire.specs.Packet.{ReadsPackets, WritesPackets, packet_bytes}
 use Rattle.mctp_wire.specs.declared.layout.Head.{Head}
 use Rattle.mctp_wire.specs.declared.unit.Unit.{«Unit»}
-use Rattle.mctp_reasm.specs.Held.{Held, fed, message_of}
+use Rattle.mctp_reasm.specs.Held.{Held, fed}
 use Rattle.mctp_reasm.specs.Inboxes.{fed_at, held_at}
 use Rattle.mctp_reasm.specs.Pieces.{MessageOf, packet_of}
 use Rattle.mctp_reasm.specs.declared.outcomes.Fed.TheVariants as outcomes
-use Rattle.fw_trace.specs.Hearings.{Assemblies, fed_in}
+use Rattle.fw_trace.specs.Hearings.{Assemblies}
 use Rattle.fw_trace.specs.Laws.{IsBetween, ShowsWhole}
 use Rattle.fw_trace.specs.Lines.{ReaderOf, heard_by, packet_line, packet_text}
 use Rattle.fw_trace.specs.declared.hearing.Heard.TheVariants as heards

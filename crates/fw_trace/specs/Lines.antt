@@ -1,5 +1,5 @@
 -- A line of each packet between an agent and a device.
-use Rattle.std.specs.Prelude.{ℕ, ◌+◌, ◌==◌, if◌then◌else◌, List, [], ◌∷◌, ◌++◌, codes, length, Option, Result, Ok, Err}
+use Rattle.std.specs.Prelude.{ℕ, ◌+◌, ◌==◌, if◌then◌else◌, List, [], ◌∷◌, ◌++◌, codes, length, Result, Ok, Err}
 use Rattle.fw_text.specs.Printing.{numbered}
 use Rattle.mctp_wire.specs.Packet as wire
 use Rattle.mctp_wire.specs.declared.fault.WireFault.{WireFault}

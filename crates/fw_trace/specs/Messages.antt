@@ -1,5 +1,5 @@
 -- What a message says.
-use Rattle.std.specs.Prelude.{ℕ, ◌==◌, if◌then◌else◌, Bool, List, [], ◌∷◌, ◌++◌, codes, Result, Ok, Err}
+use Rattle.std.specs.Prelude.{ℕ, ◌==◌, if◌then◌else◌, List, [], ◌∷◌, ◌++◌, codes, Result, Ok, Err}
 use Rattle.fw_text.specs.Printing.{numbered}
 use Rattle.pldm_base.specs.Header.{pldm_of}
 use Rattle.pldm_base.specs.declared.header.PldmFault.{PldmFault}
