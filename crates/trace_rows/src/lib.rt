@@ -8,6 +8,8 @@ mod bases;
 #[cfg(test)]
 mod commands;
 #[cfg(test)]
+mod memory;
+#[cfg(test)]
 mod packets;
 #[cfg(test)]
 mod randoms;

@@ -65,7 +65,7 @@ fn tells_parts_drops_and_bytes(rt: HostRuntime) {
 }
 
 /// Two packets, one each way.
-const BOTH_WAYS: [Sent<'static>; 2] = [
+pub const BOTH_WAYS: [Sent<'static>; 2] = [
     Sent {
         turn: 4,
         bytes: &[1, 9, 8, 0xC8, 0x7E],
@@ -77,7 +77,7 @@ const BOTH_WAYS: [Sent<'static>; 2] = [
 ];
 
 /// Their lines.
-const BOTH_LINES: &[u8] = b"4 9 1 8 > 9 tag 0 type 7E\n6 9 2 9 > 8 tag 0 type 7E 01\n";
+pub const BOTH_LINES: &[u8] = b"4 9 1 8 > 9 tag 0 type 7E\n6 9 2 9 > 8 tag 0 type 7E 01\n";
 
 #[test]
 fn tells_a_list_of_packets(rt: HostRuntime) {
