@@ -1,9 +1,13 @@
 -- What a line shows of what was written.
-use Rattle.std.specs.Prelude.{ℕ, ◌≡◌, ◌≤◌, ◌⊎◌, Bool, List, ◌++◌, codes, length, true, false}
+use Rattle.std.specs.Prelude.{ℕ, ◌≡◌, ◌<◌, ◌≤◌, ◌⊎◌, ◌+◌, ◌==◌, Bool, if◌then◌else◌, List, ◌++◌, codes, length, slice_get, Option, Some, true, false}
 use Rattle.fw_text.specs.Printing.{numbered}
 use Rattle.mctp_wire.specs.Packet.{IsHead, packet_bytes}
 use Rattle.mctp_wire.specs.Units.{bytes_of}
 use Rattle.mctp_wire.specs.declared.layout.Head.{Head}
+use Rattle.mctp_reasm.specs.Held.{Held}
+use Rattle.mctp_reasm.specs.Inboxes.{held_at}
+use Rattle.mctp_reasm.specs.Laws.{holding}
+use Rattle.mctp_reasm.specs.Pieces.{IsMessage, MessageOf, PacketOf, pieces}
 use Rattle.pldm_base.specs.Header.{pldm_bytes}
 use Rattle.pldm_base.specs.declared.header.PldmHead.{PldmHead}
 use Rattle.fwup_wire.specs.Answers.{HasAnswerWidths, IsAnswerWritable, answer_bytes, answer_code, answers_command}
@@ -11,7 +15,8 @@ use Rattle.fwup_wire.specs.Commands.{IsSpoken, command_bytes, command_code}
 use Rattle.fwup_wire.specs.Values.{AnswerOf, CommandOf}
 use Rattle.fw_trace.specs.Answers.{answer_fields}
 use Rattle.fw_trace.specs.Commands.{command_fields}
-use Rattle.fw_trace.specs.Lines.{ReaderOf, head_text, packet_line, place_text}
+use Rattle.fw_trace.specs.Hearings.{Assemblies}
+use Rattle.fw_trace.specs.Lines.{ReaderOf, head_text, heard_by, packet_line, packet_text, part_text, place_text}
 use Rattle.fw_trace.specs.Messages.{message_text}
 use Rattle.fw_trace.specs.Names.{name_or_digits, update_code, update_command}
 
@@ -61,6 +66,20 @@ ShowsAnswers =
 -- the packet goes from one end to the other
 abbrev pub IsBetween : ReaderOf → Head → Type 0
 IsBetween r h = ((h.source ≡ r.agent) × (h.dest ≡ r.device)) ⊎ ((h.source ≡ r.device) × (h.dest ≡ r.agent))
+
+-- what is held, at the end that a packet goes to, of its kind and its tag
+abbrev pub held_for : ReaderOf → Head → Option Held
+held_for r h =
+    let end : Assemblies = if h.dest == r.device then r.at_device else r.at_agent in
+    if h.to then held_at end.requests h.tag else held_at end.replies h.tag
+
+-- Where the packets of a message before this one are held, the packet is shown as a part, and the last as the message.
+abbrev pub ShowsParts : Type 0
+ShowsParts =
+    (r : ReaderOf) (m : MessageOf) (k age : ℕ) (p : PacketOf) → IsMessage r.unit m → IsBetween r p.head
+    → k < length (pieces r.unit m) → slice_get (pieces r.unit m) k ≡ Some p → held_for r p.head ≡ holding r.unit m k age
+    → packet_text p (heard_by r p)
+    ≡ head_text p.head ++ (if k + 1 == length (pieces r.unit m) then codes " " ++ message_text m.bytes else part_text p)
 
 -- A message of one packet is shown whole, whatever was sent before.
 abbrev pub ShowsWhole : Type 0

@@ -1,6 +1,6 @@
 //! What a line shows of what was written.
 
-ghost use Rattle.fw_trace.specs.Laws.{ShowsAnswers, ShowsCommands, ShowsWhole};
+ghost use Rattle.fw_trace.specs.Laws.{ShowsAnswers, ShowsCommands, ShowsParts, ShowsWhole};
 
 /// What a node asked or answered is what the line of its message shows: the message that a command is written as shows that
 /// command with its fields, and the message of an answer shows that answer's code and fields.
@@ -13,9 +13,12 @@ pub fn shows_what_was_written()
     fwup_wire::answers_read_back();
 }
 
-/// A message of one packet is shown whole, whatever was sent before.
-pub fn shows_whole_messages()
-    ensures { ShowsWhole }
+/// A packet of a message whose packets before it are held is shown as a part, and the last one as the message. A message of
+/// one packet is shown whole, whatever was sent before.
+pub fn shows_messages()
+    ensures parts { ShowsParts }
+    ensures whole { ShowsWhole }
 {
+    mctp_reasm::feeds_next();
     mctp_wire::reads_back();
 }

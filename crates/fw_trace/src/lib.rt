@@ -13,7 +13,7 @@ mod messages;
 mod names;
 mod pieces;
 
-pub use laws::{shows_what_was_written, shows_whole_messages};
+pub use laws::{shows_messages, shows_what_was_written};
 pub use lines::PacketReader;
 pub use lists::{Sent, push_lines};
 pub use messages::push_message;
