@@ -8,7 +8,7 @@ use std::alloc::AllocError;
 
 /// The head of a capture's file, low bytes first: the magic number, version 2.4, times in UTC, at most 65,535 bytes of a packet, and
 /// the link type 113, Linux cooked mode.
-pub const CAPTURE_HEADER: [u8; 24] = [
+const CAPTURE_HEADER: [u8; 24] = [
     0xD4, 0xC3, 0xB2, 0xA1, 0x02, 0x00, 0x04, 0x00, 0x00, 0x00, 0x00, 0x00, 0x00, 0x00, 0x00, 0x00,
     0xFF, 0xFF, 0x00, 0x00, 0x71, 0x00, 0x00, 0x00,
 ];
@@ -48,15 +48,11 @@ fn size(bytes: &[u8]) -> u32
     (bytes.len().saturating_add(COOKED_SIZE) % SIZES) as u32
 }
 
-/// Appends the head of a capture's file.
-///
-/// # Errors
-/// `AllocError` where memory is refused.
-pub fn push_capture_header(text: &mut Vec<u8>) -> Result<(), AllocError>
-    ensures { OnOk result (Adds text.old.items text.new.items capture_header) }
+/// The head of a capture's file.
+pub fn capture_header() -> &'static [u8]
+    ensures { result.now ≡ capture_header }
 {
-    text.extend_from_slice(&CAPTURE_HEADER)?;
-    Ok(())
+    &CAPTURE_HEADER
 }
 
 /// Appends a number of four bytes, the low one first.

@@ -4,5 +4,5 @@
 mod capture;
 mod records;
 
-pub use capture::{CAPTURE_HEADER, capture_reads_back, push_capture, push_capture_header};
+pub use capture::{capture_header, capture_reads_back, push_capture};
 pub use records::{RecordsFault, log_bytes, records_read_back, records_text};

@@ -8,7 +8,7 @@ use fw_edge::{Link, MemLink, StreamLink};
 use fw_json::Form;
 use fw_world::World;
 use fwupd_jobs::{
-    FileFault, FileIdentity, Files, Order, Output, RunFault, Show, Watch, WatchFault, Wires,
+    FileFault, FileIdentity, Files, Order, Output, RunFault, Show, TraceForm, Watch, WatchFault, Wires,
     plan_file, update_checked,
 };
 use mctp_wire::Unit;
@@ -126,7 +126,8 @@ impl Wires<StreamLink<UnixStream>> for CutWires {
 #[derive(Drop)]
 struct Counter {
     is_quiet: bool,
-    is_traced: bool,
+    traced: Option<TraceForm>,
+    is_logged: bool,
     turns: usize,
     broken: usize,
     fault: Option<WatchFault>,
@@ -149,7 +150,7 @@ impl Counter {
 }
 
 impl Watch for Counter {
-    ghost watched = { λ c. record { fault = c.fault; shows = record { is_quiet = c.is_quiet; is_traced = c.is_traced }; has_ended = c.has_ended; seen = c.turns; lost = c.lost } };
+    ghost watched = { λ c. record { fault = c.fault; shows = record { is_quiet = c.is_quiet; traced = c.traced; is_logged = c.is_logged }; has_ended = c.has_ended; seen = c.turns; lost = c.lost } };
 
     ghost refuses = { λ c path. true };
 
@@ -160,7 +161,17 @@ impl Watch for Counter {
                 return Err(WatchFault::Unwritten);
             }
         }
-        self.is_traced = show.trace.is_some();
+        if let Some(path) = show.log {
+            if path == "/" {
+                self.fault = Some(WatchFault::Unlogged);
+                return Err(WatchFault::Unlogged);
+            }
+        }
+        self.traced = match show.trace {
+            Some(_) => Some(show.trace_form),
+            None => None,
+        };
+        self.is_logged = show.log.is_some();
         self.is_quiet = show.is_quiet;
         self.turns = 0;
         self.lost = None;
@@ -179,7 +190,7 @@ impl Watch for Counter {
         self.lost = Some(device);
     }
 
-    fn end(&mut self) -> Result<(), WatchFault> {
+    fn end(&mut self, _world: &World<'_, MemBank>) -> Result<(), WatchFault> {
         self.has_ended = true;
         self.outcome()
     }
@@ -214,7 +225,8 @@ fn updated<'a, L: Link + Drop, S: Wires<L>>(
     ];
     let mut watch = Counter {
         is_quiet: false,
-        is_traced: false,
+        traced: None,
+        is_logged: false,
         turns: 0,
         broken,
         fault: None,
@@ -237,6 +249,8 @@ fn updated<'a, L: Link + Drop, S: Wires<L>>(
         Show {
             is_quiet: true,
             trace,
+            trace_form: TraceForm::Hex,
+            log: None,
             form: Form::Text,
         },
         wires,
