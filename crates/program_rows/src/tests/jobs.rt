@@ -18,8 +18,8 @@ use std::test::Fail;
 
 /// Files in memory: a path, the file's number, and its bytes. Paths of one number are of one file.
 #[derive(Drop)]
-struct MemFiles<'a> {
-    files: &'a [(&'a str, u64, &'a [u8])],
+pub struct MemFiles<'a> {
+    pub files: &'a [(&'a str, u64, &'a [u8])],
 }
 
 impl<'a> Files for MemFiles<'a> {
@@ -57,7 +57,7 @@ const CONFIG: &[u8] = b"agent 8 00000000-0000-0000-0000-000000000000\n\
     component 10 1 0 1 1.0 AA\n";
 
 /// What is written of a job that ends with this fault or without one, and the fault's text.
-fn outcome(rt: &HostRuntime, end: Result<(), RunFault>, written: Vec<u8>) -> Result<Vec<u8>, Fail> {
+pub fn outcome(rt: &HostRuntime, end: Result<(), RunFault>, written: Vec<u8>) -> Result<Vec<u8>, Fail> {
     let mut text = written;
     if let Err(fault) = end {
         let told = format!(in rt.alloc(); "{fault}")?;
@@ -124,11 +124,11 @@ impl Wires<StreamLink<UnixStream>> for CutWires {
 
 /// Counts the turns that it sees, and can't tell of the one of this number. It begins with each file but that of the path "/".
 #[derive(Drop)]
-struct Counter {
+pub struct Counter {
     is_quiet: bool,
     traced: Option<TraceForm>,
     is_logged: bool,
-    turns: usize,
+    pub turns: usize,
     broken: usize,
     fault: Option<WatchFault>,
     has_ended: bool,
@@ -136,6 +136,20 @@ struct Counter {
 }
 
 impl Counter {
+    /// One that has seen nothing, and can't tell of the turn of this number.
+    pub fn new(broken: usize) -> Counter {
+        Counter {
+            is_quiet: false,
+            traced: None,
+            is_logged: false,
+            turns: 0,
+            broken,
+            fault: None,
+            has_ended: false,
+            lost: None,
+        }
+    }
+
     /// How a call ends.
     fn outcome(&self) -> Result<(), WatchFault>
         ensures ok { OnOk result (self.now.fault ≡ None) }
@@ -197,7 +211,7 @@ impl Watch for Counter {
 }
 
 /// The worked package: an image of 241 bytes, byte i being i, for class 10, identifier 1.
-fn package(rt: &HostRuntime) -> Result<Vec<u8>, Fail> {
+pub fn package(rt: &HostRuntime) -> Result<Vec<u8>, Fail> {
     let header =
         b"F018878CCB7D49439800A02F059ACA0201560000000000000000000000000000080001000113000100000000\
         01010000014100000200341201000A000100020000000200000056000000F100000001027632FE656275";
@@ -223,16 +237,7 @@ fn updated<'a, L: Link + Drop, S: Wires<L>>(
         ("linked to c", 1, config),
         ("linked to p", 2, package),
     ];
-    let mut watch = Counter {
-        is_quiet: false,
-        traced: None,
-        is_logged: false,
-        turns: 0,
-        broken,
-        fault: None,
-        has_ended: false,
-        lost: None,
-    };
+    let mut watch = Counter::new(broken);
     let mut output = match Output::new(rt.alloc(), Vec::new(rt.alloc())) {
         Ok(output) => output,
         Err(fault) => return Ok((outcome(rt, Err(fault), Vec::new(rt.alloc()))?, 0, None)),
@@ -265,7 +270,7 @@ fn updated<'a, L: Link + Drop, S: Wires<L>>(
 }
 
 /// The configuration, with a package.
-const WHOLE: &[u8] = b"agent 8 00000000-0000-0000-0000-000000000000\n\
+pub const WHOLE: &[u8] = b"agent 8 00000000-0000-0000-0000-000000000000\n\
     device 9 00000000-0000-0000-0000-000000000000\n\
     descriptor 0000 3412\n\
     component 10 1 0 1 1.0 AA\n\
