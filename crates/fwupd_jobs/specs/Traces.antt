@@ -38,7 +38,7 @@ head_of forms.Hex = []
 head_of forms.Capture = capture_header
 
 -- what is written of packets
-unfoldable pub trace_text : TraceForm → (device : ℕ) → List Sent → List ℕ
+abbrev pub trace_text : TraceForm → (device : ℕ) → List Sent → List ℕ
 trace_text form device packets = flat_map (packet_text form device) packets
 
 -- of a pair's packets behind so many, which are written already

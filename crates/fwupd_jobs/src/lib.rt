@@ -34,7 +34,7 @@ pub use faults::{RunFault, inspection_fault};
 pub use files::{FileFault, FileIdentity, Files};
 pub use inspecting::inspect_file;
 pub use jobs::perform_job;
-pub use logging::sel_file;
+pub use logging::{names_causes, sel_file};
 pub use output::Output;
 pub use places::Places;
 pub use planning::plan_file;

@@ -101,7 +101,7 @@ fn start_all(world: &mut World<'_, MemBank>, number: usize) -> Result<(), RunFau
     ensures fault { IfErr result MayEnd }
     ensures refused { IfErr result (λ e. e ≡ RunFault.Edge EdgeFault.Step → IsRefusedStart number world.old world.new) }
     ensures none { IfErr result (λ e. e ≡ RunFault.Edge EdgeFault.Frame → ⊥) }
-    ensures unseen { IfErr result (λ e. (w : WatchFault) → e ≡ told_by w → e ≡ RunFault.Memory) }
+    ensures unseen { IfErr result (λ e. (e ≡ RunFault.Trace → ⊥) × (e ≡ RunFault.Log → ⊥)) }
 {
     for place in 0..world.device_count() {
         let Some(node) = world.device_at(place) else {

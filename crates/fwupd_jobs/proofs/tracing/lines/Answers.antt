@@ -6,5 +6,5 @@ use Rattle.fwupd_jobs.proofs.tracing.lines.Goals as goal
 
 pub loop-place-preserved : goal.loop-place-preserved
 loop-place-preserved c =
-    lines_more c.args.device c.loop-place.place c.args.packets.now (sent_of c.in-Some.packet) c.loop-place.text.items c.push_line.new.text.items (trace_text c.args.device c.args.packets.now)
-    (sym c.in-Some.ensures.packet) c.loop-place.invariant c.in_ok-push_line.ensures.is
+    lines_more c.args.form c.args.device c.loop-place.place c.args.packets.now (sent_of c.in-Some.packet) c.loop-place.text.items c.push_packet.new.text.items (trace_text c.args.form c.args.device c.args.packets.now)
+    (sym c.in-Some.ensures.packet) c.loop-place.invariant c.in_ok-push_packet.ensures.is

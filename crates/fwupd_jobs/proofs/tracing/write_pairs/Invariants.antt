@@ -7,7 +7,7 @@ use Rattle.fwupd_jobs.proofs.tracing.write_pairs.Given as goal
 -- the lines of so many pairs are written, and their packets are counted
 abbrev pub invariant-loop-place : goal.invariant-loop-place
 invariant-loop-place g l = record {
-  lines : Appends (g.W.Write.contents l.fn.writer) (g.W.Write.contents l.writer) (pairs_text l.written l.world.sites l.place);
+  lines : Appends (g.W.Write.contents l.fn.writer) (g.W.Write.contents l.writer) (pairs_text l.form l.written l.world.sites l.place);
   counts : l.counts.items ≡ packet_counts (take l.place l.world.sites);
   few : length l.counts.items ≡ l.place;
 }
