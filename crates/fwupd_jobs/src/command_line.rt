@@ -36,6 +36,8 @@ pub enum Job<'a> {
 pub enum TraceForm {
     /// A line, with the packet in hexadecimal digits.
     Hex,
+    /// A line that tells what the packet says.
+    Text,
     /// What a capture's file holds of it, as Linux captures on an MCTP interface.
     Capture,
 }
@@ -242,8 +244,9 @@ CONFIG and the report are those of 'fwupd replay --help'.
 
 If standard error is a terminal, it shows the progress of the first device that loads an image.
 --trace writes a line for each packet: the turn, the device, to-device or to-agent, and the packet
-in hexadecimal digits; with --trace-format pcap a capture, as Linux makes it on an MCTP interface,
-in which a turn is a second. --sel writes the event log's records, 16 bytes each, for 'fwupd sel'.
+in hexadecimal digits; with --trace-format text what each packet says, with its number, which
+'deliver' of a schedule takes; with pcap a capture, as Linux makes it on an MCTP interface, in which
+a turn is a second. --sel writes the event log's records, 16 bytes each, for 'fwupd sel'.
 
 Faults: 'package: none' if CONFIG names fewer packages; 'socket: EID' if FOLDER/EID.sock can't be
 made, or is there already; after the report, 'edge: Frame' if a socket failed, 'edge: Step' at the
@@ -265,14 +268,14 @@ fn trace_option<'a>(alloc: Global) -> Arg<'a> {
 }
 
 /// The words of the forms of a trace.
-const TRACE_FORMS: &[&str] = &["hex", "pcap"];
+const TRACE_FORMS: &[&str] = &["hex", "text", "pcap"];
 
 /// The option that says in which form a trace is.
 fn trace_form_option<'a>(alloc: Global) -> Arg<'a> {
     Arg::new(alloc, "trace-format")
         .long("trace-format")
         .value_name("FORM")
-        .help("The form of the trace: lines of digits, or a capture")
+        .help("The form of the trace: lines of digits, lines that tell what packets say, or a capture")
         .value_parser(TRACE_FORMS)
         .default_value("hex")
 }
@@ -556,6 +559,7 @@ fn trace_form_in(matches: &ArgMatches<'_>) -> TraceForm
     ensures { AsksTraceForm (found_of matches.now) result }
 {
     match matches.get_str("trace-format") {
+        Some("text") => TraceForm::Text,
         Some("pcap") => TraceForm::Capture,
         _ => TraceForm::Hex,
     }

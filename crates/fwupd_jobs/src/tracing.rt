@@ -1,19 +1,19 @@
 //! The packets of a run, written as they go out.
 
-ghost use Rattle.std.specs.Prelude.{◌≡◌, [], IfOk, IfSome, OnOk, length, slice_get};
+ghost use Rattle.std.specs.Prelude.{◌≡◌, ◌<◌, ◌≤◌, ◌+◌, ◌^◌, [], Some, IfOk, IfSome, OnOk, length, slice_get};
 ghost use Rattle.std.specs.Io.Buffered.{writer_buffer, writer_contents};
 ghost use Rattle.std.specs.Io.KnownBytes.{Appends, Keeps};
 ghost use Rattle.fw_edge.specs.Ledgers.{packet_counts};
 ghost use Rattle.fw_text.specs.Printing.{Adds};
 ghost use Rattle.fw_world.specs.Packets.{sent_of};
-ghost use Rattle.fwupd_jobs.specs.Traces.{head_of, is_to_agent, packet_text, pair_text, pairs_text, trace_line, trace_text, way_of, written_at as written_of};
+ghost use Rattle.fwupd_jobs.specs.Traces.{head_of, is_to_agent, packet_text, pair_text, pairs_text, reader_next, reader_of_pair, reader_past, readers_for, trace_line, trace_text, way_of, written_at as written_of};
 
 use crate::command_line::TraceForm;
 use crate::running::WatchFault;
 use arrayvec::ArrayVec;
 use fd_core::MemBank;
 use fw_text::{push_number, push_words};
-use fw_trace::{capture_header, push_capture};
+use fw_trace::{PacketReader, capture_header, push_capture};
 use fw_world::{SentPacket, SentPackets, World};
 use std::alloc::{AllocError, Global};
 use std::io::{BufWriter, Write};
@@ -26,6 +26,8 @@ pub struct Trace<W: Write + Drop> {
     writer: BufWriter<W>,
     /// How many packets of each pair are written, in configured order.
     written: ArrayVec<usize, 16>,
+    /// What has read them, a reader for each pair.
+    readers: Vec<PacketReader>,
 }
 
 /// Whether a packet goes to the agent, as its third byte says.
@@ -67,18 +69,22 @@ fn push_line(
     Ok(())
 }
 
-/// Appends what is written of a packet in a form.
+/// Appends what is written of a packet in a form, with its number, from 1 on; its reader has read those before it, and goes on.
 fn push_packet(
     alloc: Global,
     form: TraceForm,
+    reader: &mut PacketReader,
     text: &mut Vec<u8>,
     device: u8,
+    number: usize,
     packet: &SentPacket<'_>,
 ) -> Result<(), AllocError>
-    ensures { OnOk result (Adds text.old.items text.new.items (packet_text form device (sent_of packet.now))) }
+    ensures text { OnOk result (Adds text.old.items text.new.items (packet_text form reader.old device number (sent_of packet.now))) }
+    ensures after { OnOk result (reader.new ≡ reader_next form reader.old (sent_of packet.now)) }
 {
     match form {
         TraceForm::Hex => push_line(alloc, text, device, packet),
+        TraceForm::Text => reader.push_line(alloc, text, packet.date, number, packet.bytes),
         TraceForm::Capture => {
             let is_sent = !is_to_agent(device, packet.bytes);
             push_capture(text, packet.date, is_sent, packet.bytes)
@@ -91,26 +97,30 @@ fn head(form: TraceForm) -> &'static [u8]
     ensures { result.now ≡ head_of form }
 {
     match form {
-        TraceForm::Hex => &[],
+        TraceForm::Hex | TraceForm::Text => &[],
         TraceForm::Capture => capture_header(),
     }
 }
 
-/// What is written of these packets.
+/// What is written of these packets, behind so many of their pair.
 fn lines(
     alloc: Global,
     form: TraceForm,
+    reader: &mut PacketReader,
     device: u8,
+    written: usize,
     packets: &SentPackets<'_>,
 ) -> Result<Vec<u8>, AllocError>
-    ensures { IfOk result (λ text. text.items ≡ trace_text form device packets.now) }
+    requires { written + length packets.now < 2 ^ 64 }
+    ensures text { IfOk result (λ text. text.items ≡ trace_text form reader.old device (written + 1) packets.now) }
+    ensures after { OnOk result (reader.new ≡ reader_past form reader.old packets.now) }
 {
     let mut text = Vec::new(alloc);
     for place in 0..packets.len() {
         let Some(packet) = packets.get(place) else {
             unreachable!()
         };
-        push_packet(alloc, form, &mut text, device, &packet)?;
+        push_packet(alloc, form, reader, &mut text, device, written + place + 1, &packet)?;
     }
     Ok(text)
 }
@@ -122,9 +132,11 @@ fn write_pair<W: Write>(
     world: &World<'_, MemBank>,
     place: usize,
     written: usize,
+    reader: &mut PacketReader,
     writer: &mut W,
 ) -> Result<usize, WatchFault>
-    ensures lines { OnOk result (Appends (W.contents writer.old) (W.contents writer.new) (pair_text form (slice_get world.now.sites place) written)) }
+    ensures lines { OnOk result (Appends (W.contents writer.old) (W.contents writer.new) (pair_text form (Some reader.old) (slice_get world.now.sites place) written)) }
+    ensures read { OnOk result (reader.new ≡ reader_of_pair form reader.old (slice_get world.now.sites place) written) }
     ensures count { IfOk result (λ n. IfSome (slice_get world.now.sites place) (λ x. n ≡ length x.packets)) }
 {
     let (Some(node), Some(packets)) = (world.device_at(place), world.packets_at(place)) else {
@@ -133,7 +145,7 @@ fn write_pair<W: Write>(
     if packets.len() <= written {
         return Ok(packets.len());
     }
-    let Ok(text) = lines(alloc, form, node.eid(), &packets.behind(written)) else {
+    let Ok(text) = lines(alloc, form, reader, node.eid(), written, &packets.behind(written)) else {
         return Err(WatchFault::Memory);
     };
     match writer.write_all(&text) {
@@ -158,19 +170,38 @@ fn write_pairs<W: Write>(
     form: TraceForm,
     world: &World<'_, MemBank>,
     written: &[usize],
+    readers: &mut [PacketReader],
     writer: &mut W,
 ) -> Result<ArrayVec<usize, 16>, WatchFault>
-    ensures lines { OnOk result (Appends (W.contents writer.old) (W.contents writer.new) (pairs_text form written.now world.now.sites (length world.now.sites))) }
+    requires { length world.now.sites ≤ length readers.old }
+    ensures lines { OnOk result (Appends (W.contents writer.old) (W.contents writer.new) (pairs_text form readers.old written.now world.now.sites (length world.now.sites))) }
     ensures counts { IfOk result (λ counts. counts.items ≡ packet_counts world.now.sites) }
 {
     let mut counts = ArrayVec::new();
     for place in 0..world.device_count() {
-        match write_pair(alloc, form, world, place, written_at(written, place), writer) {
+        let reader = &mut readers[place];
+        match write_pair(alloc, form, world, place, written_at(written, place), reader, writer) {
             Ok(count) => counts.push(count),
             Err(fault) => return Err(fault),
         }
     }
     Ok(counts)
+}
+
+/// Adds a reader for each pair that has none.
+fn add_readers(
+    world: &World<'_, MemBank>,
+    readers: &mut Vec<PacketReader>,
+) -> Result<(), AllocError>
+    ensures { OnOk result (readers.new.items ≡ readers_for readers.old.items world.now) }
+{
+    for place in readers.len()..world.device_count() {
+        let Some(node) = world.device_at(place) else {
+            unreachable!()
+        };
+        readers.push(PacketReader::new(node.unit(), world.agent().eid(), node.eid()))?;
+    }
+    Ok(())
 }
 
 impl<W: Write + Drop> Trace<W> {
@@ -180,6 +211,7 @@ impl<W: Write + Drop> Trace<W> {
     /// The head can't be written, or `Memory`.
     pub fn new(alloc: Global, form: TraceForm, writer: W) -> Result<Trace<W>, WatchFault>
         ensures written { IfOk result (λ t. t.written.items ≡ []) }
+        ensures unread { IfOk result (λ t. t.readers.items ≡ []) }
         ensures form { IfOk result (λ t. t.form ≡ form) }
         ensures head { IfOk result (λ t. Appends (W.contents writer) (writer_contents W.contents t.writer) (head_of form)) }
     {
@@ -195,6 +227,7 @@ impl<W: Write + Drop> Trace<W> {
             form,
             writer,
             written: ArrayVec::new(),
+            readers: Vec::new(alloc),
         })
     }
 
@@ -204,15 +237,19 @@ impl<W: Write + Drop> Trace<W> {
     /// They can't be written, or memory for their lines is refused.
     pub fn see(&mut self, world: &World<'_, MemBank>) -> Result<(), WatchFault>
         ensures lines { OnOk result (Appends (writer_contents W.contents self.old.writer) (writer_contents W.contents self.new.writer)
-            (pairs_text self.old.form self.old.written.items world.now.sites (length world.now.sites))) }
+            (pairs_text self.old.form (readers_for self.old.readers.items world.now) self.old.written.items world.now.sites (length world.now.sites))) }
         ensures counts { OnOk result (self.new.written.items ≡ packet_counts world.now.sites) }
         ensures form { self.new.form ≡ self.old.form }
     {
+        if add_readers(world, &mut self.readers).is_err() {
+            return Err(WatchFault::Memory);
+        }
         let counts = match write_pairs(
             self.alloc,
             self.form,
             world,
             self.written.as_slice(),
+            self.readers.as_mut_slice(),
             &mut self.writer,
         ) {
             Ok(counts) => counts,
