@@ -43,6 +43,9 @@ runs() {
     holds "cd crates/fwupd && fwupd run --trace /dev/full data/worlds/one.config '$work' 2>&1" 1 "$report" 'fwupd: trace'
     compare 'a run that is captured' "$report" "$(cd crates/fwupd && fwupd run --trace "$work/capture" --trace-format pcap data/worlds/one.config "$work" 2>&1)"
     compare 'its capture' '1523 423cc7bf45716c7a4b7907bc15a117bb16ac8bd553da43e8eb2664972b210a02' "$(wc -c < "$work/capture") $(sha256sum < "$work/capture" | cut -d ' ' -f 1)"
+    compare 'a run whose packets are told' "$report" "$(cd crates/fwupd && fwupd run --trace "$work/told" --trace-format text data/worlds/one.config "$work" 2>&1)"
+    compare 'what they say' "$(< crates/fwupd/data/worlds/update.told)" "$(< "$work/told")"
+    holds "cd crates/fwupd && fwupd run --trace /dev/full --trace-format text data/worlds/one.config '$work' 2>&1" 1 "$report" 'fwupd: trace'
     holds "cd crates/fwupd && fwupd run --trace /dev/full --trace-format pcap data/worlds/one.config '$work' 2>&1" 1 "$report" 'fwupd: trace'
     grep -v '^package' crates/fwupd/data/worlds/one.config > "$work/bare"
     row '' '1||fwupd: package: none' run "$work/bare" "$work/folder"
@@ -89,6 +92,8 @@ traced_replays() {
     compare 'its packets are those of a run' "$(< "$work/run")" "$(< "$work/replayed")"
     compare 'a captured replay' "$report" "$(cd crates/fwupd && fwupd replay --trace "$work/replayed" --trace-format pcap "$config" "$steps" 2>&1)"
     compare 'its capture' 423cc7bf45716c7a4b7907bc15a117bb16ac8bd553da43e8eb2664972b210a02 "$(sha256sum < "$work/replayed" | cut -d ' ' -f 1)"
+    compare 'a told replay' "$report" "$(cd crates/fwupd && fwupd replay --trace "$work/replayed" --trace-format text "$config" "$steps" 2>&1)"
+    compare 'what its packets say' "$(< crates/fwupd/data/worlds/update.told)" "$(< "$work/replayed")"
     holds "cd crates/fwupd && fwupd replay --trace /dev/full $config '$steps' 2>&1" 1 "$report" 'fwupd: trace'
     holds "cd crates/fwupd && fwupd replay --trace '$work/lost' $config '$lost' 2>&1" 0 'now 18' 'session Done sent 29'
     compare 'its packets' '29 18' "$(wc -l < "$work/lost") $(tail -n 1 "$work/lost" | cut -d ' ' -f 1)"
