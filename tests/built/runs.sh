@@ -41,6 +41,12 @@ runs() {
     compare 'its longest packets at 128' '122 132' "$(awk '{ print length($4) / 2 }' "$work/trace" | sort -n | tail -n 2 | xargs)"
     holds "cd crates/fwupd && fwupd run --trace '$work/none/trace' data/worlds/one.config '$work' 2>&1" 1 'fwupd: trace'
     holds "cd crates/fwupd && fwupd run --trace /dev/full data/worlds/one.config '$work' 2>&1" 1 "$report" 'fwupd: trace'
+    compare 'a run that is captured' "$report" "$(cd crates/fwupd && fwupd run --trace "$work/capture" --trace-format pcap data/worlds/one.config "$work" 2>&1)"
+    compare 'its capture' '1523 423cc7bf45716c7a4b7907bc15a117bb16ac8bd553da43e8eb2664972b210a02' "$(wc -c < "$work/capture") $(sha256sum < "$work/capture" | cut -d ' ' -f 1)"
+    compare 'a run whose packets are told' "$report" "$(cd crates/fwupd && fwupd run --trace "$work/told" --trace-format text data/worlds/one.config "$work" 2>&1)"
+    compare 'what they say' "$(< crates/fwupd/data/worlds/update.told)" "$(< "$work/told")"
+    holds "cd crates/fwupd && fwupd run --trace /dev/full --trace-format text data/worlds/one.config '$work' 2>&1" 1 "$report" 'fwupd: trace'
+    holds "cd crates/fwupd && fwupd run --trace /dev/full --trace-format pcap data/worlds/one.config '$work' 2>&1" 1 "$report" 'fwupd: trace'
     grep -v '^package' crates/fwupd/data/worlds/one.config > "$work/bare"
     row '' '1||fwupd: package: none' run "$work/bare" "$work/folder"
     row '' "1||fwupd: $work/none: unreadable" run "$work/none" "$work/folder"
@@ -60,9 +66,69 @@ traces() {
         compare "a trace into $name" 'fwupd: trace' "$(cd "$folder" && fwupd run --trace "$name" one.config . 2>&1)"
         compare "the files beside a trace into $name" "$before" "$(cd "$folder" && cksum one.config data/one.fwpkg)"
     done
+    for name in one.config linked data/one.fwpkg named; do
+        compare "a log into $name" 'fwupd: sel' "$(cd "$folder" && fwupd run --sel "$name" one.config . 2>&1)"
+        compare "the files beside a log into $name" "$before" "$(cd "$folder" && cksum one.config data/one.fwpkg)"
+    done
+    echo tick > "$folder/steps"
+    ln "$folder/steps" "$folder/same"
+    for name in one.config named steps ./same; do
+        compare "a replay's trace into $name" 'fwupd: trace' "$(cd "$folder" && fwupd replay --trace "$name" one.config steps 2>&1)"
+        compare "a replay's log into $name" 'fwupd: sel' "$(cd "$folder" && fwupd replay --sel "$name" one.config steps 2>&1)"
+        compare "the files beside them" "$before tick" "$(cd "$folder" && cksum one.config data/one.fwpkg) $(< "$folder/steps")"
+    done
     row '' '1||fwupd: package: none' run --trace "$work/early" "$work/bare" "$work/folder"
     row '' "1||fwupd: $work/none: unreadable" run --trace "$work/early" "$work/none" "$work/folder"
     compare 'no trace is made' '' "$(ls "$work/early" 2> "$work/err")"
+}
+
+# Replays that are traced: the packets of each step stand behind it, the report is the same, and so are both where a step isn't taken
+# or the disk is full.
+traced_replays() {
+    local config=data/worlds/one.config steps=$top/examples/update.schedule lost=$top/examples/first-answer-lost.schedule report
+    report=$(cd crates/fwupd && fwupd replay "$config" "$steps")
+    compare 'a traced replay' "$report" "$(cd crates/fwupd && fwupd replay --trace "$work/replayed" "$config" "$steps" 2>&1)"
+    (cd crates/fwupd && fwupd run --trace "$work/run" "$config" "$work" > "$work/report")
+    compare 'its packets are those of a run' "$(< "$work/run")" "$(< "$work/replayed")"
+    compare 'a captured replay' "$report" "$(cd crates/fwupd && fwupd replay --trace "$work/replayed" --trace-format pcap "$config" "$steps" 2>&1)"
+    compare 'its capture' 423cc7bf45716c7a4b7907bc15a117bb16ac8bd553da43e8eb2664972b210a02 "$(sha256sum < "$work/replayed" | cut -d ' ' -f 1)"
+    compare 'a told replay' "$report" "$(cd crates/fwupd && fwupd replay --trace "$work/replayed" --trace-format text "$config" "$steps" 2>&1)"
+    compare 'what its packets say' "$(< crates/fwupd/data/worlds/update.told)" "$(< "$work/replayed")"
+    holds "cd crates/fwupd && fwupd replay --trace /dev/full $config '$steps' 2>&1" 1 "$report" 'fwupd: trace'
+    holds "cd crates/fwupd && fwupd replay --trace '$work/lost' $config '$lost' 2>&1" 0 'now 18' 'session Done sent 29'
+    compare 'its packets' '29 18' "$(wc -l < "$work/lost") $(tail -n 1 "$work/lost" | cut -d ' ' -f 1)"
+    { cat "$steps"; echo 'cancel 10'; echo tick; } > "$work/stopped"
+    compare 'a replay that stops' "$report
+fwupd: step $(($(grep -vc '^#' "$steps") + 1)): NoSuchNode" "$(cd crates/fwupd && fwupd replay --trace "$work/replayed" "$config" "$work/stopped" 2>&1)"
+    compare 'its packets' "$(< "$work/run")" "$(< "$work/replayed")"
+}
+
+# The event log as a file: what a run and a replay write, also where a step isn't taken, and its lines.
+logs() {
+    local config=data/worlds/one.config steps=$top/examples/update.schedule wanted lines size
+    wanted=0100c10000000000000001090100ffff0200c10b0000000000000209010001000300c10c00000000000003090100ffff
+    lines='   1 |          0 | started   | device 9 package 1
+   2 |         11 | applied   | device 9 package 1 component 1
+   3 |         12 | activated | device 9 package 1'
+    (cd crates/fwupd && fwupd run --sel "$work/log" "$config" "$work" > "$work/report")
+    compare 'the log of a run' "$wanted" "$(od -An -v -tx1 "$work/log" | tr -d ' \n')"
+    compare 'its lines' "$lines" "$(fwupd sel "$work/log" 2>&1)"
+    (cd crates/fwupd && fwupd replay --sel "$work/other" "$config" "$steps" > "$work/report")
+    compare 'the log of a replay' '' "$(cmp "$work/log" "$work/other" 2>&1)"
+    { cat "$steps"; echo 'cancel 10'; } > "$work/stopped"
+    (cd crates/fwupd && fwupd replay --sel "$work/other" "$config" "$work/stopped" > "$work/report" 2>&1)
+    compare 'the log of a replay that stops' '' "$(cmp "$work/log" "$work/other" 2>&1)"
+    holds "cd crates/fwupd && fwupd run --sel /dev/full $config '$work' 2>&1" 1 'session Done' 'fwupd: sel'
+    holds "cd crates/fwupd && fwupd run --sel '$work/none/log' $config '$work' 2>&1" 1 'fwupd: sel'
+    for size in 1 15 17 2049 2064; do
+        head -c "$size" /dev/zero > "$work/cut"
+        row '' '1||fwupd: sel: Size' sel "$work/cut"
+    done
+    head -c 2048 /dev/zero > "$work/cut"
+    compare 'a whole log' 128 "$(fwupd sel "$work/cut" | wc -l)"
+    row '' '0||' sel /dev/null
+    row '' "1||fwupd: $work/none: unreadable" sel "$work/none"
+    holds "fwupd sel '$work/log' 2>&1 > /dev/full" 1 'fwupd: output'
 }
 
 # A trace of eight devices onto a full disk. The run ends with the turn in which more of it is there than is held back, 8,192 bytes.

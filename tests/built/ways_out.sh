@@ -4,7 +4,7 @@
 ways_out() {
     local words
     holds 'fwupd 2>&1' 2 'Usage: fwupd'
-    for words in answer 'answer 7' 'answer 255' 'answer x' 'answer 9 8' unknown inspect replay 'replay a' 'replay a b c' run 'run a' 'run a b c' plan 'plan a b' 'plan --package 0 a' 'plan --package x a' 'run --package 0 a b'; do
+    for words in answer 'answer 7' 'answer 255' 'answer x' 'answer 9 8' unknown inspect replay 'replay a' 'replay a b c' run 'run a' 'run a b c' 'run --trace-format x a b' 'replay --trace-format x a b' sel 'sel a b' plan 'plan a b' 'plan --package 0 a' 'plan --package x a' 'run --package 0 a b'; do
         holds "fwupd $words 2>&1" 2 error: --help
         holds "fwupd $words 2> /dev/null" 2
     done
@@ -15,6 +15,7 @@ ways_out() {
     holds 'fwupd answer --help' 0 'Usage: fwupd answer' $(causes answer)
     holds 'fwupd inspect --help' 0 'Usage: fwupd inspect' $(causes inspect)
     holds 'fwupd replay --help' 0 'Usage: fwupd replay' $(causes replay)
+    holds 'fwupd sel --help' 0 'Usage: fwupd sel' 'sel: Size' 2048 started activated cancelled applied failed
     holds 'fwupd plan --help' 0 'Usage: fwupd plan' 'package: none' --package NoRecord NothingToUpdate 'skip unsupported'
     holds 'fwupd run --help' 0 'Usage: fwupd run' 'package: none' 'socket: EID' 'edge: Frame' 'edge: Step' 'session EID: WORD' --check --package
     holds 'fwupd answer 9 < / 2>&1' 1 'fwupd: input'

@@ -4,7 +4,9 @@ mod Checks
 mod Ended
 mod Examined
 mod Foretold
+mod Named
 mod Packed
+mod Seen
 mod Started
 mod Told
 mod Traced

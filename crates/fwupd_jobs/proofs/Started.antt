@@ -20,7 +20,7 @@ use Rattle.fw_world.specs.declared.step.Step.{Step}
 use Rattle.fw_world.specs.declared.step.Step.TheVariants as steps
 use Rattle.fw_edge.specs.declared.driving.EdgeFault.{EdgeFault}
 use Rattle.fw_edge.specs.declared.driving.EdgeFault.TheVariants as edges
-use Rattle.fwupd_jobs.specs.Running.{AreLinked, IsCaused, IsLost, IsRefusedStart, IsUnlinked, MayEnd, NamesLost, StepsLead, StepsSeen, Updates, WatchOf, starts_of, told_by, told_of}
+use Rattle.fwupd_jobs.specs.Running.{AreLinked, IsCaused, IsLost, IsRefusedStart, IsTold, IsUnlinked, MayEnd, NamesLost, StepsLead, StepsSeen, Updates, WatchOf, starts_of, told_by, told_of}
 use Rattle.fwupd_jobs.specs.declared.faults.RunFault.{RunFault}
 use Rattle.fwupd_jobs.specs.declared.faults.RunFault.TheVariants as told
 use Rattle.fwupd_jobs.specs.declared.running.WatchFault.{WatchFault}
@@ -164,27 +164,52 @@ begun_seen number w v place h =
 -- what ends the watch is told otherwise than what ends a turn
 pub watched_apart : (f : WatchFault) (e : EdgeFault) → told_by f ≡ told.Edge e → ⊥
 watched_apart watches.Unwritten e h = cc
+watched_apart watches.Unlogged e h = cc
 watched_apart watches.Memory e h = cc
 
-pub turned_apart : (e : EdgeFault) → told_of e ≡ told.Trace → ⊥
+turned_apart : (e : EdgeFault) → told_of e ≡ told.Trace → ⊥
 turned_apart edges.Frame h = cc
 turned_apart edges.Step h = cc
 turned_apart edges.Memory h = cc
 
--- what looks on can't be written
-pub unwritten_by : (f : WatchFault) (seen : Option WatchFault) → told_by f ≡ told.Trace → seen ≡ Some f → seen ≡ Some watches.Unwritten
-unwritten_by watches.Unwritten seen e is = is
-unwritten_by watches.Memory seen e is = absurd (let h : told.Memory ≡ told.Trace = e in cc)
+turned_from_log : (e : EdgeFault) → told_of e ≡ told.Log → ⊥
+turned_from_log edges.Frame h = cc
+turned_from_log edges.Step h = cc
+turned_from_log edges.Memory h = cc
+
+-- the fault of a turn is none of what looks on
+pub turned_told : (e : EdgeFault) (t : RunFault) (watched : WatchOf) → t ≡ told_of e → IsTold t watched
+turned_told e t watched is = record { trace = λ h. absurd (turned_apart e (sym is ∙ h)); log = λ h. absurd (turned_from_log e (sym is ∙ h)) }
+
+-- the fault of what looks on is told
+traced_by : (f : WatchFault) (seen : Option WatchFault) → told_by f ≡ told.Trace → seen ≡ Some f → seen ≡ Some watches.Unwritten
+traced_by watches.Unwritten seen e is = is
+traced_by watches.Unlogged seen e is = absurd (let h : told.Log ≡ told.Trace = e in cc)
+traced_by watches.Memory seen e is = absurd (let h : told.Memory ≡ told.Trace = e in cc)
+
+logged_by : (f : WatchFault) (seen : Option WatchFault) → told_by f ≡ told.Log → seen ≡ Some f → seen ≡ Some watches.Unlogged
+logged_by watches.Unwritten seen e is = absurd (let h : told.Trace ≡ told.Log = e in cc)
+logged_by watches.Unlogged seen e is = is
+logged_by watches.Memory seen e is = absurd (let h : told.Memory ≡ told.Log = e in cc)
+
+pub unwritten_by : (f : WatchFault) (t : RunFault) (watched : WatchOf) → t ≡ told_by f → watched.fault ≡ Some f → IsTold t watched
+unwritten_by f t watched is had = record { trace = λ e. traced_by f watched.fault (sym is ∙ e) had; log = λ e. logged_by f watched.fault (sym is ∙ e) had }
 
 -- and its first fault stays
-pub first_still : (r : Result (Prim.Unit {0}) WatchFault) (old new : Option WatchFault) (f : WatchFault) → old ≡ Some f → IfSome old (λ g. r ≡ Err g) → IfErr r (λ g. new ≡ Some g) → new ≡ Some f
+first_still : (r : Result (Prim.Unit {0}) WatchFault) (old new : Option WatchFault) (f : WatchFault) → old ≡ Some f → IfSome old (λ g. r ≡ Err g) → IfErr r (λ g. new ≡ Some g) → new ≡ Some f
 first_still r old new f e first after =
     let is : r ≡ Err f = subst (λ o. IfSome o (λ g. r ≡ Err g)) e first in
     subst (λ q. IfErr q (λ g. new ≡ Some g)) is after
 
+pub told_still : (r : Result (Prim.Unit {0}) WatchFault) (t : RunFault) (old new : WatchOf) → IsTold t old → IfSome old.fault (λ g. r ≡ Err g) → IfErr r (λ g. new.fault ≡ Some g) → IsTold t new
+told_still r t old new h first after = record {
+  trace = λ e. first_still r old.fault new.fault watches.Unwritten (h.trace e) first after;
+  log = λ e. first_still r old.fault new.fault watches.Unlogged (h.log e) first after;
+}
+
 -- the cause of an update's end
 pub update_caused : (number : ℕ) (w v : WorldOf) (fault : RunFault) (watched : WatchOf) → MayEnd fault → (fault ≡ told.Edge edges.Step → IsRefusedStart number w v ⊎ (v.now ≡ 2 ^ 32 - 1))
-    → (fault ≡ told.Trace → watched.fault ≡ Some watches.Unwritten) → watched.has_ended ≡ true → (fault ≡ told.Memory) ⊎ IsCaused number w v fault watched
+    → IsTold fault watched → watched.has_ended ≡ true → (fault ≡ told.Memory) ⊎ IsCaused number w v fault watched
 update_caused number w v fault watched (inl e) step unwritten ended = inl e
 update_caused number w v fault watched (inr b) step unwritten ended = inr (record { broken = b; stopped = step; unwritten = unwritten; let_end = ended })
 
@@ -297,4 +322,4 @@ lost_told failures w olds news lost devices failed told = elim (told devices) [
 -- what it was told changes nothing of why a run doesn't go on
 pub caused_still : (number : ℕ) (w v : WorldOf) (fault : RunFault) (before now : WatchOf) → now.fault ≡ before.fault → now.has_ended ≡ before.has_ended → IsCaused number w v fault before → IsCaused number w v fault now
 caused_still number w v fault before now same ended h =
-    record { broken = h.broken; stopped = h.stopped; unwritten = λ e. same ∙ h.unwritten e; let_end = ended ∙ h.let_end }
+    record { broken = h.broken; stopped = h.stopped; unwritten = record { trace = λ e. same ∙ h.unwritten.trace e; log = λ e. same ∙ h.unwritten.log e }; let_end = ended ∙ h.let_end }

@@ -1,16 +1,18 @@
 -- What is told of a job on a world.
-use Rattle.std.proofs.Common.{◌++◌, take, ◌≡◌, ◌⊎◌, ◌<◌, ◌+◌, ℕ, Bool, List, Option, None, Some, inl, inr, length, refl, ap, subst}
+use Rattle.std.proofs.Common.{◌++◌, ◌∷◌, take, true, ◌≡◌, ◌⊎◌, ◌<◌, ◌+◌, ℕ, Bool, List, Option, None, Some, inl, inr, length, refl, ap, subst}
 use Rattle.fw_json.specs.Forms.{report_in}
 use Rattle.fw_json.specs.declared.forms.Form.{Form}
+use Rattle.fw_script.specs.Configs.{ConfigOf, config_of}
 use Rattle.fw_script.specs.Schedules.{script_of}
 use Rattle.fw_world.specs.Headline.{IsOpeningWorld, IsSafeWorld, PacketsAreSafe}
 use Rattle.fw_world.specs.Worlds.{WorldOf}
 use Rattle.fw_world.specs.declared.step.Step.{Step}
 use Rattle.fw_world.specs.declared.step.StepFault.{StepFault}
-use Rattle.fwupd_jobs.specs.Replayed.{IsReplayed, IsReport, Leaves, ReplayEnds, Reports}
+use Rattle.fwupd_jobs.specs.Replayed.{IsReplayed, IsReport, Leaves, ReplayEnds, Reports, ReportsReplay}
 use Rattle.fwupd_jobs.specs.Outputs.{FailsToPrint, OutputOf, Prints}
 use Rattle.fwupd_jobs.specs.Promises.{IsSafeSince}
-use Rattle.fwupd_jobs.specs.Running.{DrivingEnds, IsUnlinked, IsWatched, LacksLink, LacksTrace, NamesLost, ShowOf, StepsLead, StepsSeen, UpdateEnds, WatchOf, shown_of, starts_of}
+use Rattle.fwupd_jobs.specs.declared.running.WatchFault.{WatchFault}
+use Rattle.fwupd_jobs.specs.Running.{DrivingEnds, IsApart, IsBarred, IsUnlinked, IsWatched, LacksLink, LacksTrace, NamesLost, ShowOf, StepsLead, StepsSeen, UpdateEnds, WatchOf, shown_of, starts_of, told_by}
 use Rattle.fwupd_jobs.specs.Setups.{FileOf, IsSetup, LacksPackage, Says, SetupFails, TextFails}
 use Rattle.fw_edge.specs.declared.driving.EdgeFault.TheVariants as edges
 use Rattle.fwupd_jobs.specs.declared.faults.RunFault.{RunFault}
@@ -63,10 +65,36 @@ update_ends files path number show refuses lacks w v told watched before now beg
     inr (inr (record { kept = h.1; cause = unopened files path number show refuses lacks w told watched begins h.0 }))
 
 -- a replay whose schedule isn't read
-pub schedule_ends : (files : List ℕ → FileOf) (config schedule : List ℕ) (form : Form) (w : WorldOf) (told : RunFault) (before : OutputOf) → IsSetup files config w
-    → (told ≡ faults.Memory) ⊎ TextFails script_of files schedule told → ReplayEnds files config schedule form told before before
-schedule_ends files config schedule form w told before setup (inl e) = inr (inr (record { kept = refl; cause = inl e }))
-schedule_ends files config schedule form w told before setup (inr f) = inr (inr (record { kept = refl; cause = inr (inr (record { world = w; setup = setup; fails = f })) }))
+pub schedule_ends : (files : List ℕ → FileOf) (config schedule : List ℕ) (show : ShowOf) (refuses : List ℕ → Bool) (w : WorldOf) (told : RunFault) (watched : WatchOf) (before : OutputOf) → IsSetup files config w
+    → (told ≡ faults.Memory) ⊎ TextFails script_of files schedule told → ReplayEnds files config schedule show refuses told watched before before
+schedule_ends files config schedule show refuses w told watched before setup (inl e) = inr (inr (inl (record { kept = refl; cause = inl e })))
+schedule_ends files config schedule show refuses w told watched before setup (inr f) =
+    inr (inr (inl (record { kept = refl; cause = inr (inr (record { world = w; setup = setup; fails = f })) })))
+
+-- a replay that what looks on doesn't let begin
+pub unkept_ends : (files : List ℕ → FileOf) (config schedule : List ℕ) (show : ShowOf) (refuses : List ℕ → Bool) (told : RunFault) (watched : WatchOf) (before : OutputOf) (c : ConfigOf) (paths : List (List ℕ))
+    → Says config_of (files config) c → paths ≡ c.packages → (told ≡ faults.Memory) ⊎ IsBarred files refuses show (schedule ∷ config ∷ paths) told watched → ReplayEnds files config schedule show refuses told watched before before
+unkept_ends files config schedule show refuses told watched before c paths says same (inl e) = inr (inr (inl (record { kept = refl; cause = inl e })))
+unkept_ends files config schedule show refuses told watched before c paths says same (inr b) =
+    inr (inr (inr (inr (record { kept = refl; says = c; is = says; barred = subst (λ ps. IsBarred files refuses show (schedule ∷ config ∷ ps) told watched) same b }))))
+
+-- a replay whose report is written, and what looked on had a fault
+pub unseen_ends : (files : List ℕ → FileOf) (config schedule : List ℕ) (show : ShowOf) (refuses : List ℕ → Bool) (fault : WatchFault) (told : RunFault) (watched : WatchOf) (before now : OutputOf)
+    → Reports files config schedule show.form None before now → told ≡ told_by fault → watched.fault ≡ Some fault → watched.has_ended ≡ true → ReplayEnds files config schedule show refuses told watched before now
+unseen_ends files config schedule show refuses fault told watched before now reports is had ended =
+    inr (inr (inr (inl (record { reports = reports; fault = fault; is = is; had = had; let_end = ended }))))
+
+-- and it had none
+pub seen_ends : (files : List ℕ → FileOf) (config schedule : List ℕ) (show : ShowOf) (watched : WatchOf) (before now : OutputOf) (c : ConfigOf) (paths : List (List ℕ))
+    → Says config_of (files config) c → paths ≡ c.packages → IsApart files show (schedule ∷ config ∷ paths) → watched.shows ≡ shown_of show → watched.fault ≡ None → watched.has_ended ≡ true
+    → Reports files config schedule show.form None before now → ReportsReplay files config schedule show watched before now
+seen_ends files config schedule show watched before now c paths says same apart shown seen ended reports = record {
+  reports = reports;
+  apart = record { says = c; is = says; apart = subst (λ ps. IsApart files show (schedule ∷ config ∷ ps)) same apart };
+  shown = shown;
+  seen = seen;
+  let_end = ended;
+}
 
 -- the report of what its steps leave
 pub report_there : (files : List ℕ → FileOf) (config schedule : List ℕ) (form : Form) (w : WorldOf) (steps slice : List Step) (fault : Option (ℕ × StepFault)) (text : List ℕ)
@@ -75,23 +103,24 @@ report_there files config schedule form w steps slice fault text setup says same
     record { world = w; setup = setup; steps = steps; says = says; replayed = subst (λ ss. IsReplayed w ss fault form text) same h }
 
 -- it isn't written whole
-pub breaks_off : (files : List ℕ → FileOf) (config schedule : List ℕ) (form : Form) (fault : Option (ℕ × StepFault)) (text : List ℕ) (before now : OutputOf)
-    → IsReport files config schedule form fault text → FailsToPrint before now text → ReplayEnds files config schedule form faults.Output before now
-breaks_off files config schedule form fault text before now report begun = inr (inl (record { is = refl; fault = fault; text = text; report = report; begun = begun }))
+pub breaks_off : (files : List ℕ → FileOf) (config schedule : List ℕ) (show : ShowOf) (refuses : List ℕ → Bool) (fault : Option (ℕ × StepFault)) (text : List ℕ) (watched : WatchOf) (before now : OutputOf)
+    → IsReport files config schedule show.form fault text → FailsToPrint before now text → ReplayEnds files config schedule show refuses faults.Output watched before now
+breaks_off files config schedule show refuses fault text watched before now report begun =
+    inr (inl (record { is = refl; fault = fault; text = text; report = report; begun = begun }))
 
 -- a step isn't taken
 pub place_within : (w : WorldOf) (steps : List Step) (fault : Option (ℕ × StepFault)) (form : Form) (text : List ℕ) (place : ℕ) (why : StepFault) → IsReplayed w steps fault form text → fault ≡ Some (place, why)
     → place < length steps
 place_within w steps fault form text place why h e = (subst (λ f. IsReplayed w steps f form text) e h).left.0
 
-pub step_ends : (files : List ℕ → FileOf) (config schedule : List ℕ) (form : Form) (fault : Option (ℕ × StepFault)) (text : List ℕ) (place number : ℕ) (why : StepFault) (before now : OutputOf)
-    → IsReport files config schedule form fault text → fault ≡ Some (place, why) → number ≡ place + 1 → Prints before now text
-    → ReplayEnds files config schedule form (faults.Step number why) before now
-step_ends files config schedule form fault text place number why before now report e is written = inl (record {
+pub step_ends : (files : List ℕ → FileOf) (config schedule : List ℕ) (show : ShowOf) (refuses : List ℕ → Bool) (fault : Option (ℕ × StepFault)) (text : List ℕ) (place number : ℕ) (why : StepFault) (watched : WatchOf) (before now : OutputOf)
+    → IsReport files config schedule show.form fault text → fault ≡ Some (place, why) → number ≡ place + 1 → Prints before now text
+    → ReplayEnds files config schedule show refuses (faults.Step number why) watched before now
+step_ends files config schedule show refuses fault text place number why watched before now report e is written = inl (record {
   place = place;
   fault = why;
   is = ap (λ n. faults.Step n why) is;
-  reports = record { text = text; report = subst (λ f. IsReport files config schedule form f text) e report; written = written };
+  reports = record { text = text; report = subst (λ f. IsReport files config schedule show.form f text) e report; written = written };
 })
 
 -- all are

@@ -7,30 +7,52 @@ use Rattle.std.proofs.lemmas.List.{map-append}
 use Rattle.exch_lane.specs.Lanes.{Sent}
 use Rattle.fw_edge.specs.Ledgers.{packet_counts}
 use Rattle.fw_node.specs.Nodes.{DeviceNodeOf}
+use Rattle.fw_trace.specs.Lines.{ReaderOf}
 use Rattle.fw_world.specs.Worlds.{SiteOf}
 use Rattle.fwupd_jobs.proofs.Started.{take_next}
-use Rattle.fwupd_jobs.specs.Traces.{pair_text, pairs_text, trace_line, trace_text, written_at}
+use Rattle.fwupd_jobs.specs.Traces.{packet_text, pair_text, pairs_text, reader_next, reader_of_pair, reader_past, trace_text, written_at}
+use Rattle.fwupd_jobs.specs.declared.command_line.TraceForm.{TraceForm}
 
 -- the packets of a pair behind so many
-pub pair_at : (o : Option SiteOf) (n : DeviceNodeOf) (ps : List Sent) (written device : ℕ) → option_map (λ x. x.node) o ≡ Some n → option_map (λ x. x.packets) o ≡ Some ps
-    → device ≡ n.endpoint.eid → pair_text o written ≡ trace_text device (drop written ps)
-pair_at None n ps written device at has is = absurd cc
-pair_at (Some x) n ps written device at has is =
+pub pair_at : (form : TraceForm) (r : ReaderOf) (o : Option SiteOf) (n : DeviceNodeOf) (ps : List Sent) (written device : ℕ) → option_map (λ x. x.node) o ≡ Some n → option_map (λ x. x.packets) o ≡ Some ps
+    → device ≡ n.endpoint.eid → pair_text form (Some r) o written ≡ trace_text form r device (written + 1) (drop written ps)
+pair_at form r None n ps written device at has is = absurd cc
+pair_at form r (Some x) n ps written device at has is =
     let node : x.node ≡ n = (let h : Some x.node ≡ Some n = at in cc) in
     let packets : x.packets ≡ ps = (let h : Some x.packets ≡ Some ps = has in cc) in
-    ap (λ d. trace_text d (drop written x.packets)) (ap (λ m. m.endpoint.eid) node ∙ sym is) ∙ ap (λ qs. trace_text device (drop written qs)) packets
+    ap (λ d. trace_text form r d (written + 1) (drop written x.packets)) (ap (λ m. m.endpoint.eid) node ∙ sym is) ∙ ap (λ qs. trace_text form r device (written + 1) (drop written qs)) packets
 
--- one line more
-pub lines_more : (device place : ℕ) (ps : List Sent) (p : Sent) (before after all : List ℕ) → slice_get ps place ≡ Some p → before ++ trace_text device (drop place ps) ≡ all
-    → after ≡ before ++ trace_line device p → after ++ trace_text device (drop (place + 1) ps) ≡ all
-lines_more device place ps p before after all at h is =
-    let next : place + 1 ≡ suc place = omega arith in
-    rw (is, next) (append_assoc before (trace_line device p) (trace_text device (drop (suc place) ps)) ∙ ap (λ it. before ++ it) (sym (first ps place at)) ∙ h)
-  where
-    first : (qs : List Sent) (n : ℕ) → slice_get qs n ≡ Some p → trace_text device (drop n qs) ≡ trace_line device p ++ trace_text device (drop (suc n) qs)
-    first [] n e = absurd (cc)
-    first (q ∷ qs) zero e = let same : q ≡ p = cc in ap (λ r. trace_line device r ++ trace_text device qs) same
-    first (q ∷ qs) (suc n) e = first qs n e
+pub reader_at : (form : TraceForm) (r : ReaderOf) (o : Option SiteOf) (ps : List Sent) (written : ℕ) → option_map (λ x. x.packets) o ≡ Some ps → reader_of_pair form r o written ≡ reader_past form r (drop written ps)
+reader_at form r None ps written has = absurd cc
+reader_at form r (Some x) ps written has =
+    let packets : x.packets ≡ ps = (let h : Some x.packets ≡ Some ps = has in cc) in ap (λ qs. reader_past form r (drop written qs)) packets
+
+-- one packet more
+text_next : (form : TraceForm) (r : ReaderOf) (device number place : ℕ) (ps : List Sent) (p : Sent) → slice_get ps place ≡ Some p
+    → trace_text form r device number (drop place ps) ≡ packet_text form r device number p ++ trace_text form (reader_next form r p) device (number + 1) (drop (suc place) ps)
+text_next form r device number place [] p at = absurd (cc)
+text_next form r device number zero (q ∷ qs) p at =
+    let same : q ≡ p = cc in ap (λ z. packet_text form r device number z ++ trace_text form (reader_next form r z) device (number + 1) qs) same
+text_next form r device number (suc place) (q ∷ qs) p at = text_next form r device number place qs p at
+
+past_next : (form : TraceForm) (r : ReaderOf) (place : ℕ) (ps : List Sent) (p : Sent) → slice_get ps place ≡ Some p → reader_past form r (drop place ps) ≡ reader_past form (reader_next form r p) (drop (suc place) ps)
+past_next form r place [] p at = absurd (cc)
+past_next form r zero (q ∷ qs) p at = let same : q ≡ p = cc in ap (λ z. reader_past form (reader_next form r z) qs) same
+past_next form r (suc place) (q ∷ qs) p at = past_next form r place qs p at
+
+pub lines_more : (form : TraceForm) (r s : ReaderOf) (device written place : ℕ) (ps : List Sent) (p : Sent) (before after all : List ℕ) → slice_get ps place ≡ Some p
+    → before ++ trace_text form r device (written + place + 1) (drop place ps) ≡ all → after ≡ before ++ packet_text form r device (written + place + 1) p → s ≡ reader_next form r p
+    → after ++ trace_text form s device (written + (place + 1) + 1) (drop (place + 1) ps) ≡ all
+lines_more form r s device written place ps p before after all at h is next =
+    let further : place + 1 ≡ suc place = omega arith in
+    let number : written + (place + 1) + 1 ≡ written + place + 1 + 1 = omega arith in
+    rw (is, number, further, next) (append_assoc before (packet_text form r device (written + place + 1) p) (trace_text form (reader_next form r p) device (written + place + 1 + 1) (drop (suc place) ps))
+    ∙ ap (λ it. before ++ it) (sym (text_next form r device (written + place + 1) place ps p at)) ∙ h)
+
+pub past_more : (form : TraceForm) (r s : ReaderOf) (place : ℕ) (ps : List Sent) (p : Sent) (all : ReaderOf) → slice_get ps place ≡ Some p → reader_past form r (drop place ps) ≡ all → s ≡ reader_next form r p
+    → reader_past form s (drop (place + 1) ps) ≡ all
+past_more form r s place ps p all at h next =
+    let further : place + 1 ≡ suc place = omega arith in rw (further, next) (sym (past_next form r place ps p at) ∙ h)
 
 -- and how many there are
 pub pair_size : (o : Option SiteOf) (ps : List Sent) (n : ℕ) → option_map (λ x. x.packets) o ≡ Some ps → n ≡ length ps → IfSome o (λ x. n ≡ length x.packets)
@@ -40,18 +62,23 @@ pair_size (Some x) ps n has is =
     is ∙ ap length (sym packets)
 
 -- one pair more
-pub pairs_more : (before now after : Option (List ℕ)) (written : List ℕ) (sites : List SiteOf) (place : ℕ) → Appends before now (pairs_text written sites place)
-    → Appends now after (pair_text (slice_get sites place) (written_at written place)) → Appends before after (pairs_text written sites (place + 1))
-pairs_more before now after written sites place h k =
+pub pairs_more : (form : TraceForm) (readers : List ReaderOf) (before now after : Option (List ℕ)) (written : List ℕ) (sites : List SiteOf) (place : ℕ) → Appends before now (pairs_text form readers written sites place)
+    → Appends now after (pair_text form (slice_get readers place) (slice_get sites place) (written_at written place)) → Appends before after (pairs_text form readers written sites (place + 1))
+pairs_more form readers before now after written sites place h k =
     let next : suc place ≡ place + 1 = omega arith in
-    subst (λ n. Appends before after (pairs_text written sites n)) next (Appends-trans before now after (pairs_text written sites place) (pair_text (slice_get sites place) (written_at written place)) h k)
+    subst (λ n. Appends before after (pairs_text form readers written sites n)) next
+    (Appends-trans before now after (pairs_text form readers written sites place) (pair_text form (slice_get readers place) (slice_get sites place) (written_at written place)) h k)
 
 -- they are written
-pub pair_written : (before now : Option (List ℕ)) (o : Option SiteOf) (n : DeviceNodeOf) (ps unwritten : List Sent) (written device : ℕ) (bytes text : List ℕ) → Appends before now bytes → bytes ≡ text
-    → text ≡ trace_text device unwritten → unwritten ≡ drop written ps → option_map (λ x. x.node) o ≡ Some n → option_map (λ x. x.packets) o ≡ Some ps
-    → device ≡ n.endpoint.eid → Appends before now (pair_text o written)
-pair_written before now o n ps unwritten written device bytes text h same is left at has own =
-    subst (Appends before now) (same ∙ is ∙ ap (trace_text device) left ∙ sym (pair_at o n ps written device at has own)) h
+pub pair_written : (form : TraceForm) (r : ReaderOf) (before now : Option (List ℕ)) (o : Option SiteOf) (n : DeviceNodeOf) (ps unwritten : List Sent) (written device : ℕ) (bytes text : List ℕ) → Appends before now bytes
+    → bytes ≡ text → text ≡ trace_text form r device (written + 1) unwritten → unwritten ≡ drop written ps → option_map (λ x. x.node) o ≡ Some n → option_map (λ x. x.packets) o ≡ Some ps
+    → device ≡ n.endpoint.eid → Appends before now (pair_text form (Some r) o written)
+pair_written form r before now o n ps unwritten written device bytes text h same is left at has own =
+    subst (Appends before now) (same ∙ is ∙ ap (trace_text form r device (written + 1)) left ∙ sym (pair_at form r o n ps written device at has own)) h
+
+pub pair_read : (form : TraceForm) (r s : ReaderOf) (o : Option SiteOf) (ps unwritten : List Sent) (written : ℕ) → s ≡ reader_past form r unwritten → unwritten ≡ drop written ps → option_map (λ x. x.packets) o ≡ Some ps
+    → s ≡ reader_of_pair form r o written
+pair_read form r s o ps unwritten written is left has = is ∙ ap (reader_past form r) left ∙ sym (reader_at form r o ps written has)
 
 -- none is left
 drop_beyond : {A : Type 0} (n : ℕ) (xs : List A) → length xs ≤ n → drop n xs ≡ []
@@ -60,11 +87,14 @@ drop_beyond (suc n) [] h = refl
 drop_beyond zero (x ∷ xs) h = absurd (omega arith)
 drop_beyond (suc n) (x ∷ xs) h = drop_beyond n xs (omega arith)
 
-pub pair_done : (known : Option (List ℕ)) (o : Option SiteOf) (n : DeviceNodeOf) (ps : List Sent) (written : ℕ) → length ps ≤ written → option_map (λ x. x.node) o ≡ Some n
-    → option_map (λ x. x.packets) o ≡ Some ps → Appends known known (pair_text o written)
-pair_done known o n ps written past at has =
-    subst (Appends known known) (ap (trace_text n.endpoint.eid) (sym (drop_beyond written ps past)) ∙ sym (pair_at o n ps written n.endpoint.eid at has refl))
+pub pair_done : (form : TraceForm) (r : ReaderOf) (known : Option (List ℕ)) (o : Option SiteOf) (n : DeviceNodeOf) (ps : List Sent) (written : ℕ) → length ps ≤ written → option_map (λ x. x.node) o ≡ Some n
+    → option_map (λ x. x.packets) o ≡ Some ps → Appends known known (pair_text form (Some r) o written)
+pair_done form r known o n ps written past at has =
+    subst (Appends known known) (ap (trace_text form r n.endpoint.eid (written + 1)) (sym (drop_beyond written ps past)) ∙ sym (pair_at form r o n ps written n.endpoint.eid at has refl))
     (Appends-nil known)
+
+pub read_done : (form : TraceForm) (r : ReaderOf) (o : Option SiteOf) (ps : List Sent) (written : ℕ) → length ps ≤ written → option_map (λ x. x.packets) o ≡ Some ps → r ≡ reader_of_pair form r o written
+read_done form r o ps written past has = ap (reader_past form r) (sym (drop_beyond written ps past)) ∙ sym (reader_at form r o ps written has)
 
 -- one pair more is counted
 site_there : (xs : List SiteOf) (i : ℕ) → i < length xs → (x : SiteOf) × (slice_get xs i ≡ Some x)

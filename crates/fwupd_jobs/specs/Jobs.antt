@@ -4,9 +4,10 @@ use Rattle.fwupd_jobs.specs.Answering.{AnswerEnds, Answers}
 use Rattle.fwupd_jobs.specs.Built.{BuildEnds, Builds}
 use Rattle.fwupd_jobs.specs.Checked.{CheckedEnds, ReportsChecked}
 use Rattle.fwupd_jobs.specs.Inspected.{InspectEnds, Inspects}
+use Rattle.fwupd_jobs.specs.Logs.{LogEnds, LogIsTold}
 use Rattle.fwupd_jobs.specs.Outputs.{OutputOf}
 use Rattle.fwupd_jobs.specs.Planned.{PlanEnds, Plans}
-use Rattle.fwupd_jobs.specs.Replayed.{ReplayEnds, Reports}
+use Rattle.fwupd_jobs.specs.Replayed.{ReplayEnds, ReportsReplay}
 use Rattle.fwupd_jobs.specs.Running.{WatchOf, show_of}
 use Rattle.fwupd_jobs.specs.Setups.{FileOf, any_file}
 use Rattle.fwupd_jobs.specs.declared.command_line.Job.{Job}
@@ -17,19 +18,22 @@ use Rattle.fwupd_jobs.specs.declared.faults.RunFault.{RunFault}
 abbrev pub IsDone : Job → (files : List ℕ → FileOf) → (read_before read_now : Option (List ℕ)) → WatchOf → (is_known : Bool) → (held : List ℕ → Option (List ℕ)) → (before now : OutputOf) → Type 0
 IsDone (jobs.Answer endpoint) files read_before read_now watched is_known held before now = Answers endpoint read_before read_now before now
 IsDone (jobs.Inspect path form) files read_before read_now watched is_known held before now = Inspects (files path.now) form before now
-IsDone (jobs.Replay config schedule form) files read_before read_now watched is_known held before now = Reports files config.now schedule.now form None before now
+IsDone (jobs.Replay config schedule show) files read_before read_now watched is_known held before now = ReportsReplay files config.now schedule.now (show_of show) watched before now
 IsDone (jobs.Run config folder order show) files read_before read_now watched is_known held before now = ReportsChecked files config.now order (show_of show) watched before now
 IsDone (jobs.Build spec file) files read_before read_now watched is_known held before now = Builds files spec.now is_known (held file.now) × (now ≡ before)
+IsDone (jobs.Sel path) files read_before read_now watched is_known held before now = LogIsTold (files path.now) before now
 IsDone (jobs.Plan config number form) files read_before read_now watched is_known held before now = Plans files config.now number form before now
 
 -- How a job ends that isn't done.
 abbrev pub JobEnds : Job → (files : List ℕ → FileOf) → (refuses : (trace : List ℕ) → Bool) → (lacks : (folder : List ℕ) → (device : ℕ) → Bool) → (read_before read_now : Option (List ℕ)) → RunFault → WatchOf → (before now : OutputOf) → Type 0
 JobEnds (jobs.Answer endpoint) files refuses lacks read_before read_now told watched before now = AnswerEnds endpoint read_before read_now told before now
 JobEnds (jobs.Inspect path form) files refuses lacks read_before read_now told watched before now = InspectEnds files path.now form told before now
-JobEnds (jobs.Replay config schedule form) files refuses lacks read_before read_now told watched before now = ReplayEnds files config.now schedule.now form told before now
+JobEnds (jobs.Replay config schedule show) files refuses lacks read_before read_now told watched before now =
+    ReplayEnds files config.now schedule.now (show_of show) refuses told watched before now
 JobEnds (jobs.Run config folder order show) files refuses lacks read_before read_now told watched before now =
     CheckedEnds files config.now order (show_of show) refuses (lacks folder.now) told watched before now
 JobEnds (jobs.Build spec file) files refuses lacks read_before read_now told watched before now = BuildEnds files spec.now told × (now ≡ before)
+JobEnds (jobs.Sel path) files refuses lacks read_before read_now told watched before now = LogEnds files path.now told before now
 JobEnds (jobs.Plan config number form) files refuses lacks read_before read_now told watched before now = PlanEnds files config.now number form told before now
 
 -- It isn't, and this is so of the fault that is told.

@@ -3,6 +3,7 @@ pub mod Built
 pub mod Checked
 pub mod Inspected
 pub mod Jobs
+pub mod Logs
 pub mod Outputs
 pub mod Planned
 pub mod Progress

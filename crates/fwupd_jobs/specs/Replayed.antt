@@ -1,5 +1,6 @@
 -- What a replay leaves, and what is written of it.
-use Rattle.std.specs.Prelude.{ℕ, ◌≡◌, ◌<◌, ◌+◌, ◌⊎◌, IfSome, List, Option, Some, None, length, slice_get, take}
+use Rattle.std.specs.Prelude.{ℕ, ◌≡◌, ◌<◌, ◌+◌, ◌⊎◌, Bool, true, IfSome, List, ◌∷◌, Option, Some, None, length, slice_get, take}
+use Rattle.fw_script.specs.Configs.{ConfigOf, config_of}
 use Rattle.fw_script.specs.Schedules.{script_of}
 use Rattle.fw_json.specs.Forms.{report_in}
 use Rattle.fw_json.specs.declared.forms.Form.{Form}
@@ -10,7 +11,9 @@ use Rattle.fw_world.specs.declared.step.Step.{Step}
 use Rattle.fw_world.specs.declared.step.StepFault.{StepFault}
 use Rattle.fwupd_jobs.specs.Outputs.{FailsToPrint, OutputOf, Prints}
 use Rattle.fwupd_jobs.specs.Promises.{IsSafeSince}
+use Rattle.fwupd_jobs.specs.Running.{IsApart, IsBarred, ShowOf, WatchOf, shown_of, told_by}
 use Rattle.fwupd_jobs.specs.Setups.{FileOf, IsSetup, Says, SetupFails, TextFails}
+use Rattle.fwupd_jobs.specs.declared.running.WatchFault.{WatchFault}
 use Rattle.fwupd_jobs.specs.declared.faults.RunFault.{RunFault}
 use Rattle.fwupd_jobs.specs.declared.faults.RunFault.TheVariants as faults
 
@@ -61,12 +64,44 @@ pub record ScheduleFails (files : List ℕ → FileOf) (config schedule : List �
   pub setup : IsSetup files config world
   pub fails : TextFails script_of files schedule told
 
+-- Neither the packets nor the log's records are written over one of the files that a replay reads.
+pub record IsReplayApart (files : List ℕ → FileOf) (config schedule : List ℕ) (show : ShowOf) : Type 0 where
+  pub says : ConfigOf
+  pub is : Says config_of (files config) says
+  pub apart : IsApart files show (schedule ∷ config ∷ says.packages)
+
+-- The report is written, and what looks on showed what it is to show, had no fault, and was let end.
+pub record ReportsReplay (files : List ℕ → FileOf) (config schedule : List ℕ) (show : ShowOf) (watched : WatchOf) (before now : OutputOf) : Type 0 where
+  pub reports : Reports files config schedule show.form None before now
+  pub apart : IsReplayApart files config schedule show
+  pub shown : watched.shows ≡ shown_of show
+  pub seen : watched.fault ≡ None
+  pub let_end : watched.has_ended ≡ true
+
+-- The report is written of all steps, and what looks on had a fault, which is told.
+pub record ReportsUnseen (files : List ℕ → FileOf) (config schedule : List ℕ) (show : ShowOf) (told : RunFault) (watched : WatchOf) (before now : OutputOf) : Type 0 where
+  pub reports : Reports files config schedule show.form None before now
+  pub fault : WatchFault
+  pub is : told ≡ told_by fault
+  pub had : watched.fault ≡ Some fault
+  pub let_end : watched.has_ended ≡ true
+
+-- Nothing is replayed: a file that was read would be written over, or the file to be written is refused.
+pub record LacksKept (files : List ℕ → FileOf) (config schedule : List ℕ) (show : ShowOf) (refuses : List ℕ → Bool) (told : RunFault) (watched : WatchOf) (before now : OutputOf) : Type 0 where
+  pub kept : now ≡ before
+  pub says : ConfigOf
+  pub is : Says config_of (files config) says
+  pub barred : IsBarred files refuses show (schedule ∷ config ∷ says.packages) told watched
+
 -- Nothing is written: memory was refused, or one of the files isn't what it should be, the first in their order.
 pub record StopsBefore (files : List ℕ → FileOf) (config schedule : List ℕ) (told : RunFault) (before now : OutputOf) : Type 0 where
   pub kept : now ≡ before
   pub cause : (told ≡ faults.Memory) ⊎ (SetupFails files config told ⊎ ScheduleFails files config schedule told)
 
 -- How a replay ends that doesn't end well.
-abbrev pub ReplayEnds : (files : List ℕ → FileOf) (config schedule : List ℕ) (form : Form) (told : RunFault) (before now : OutputOf) → Type 0
-ReplayEnds files config schedule form told before now =
-    ReportsStep files config schedule form told before now ⊎ (BreaksOff files config schedule form told before now ⊎ StopsBefore files config schedule told before now)
+abbrev pub ReplayEnds : (files : List ℕ → FileOf) (config schedule : List ℕ) (show : ShowOf) (refuses : List ℕ → Bool) (told : RunFault) (watched : WatchOf) (before now : OutputOf) → Type 0
+ReplayEnds files config schedule show refuses told watched before now =
+    ReportsStep files config schedule show.form told before now
+    ⊎ (BreaksOff files config schedule show.form told before now
+    ⊎ (StopsBefore files config schedule told before now
+    ⊎ (ReportsUnseen files config schedule show told watched before now ⊎ LacksKept files config schedule show refuses told watched before now)))

@@ -18,6 +18,7 @@ use Rattle.fwupd_jobs.specs.Promises.{IsSafeSince}
 use Rattle.fwupd_jobs.specs.Sessions.{undone_in}
 use Rattle.fwupd_jobs.specs.Setups.{FileOf, IsApartFrom, IsOverOne, IsSetup, LacksPackage, SetupFails}
 use Rattle.fwupd_jobs.specs.declared.command_line.Show.{Show}
+use Rattle.fwupd_jobs.specs.declared.command_line.TraceForm.{TraceForm}
 use Rattle.fwupd_jobs.specs.declared.faults.RunFault.{RunFault}
 use Rattle.fwupd_jobs.specs.declared.faults.RunFault.TheVariants as faults
 use Rattle.fwupd_jobs.specs.declared.running.WatchFault.{WatchFault}
@@ -65,6 +66,7 @@ abbrev pub IsBroken : RunFault → Type 0
 IsBroken (faults.Edge edges.Frame) = Prim.Unit {0}
 IsBroken (faults.Edge edges.Step) = Prim.Unit {0}
 IsBroken faults.Trace = Prim.Unit {0}
+IsBroken faults.Log = Prim.Unit {0}
 IsBroken fault = ⊥
 
 -- how a run is told of that ends within a turn
@@ -75,6 +77,7 @@ told_of fault = faults.Edge fault
 -- and where what looks on can't go on
 abbrev pub told_by : WatchFault → RunFault
 told_by watches.Unwritten = faults.Trace
+told_by watches.Unlogged = faults.Log
 told_by watches.Memory = faults.Memory
 
 -- A link's fault is told where one failed, and another fault where none did.
@@ -94,28 +97,45 @@ pub record IsRefusedStart (number : ℕ) (w v : WorldOf) : Type 0 where
 abbrev pub MayEnd : RunFault → Type 0
 MayEnd fault = (fault ≡ faults.Memory) ⊎ IsBroken fault
 
--- What is shown of a run: whether it is to be without progress, and the path of the file that its packets are written to, if any.
+-- What is shown of a run: whether it is to be without progress, the path of the file that its packets are written to, if any, and in
+-- which form, and that of the file of its log's records, if any.
 pub record ShowOf : Type 0 where
   pub is_quiet : Bool
   pub trace : Option (List ℕ)
+  pub trace_form : TraceForm
+  pub log : Option (List ℕ)
   pub form : Form
 
 -- what the words of a command line ask to be shown
 abbrev pub show_of : Show → ShowOf
-show_of s = record { is_quiet = s.is_quiet; trace = option_map (λ path. path.now) s.trace; form = s.form }
+show_of s = record {
+  is_quiet = s.is_quiet;
+  trace = option_map (λ path. path.now) s.trace;
+  trace_form = s.trace_form;
+  log = option_map (λ path. path.now) s.log;
+  form = s.form;
+}
 
--- What looks on shows so much: no progress where it is to be quiet, and the packets where they are written to a file.
+-- What looks on shows so much: no progress where it is to be quiet, the packets in a form where they are written to a file, and the
+-- log's records where they are.
 pub record ShownOf : Type 0 where
   pub is_quiet : Bool
-  pub is_traced : Bool
+  pub traced : Option TraceForm
+  pub is_logged : Bool
 
--- what is shown where there is progress or not, it is to be quiet or not, and there is a trace or not
-abbrev pub shown_by : (has_progress is_quiet is_traced : Bool) → ShownOf
-shown_by has_progress is_quiet is_traced = record { is_quiet = if has_progress then false else is_quiet; is_traced = is_traced }
+-- what is shown where there is progress or not, it is to be quiet or not, and there is a trace of a form and a log or not
+abbrev pub shown_by : (has_progress is_quiet : Bool) → (traced : Option TraceForm) → (is_logged : Bool) → ShownOf
+shown_by has_progress is_quiet traced is_logged = record { is_quiet = if has_progress then false else is_quiet; traced = traced; is_logged = is_logged }
 
 -- what is shown where this is asked for
 abbrev pub shown_of : ShowOf → ShownOf
-shown_of show = record { is_quiet = show.is_quiet; is_traced = is_some show.trace }
+shown_of show = record { is_quiet = show.is_quiet; traced = option_map (λ _. show.trace_form) show.trace; is_logged = is_some show.log }
+
+-- the file that a fault of what looks on is about
+abbrev pub file_of : ShowOf → WatchFault → Option (List ℕ)
+file_of show watches.Unwritten = show.trace
+file_of show watches.Unlogged = show.log
+file_of show watches.Memory = None
 
 -- What looks on: its first fault, if it had one, what it shows, whether it was let end, how many turns it saw, and the device whose link it
 -- was told of as failed, if any.
@@ -126,27 +146,38 @@ pub record WatchOf : Type 0 where
   pub seen : ℕ
   pub lost : Option ℕ
 
--- The packets are written over none of the files of these paths.
+-- A file, if there is one, is none of these paths.
+abbrev pub IsFileApart : (files : List ℕ → FileOf) → Option (List ℕ) → List (List ℕ) → Type 0
+IsFileApart files file paths = IfSome file (λ path. AllByRecursion (IsApartFrom files path) paths)
+
+-- The packets and the log's records are written over none of the files of these paths.
 abbrev pub IsApart : (files : List ℕ → FileOf) → ShowOf → List (List ℕ) → Type 0
-IsApart files show paths = IfSome show.trace (λ trace. AllByRecursion (IsApartFrom files trace) paths)
+IsApart files show paths = IsFileApart files show.trace paths × IsFileApart files show.log paths
 
--- The file that they are written to may be refused.
-pub record MayRefuse (refuses : List ℕ → Bool) (show : ShowOf) : Type 0 where
-  pub trace : List ℕ
-  pub asked : show.trace ≡ Some trace
-  pub refused : refuses trace ≡ true
+-- The file that a fault is about may be refused.
+pub record MayRefuse (refuses : List ℕ → Bool) (show : ShowOf) (fault : WatchFault) : Type 0 where
+  pub path : List ℕ
+  pub asked : file_of show fault ≡ Some path
+  pub refused : refuses path ≡ true
 
--- What looks on doesn't begin: the packets would be written over the file of one of these paths, or their file is refused.
-pub record IsBarred (files : List ℕ → FileOf) (refuses : List ℕ → Bool) (show : ShowOf) (paths : List (List ℕ)) (watched : WatchOf) : Type 0 where
-  pub trace : List ℕ
-  pub asked : show.trace ≡ Some trace
-  pub cause : IsOverOne files trace paths ⊎ ((watched.fault ≡ Some watches.Unwritten) × MayRefuse refuses show)
+-- What looks on doesn't begin: the file that it would write is one of these paths, or is refused.
+pub record IsBarred (files : List ℕ → FileOf) (refuses : List ℕ → Bool) (show : ShowOf) (paths : List (List ℕ)) (told : RunFault) (watched : WatchOf) : Type 0 where
+  pub fault : WatchFault
+  pub is : told ≡ told_by fault
+  pub path : List ℕ
+  pub asked : file_of show fault ≡ Some path
+  pub cause : IsOverOne files path paths ⊎ ((watched.fault ≡ Some fault) × MayRefuse refuses show fault)
+
+-- What looks on has the fault that is told, where it is one of its own.
+pub record IsTold (told : RunFault) (watched : WatchOf) : Type 0 where
+  pub trace : told ≡ faults.Trace → watched.fault ≡ Some watches.Unwritten
+  pub log : told ≡ faults.Log → watched.fault ≡ Some watches.Unlogged
 
 -- Why a run doesn't go on is so: a start is refused or the clock stands at its end, and what looks on can't be written. It was let end.
 pub record IsCaused (number : ℕ) (w v : WorldOf) (told : RunFault) (watched : WatchOf) : Type 0 where
   pub broken : IsBroken told
   pub stopped : told ≡ faults.Edge edges.Step → IsRefusedStart number w v ⊎ (v.now ≡ 2 ^ 32 - 1)
-  pub unwritten : told ≡ faults.Trace → watched.fault ≡ Some watches.Unwritten
+  pub unwritten : IsTold told watched
   pub let_end : watched.has_ended ≡ true
 
 -- Each of these links is that of the device at its place, in a network with its transmission unit.
@@ -240,10 +271,9 @@ pub record BreaksReport (files : List ℕ → FileOf) (config : List ℕ) (numbe
 
 -- Before a link is opened, what looks on doesn't begin.
 pub record LacksTrace (files : List ℕ → FileOf) (config : List ℕ) (number : ℕ) (show : ShowOf) (refuses : List ℕ → Bool) (told : RunFault) (watched : WatchOf) : Type 0 where
-  pub is : told ≡ faults.Trace
   pub world : WorldOf
   pub named : IsNamed files config number world
-  pub barred : IsBarred files refuses show (config ∷ named.setup.config.packages) watched
+  pub barred : IsBarred files refuses show (config ∷ named.setup.config.packages) told watched
 
 -- No link to a device of the configuration is opened.
 pub record LacksLink (files : List ℕ → FileOf) (config : List ℕ) (number : ℕ) (show : ShowOf) (lacks : ℕ → Bool) (told : RunFault) : Type 0 where

@@ -11,6 +11,8 @@ use Rattle.fwupd_jobs.specs.declared.command_line.Job.{Job}
 use Rattle.fwupd_jobs.specs.declared.command_line.Job.TheVariants as jobs
 use Rattle.fwupd_jobs.specs.declared.command_line.Order.{Order}
 use Rattle.fwupd_jobs.specs.declared.command_line.Show.{Show}
+use Rattle.fwupd_jobs.specs.declared.command_line.TraceForm.{TraceForm}
+use Rattle.fwupd_jobs.specs.declared.command_line.TraceForm.TheVariants as traces
 
 -- the text under a name, and none where nothing stands there
 abbrev text_or_none : Option (List ℕ) → List ℕ
@@ -38,11 +40,24 @@ pub record AsksForm (words : Found) (form : Form) : Type 0 where
 pub record AsksNumber (words : Found) (number : ℕ) : Type 0 where
   pub is : (text : List ℕ) → one_text words (codes "package") ≡ Some text → IsNumeral 10 (without_leading_plus text) → number_of text < 2 ^ 32 → number ≡ number_of text
 
--- What is shown of a run.
+-- The form of a trace, by its word.
+pub record AsksTraceForm (words : Found) (form : TraceForm) : Type 0 where
+  pub none : first_value words (codes "trace-format") ≡ None → form ≡ traces.Hex
+  pub hex : first_value words (codes "trace-format") ≡ Some (codes "hex") → form ≡ traces.Hex
+  pub words : first_value words (codes "trace-format") ≡ Some (codes "text") → form ≡ traces.Text
+  pub capture : first_value words (codes "trace-format") ≡ Some (codes "pcap") → form ≡ traces.Capture
+
+-- What is shown of a run or a replay.
+pub record AsksKept (words : Found) (show : Show) : Type 0 where
+  pub trace : option_map (λ path. path.now) show.trace ≡ first_value words (codes "trace")
+  pub trace_form : AsksTraceForm words show.trace_form
+  pub log : option_map (λ path. path.now) show.log ≡ first_value words (codes "sel")
+  pub form : AsksForm words show.form
+
+-- and whether there is progress
 pub record AsksShow (words : Found) (show : Show) : Type 0 where
   pub quiet : AsksFlag words (codes "quiet") show.is_quiet
-  pub trace : option_map (λ path. path.now) show.trace ≡ first_value words (codes "trace")
-  pub form : AsksForm words show.form
+  pub kept : AsksKept words show
 
 -- The endpoint that answers.
 pub record AsksEndpoint (words : Found) (endpoint : Endpoint) : Type 0 where
@@ -58,10 +73,11 @@ pub record AsksOrder (words : Found) (order : Order) : Type 0 where
 abbrev pub Asks : (name : List ℕ) → Found → Job → Type 0
 Asks name words (jobs.Answer endpoint) = (name ≡ codes "answer") × AsksEndpoint words endpoint
 Asks name words (jobs.Inspect path form) = (name ≡ codes "inspect") × (path.now ≡ text_under words (codes "FILE")) × AsksForm words form
-Asks name words (jobs.Replay config schedule form) =
-    (name ≡ codes "replay") × (config.now ≡ text_under words (codes "CONFIG")) × (schedule.now ≡ text_under words (codes "SCHEDULE")) × AsksForm words form
+Asks name words (jobs.Replay config schedule show) =
+    (name ≡ codes "replay") × (config.now ≡ text_under words (codes "CONFIG")) × (schedule.now ≡ text_under words (codes "SCHEDULE")) × (show.is_quiet ≡ true) × AsksKept words show
 Asks name words (jobs.Run config folder order show) =
     (name ≡ codes "run") × (config.now ≡ text_under words (codes "CONFIG")) × (folder.now ≡ text_under words (codes "FOLDER")) × AsksOrder words order × AsksShow words show
+Asks name words (jobs.Sel file) = (name ≡ codes "sel") × (file.now ≡ text_under words (codes "FILE"))
 Asks name words (jobs.Build spec file) = (name ≡ codes "build") × (spec.now ≡ text_under words (codes "SPEC")) × (file.now ≡ text_under words (codes "FILE"))
 Asks name words (jobs.Plan config number form) =
     (name ≡ codes "plan") × (config.now ≡ text_under words (codes "CONFIG")) × AsksNumber words number × AsksForm words form

@@ -36,6 +36,7 @@ pub fn update_checked<F: Files, L: Link + Drop, S: Wires<L>, V: Watch, W: Write 
     ensures ok { OnOk result (ReportsChecked (F.holds files.now) config.now order (show_of show.entry) (V.watched watch.new) output.old output.new) }
     ensures fault { IfErr result (λ e. CheckedEnds (F.holds files.now) config.now order (show_of show.entry) (V.refuses watch.old) (S.lacks wires.old folder.now) e (V.watched watch.new) output.old output.new) }
     ensures untouched { IfErr result (λ e. e ≡ RunFault.Trace → (watch.new ≡ watch.old) ⊎ ((V.watched watch.new).fault ≡ Some WatchFault.Unwritten)) }
+    ensures unlogged { IfErr result (λ e. e ≡ RunFault.Log → (watch.new ≡ watch.old) ⊎ ((V.watched watch.new).fault ≡ Some WatchFault.Unlogged)) }
 {
     let number = order.number;
     let undone = match update_files(

@@ -2,7 +2,7 @@
 
 ghost use Rattle.std.specs.Prelude.{◌≡◌, IfOk};
 ghost use Rattle.clap.specs.Words.{found_of};
-ghost use Rattle.fwupd_jobs.specs.Words.{Asks, AsksEndpoint, AsksForm, AsksNumber, AsksOrder, AsksShow, text_under};
+ghost use Rattle.fwupd_jobs.specs.Words.{Asks, AsksEndpoint, AsksForm, AsksKept, AsksNumber, AsksOrder, AsksTraceForm, text_under};
 
 use clap::error::ErrorKind;
 use clap::{Arg, ArgAction, ArgMatches, Command, value_parser};
@@ -18,8 +18,8 @@ pub enum Job<'a> {
     Answer(Endpoint),
     /// Inspect the package in the file of this path, in this form.
     Inspect(&'a str, Form),
-    /// Replay, with the configuration of the first path, the schedule of the second, and report in this form.
-    Replay(&'a str, &'a str, Form),
+    /// Replay, with the configuration of the first path, the schedule of the second.
+    Replay(&'a str, &'a str, Show<'a>),
     /// Update the devices of the configuration of the first path over sockets in the folder of the second.
     Run(&'a str, &'a str, Order, Show<'a>),
     /// Build the package that the text in the file of the first path asks for, into the file of the second.
@@ -27,6 +27,19 @@ pub enum Job<'a> {
     /// Say what an update of the devices of the configuration of this path comes to, with its package of this number, from 1 on, in
     /// this form.
     Plan(&'a str, usize, Form),
+    /// Tell the records of an event log in the file of this path.
+    Sel(&'a str),
+}
+
+/// What is written of each packet.
+#[derive(Clone, Copy, PartialEq, Eq)]
+pub enum TraceForm {
+    /// A line, with the packet in hexadecimal digits.
+    Hex,
+    /// A line that tells what the packet says.
+    Text,
+    /// What a capture's file holds of it, as Linux captures on an MCTP interface.
+    Capture,
 }
 
 /// What is asked of a run.
@@ -38,13 +51,17 @@ pub struct Order {
     pub is_checked: bool,
 }
 
-/// What is shown of a run.
+/// What is shown of a run or a replay.
 #[derive(Clone, Copy)]
 pub struct Show<'a> {
     /// No progress, also on a terminal.
     pub is_quiet: bool,
     /// The file that each packet is written to as it goes out, if there is one.
     pub trace: Option<&'a str>,
+    /// What is written there of each packet.
+    pub trace_form: TraceForm,
+    /// The file that the event log's records are written to in the end, if there is one.
+    pub log: Option<&'a str>,
     /// The form of its report.
     pub form: Form,
 }
@@ -181,9 +198,12 @@ of the agent's session with it, and how many packets were sent between the two; 
 with size and first bytes; the event log's records and last answer; and what was applied, recorded
 and activated, in order.
 
+--trace writes the packets that each step sent behind it, and --sel the log's records; both are as in
+'fwupd run --help'. The report is the same with them and without.
+
 Status: 0; 1 if standard error says 'fwupd: PATH: line N: FAULT', 'fwupd: package: FAULT',
-'fwupd: step N: FAULT', 'fwupd: FILE: unreadable', 'fwupd: output' or 'fwupd: memory'; 2 for wrong
-usage.";
+'fwupd: step N: FAULT', 'fwupd: FILE: unreadable', 'fwupd: trace', 'fwupd: sel', 'fwupd: output' or
+'fwupd: memory'; 2 for wrong usage.";
 
 /// The subcommand `replay`.
 fn replay_command<'a>(alloc: Global) -> Result<Command<'a>, clap::Error> {
@@ -204,6 +224,9 @@ fn replay_command<'a>(alloc: Global) -> Result<Command<'a>, clap::Error> {
             The schedule says which packet is delivered when.",
         )
         .after_long_help(REPLAY_HELP)
+        .arg(trace_option(alloc))?
+        .arg(trace_form_option(alloc))?
+        .arg(log_option(alloc))?
         .arg(json_option(alloc))?
         .arg(config)?
         .arg(schedule)?;
@@ -221,18 +244,49 @@ CONFIG and the report are those of 'fwupd replay --help'.
 
 If standard error is a terminal, it shows the progress of the first device that loads an image.
 --trace writes a line for each packet: the turn, the device, to-device or to-agent, and the packet
-in hexadecimal digits.
+in hexadecimal digits; with --trace-format text what each packet says, with its number, which
+'deliver' of a schedule takes; with pcap a capture, as Linux makes it on an MCTP interface, in which
+a turn is a second. --sel writes the event log's records, 16 bytes each, for 'fwupd sel'.
 
 Faults: 'package: none' if CONFIG names fewer packages; 'socket: EID' if FOLDER/EID.sock can't be
 made, or is there already; after the report, 'edge: Frame' if a socket failed, 'edge: Step' at the
-end of the clock, and 'trace' if the trace can't be written. If its file can't be made, 'trace', and
-nothing is run. With --check, after the report, 'session EID: WORD' of the first session in
+end of the clock, and 'trace' or 'sel' if the trace or the log can't be written. If its file can't
+be made, or is one that is read, 'trace' or 'sel', and nothing is run. With --check, after the report, 'session EID: WORD' of the first session in
 configured order that isn't Done: the cause of its failure, or where it stands.
 
 Limits: 80000 turns of one tick each. Three images of 1 MiB take about 66000.
 
 Status: 0; 1 if standard error says 'fwupd: ' and a fault, one of these or of 'replay'; 2 for wrong
 usage.";
+
+/// The option that names the file of a trace.
+fn trace_option<'a>(alloc: Global) -> Arg<'a> {
+    Arg::new(alloc, "trace")
+        .long("trace")
+        .value_name("FILE")
+        .help("Writes each packet to a file as it goes out")
+}
+
+/// The words of the forms of a trace.
+const TRACE_FORMS: &[&str] = &["hex", "text", "pcap"];
+
+/// The option that says in which form a trace is.
+fn trace_form_option<'a>(alloc: Global) -> Arg<'a> {
+    Arg::new(alloc, "trace-format")
+        .long("trace-format")
+        .value_name("FORM")
+        .help("The form of the trace: lines of digits, lines that tell what packets say, or a capture")
+        .value_parser(TRACE_FORMS)
+        .default_value("hex")
+}
+
+/// The option that names the file of the event log's records.
+fn log_option<'a>(alloc: Global) -> Arg<'a> {
+    Arg::new(alloc, "sel")
+        .long("sel")
+        .value_name("FILE")
+        .help("Writes the event log's records to a file in the end")
+}
 
 /// The subcommand `run`.
 fn run_command<'a>(alloc: Global) -> Result<Command<'a>, clap::Error> {
@@ -248,10 +302,6 @@ fn run_command<'a>(alloc: Global) -> Result<Command<'a>, clap::Error> {
         .long("quiet")
         .help("Shows no progress")
         .action(ArgAction::SetTrue);
-    let trace = Arg::new(alloc, "trace")
-        .long("trace")
-        .value_name("FILE")
-        .help("Writes each packet to a file as it goes out");
     let check = Arg::new(alloc, "check")
         .long("check")
         .help("Fails where a session doesn't end Done")
@@ -267,10 +317,43 @@ fn run_command<'a>(alloc: Global) -> Result<Command<'a>, clap::Error> {
         .arg(package_option(alloc))?
         .arg(check)?
         .arg(quiet)?
-        .arg(trace)?
+        .arg(trace_option(alloc))?
+        .arg(trace_form_option(alloc))?
+        .arg(log_option(alloc))?
         .arg(json_option(alloc))?
         .arg(config)?
         .arg(folder)?;
+    Ok(command)
+}
+
+/// What stands below the help of `sel`.
+const SEL_HELP: &str = "\
+Example:
+  fwupd run --sel out/log examples/one.config out && fwupd sel out/log
+
+A line has the record's identifier in hexadecimal digits, the log's time, what happened, and of what:
+  started, activated, cancelled   device EID package N
+  applied                         device EID package N component N: the agent recorded it
+  failed                          device EID package N cause CAUSE
+Of a record that no agent made it has the identifier, the type, and the 13 bytes behind it.
+
+Status: 0; 1 if standard error says 'fwupd: sel: Size', where the size is no multiple of 16 or is over
+2048, 'fwupd: FILE: unreadable', 'fwupd: output' or 'fwupd: memory'; 2 for wrong usage.";
+
+/// The subcommand `sel`.
+fn sel_command<'a>(alloc: Global) -> Result<Command<'a>, clap::Error> {
+    let file = Arg::new(alloc, "FILE")
+        .help("The file of records, as --sel writes it")
+        .required(true)
+        .action(ArgAction::Set);
+    let command = Command::new(alloc, "sel")
+        .about("Prints the records of an event log, a line each")
+        .long_about(
+            "Prints the records of an event log, a line each, oldest first.\n\n\
+            The file holds at most 128 records of 16 bytes, as 'run --sel' and 'replay --sel' write them.",
+        )
+        .after_long_help(SEL_HELP)
+        .arg(file)?;
     Ok(command)
 }
 
@@ -420,6 +503,7 @@ fn command<'a>(alloc: Global) -> Result<Command<'a>, clap::Error> {
         .subcommand(replay_command(alloc)?)?
         .subcommand(plan_command(alloc)?)?
         .subcommand(run_command(alloc)?)?
+        .subcommand(sel_command(alloc)?)?
         .subcommand(build_command(alloc)?)?;
     Ok(command)
 }
@@ -470,13 +554,27 @@ fn form_in(matches: &ArgMatches<'_>) -> Form
     }
 }
 
-/// What the words of `run` ask to be shown.
-fn show_in<'a>(matches: &ArgMatches<'a>) -> Show<'a>
-    ensures { AsksShow (found_of matches.now) result }
+/// The form of a trace that the words ask for.
+fn trace_form_in(matches: &ArgMatches<'_>) -> TraceForm
+    ensures { AsksTraceForm (found_of matches.now) result }
+{
+    match matches.get_str("trace-format") {
+        Some("text") => TraceForm::Text,
+        Some("pcap") => TraceForm::Capture,
+        _ => TraceForm::Hex,
+    }
+}
+
+/// What the words of `run` or `replay` ask to be shown, with progress or without.
+fn show_in<'a>(matches: &ArgMatches<'a>, is_quiet: bool) -> Show<'a>
+    ensures quiet { result.is_quiet ≡ is_quiet }
+    ensures kept { AsksKept (found_of matches.now) result }
 {
     Show {
-        is_quiet: matches.get_flag("quiet"),
+        is_quiet,
         trace: matches.get_str("trace"),
+        trace_form: trace_form_in(matches),
+        log: matches.get_str("sel"),
         form: form_in(matches),
     }
 }
@@ -504,7 +602,7 @@ fn job_of<'a>(alloc: Global, name: &str, matches: &ArgMatches<'a>) -> Result<Job
         "replay" => Ok(Job::Replay(
             text_under(matches, "CONFIG"),
             text_under(matches, "SCHEDULE"),
-            form_in(matches),
+            show_in(matches, true),
         )),
         "plan" => Ok(Job::Plan(
             text_under(matches, "CONFIG"),
@@ -515,8 +613,9 @@ fn job_of<'a>(alloc: Global, name: &str, matches: &ArgMatches<'a>) -> Result<Job
             text_under(matches, "CONFIG"),
             text_under(matches, "FOLDER"),
             order_in(matches),
-            show_in(matches),
+            show_in(matches, matches.get_flag("quiet")),
         )),
+        "sel" => Ok(Job::Sel(text_under(matches, "FILE"))),
         "build" => Ok(Job::Build(text_under(matches, "SPEC"), text_under(matches, "FILE"))),
         _ => Err(command(alloc)?.error(ErrorKind::MissingSubcommand, "a subcommand is required")?),
     }

@@ -85,7 +85,7 @@ pub fn explain(rt: &HostRuntime, job: &Job<'_>, fault: &RunFault) {
         (Job::Replay(config, ..), RunFault::Package(_))
         | (Job::Run(config, ..), RunFault::Package(_))
         | (Job::Plan(config, ..), RunFault::Package(_)) => explain_package(rt, config),
-        (Job::Replay(_, schedule, _), RunFault::Step(number, _)) => {
+        (Job::Replay(_, schedule, ..), RunFault::Step(number, _)) => {
             explain_step(rt, schedule, *number);
         }
         _ => {}

@@ -35,9 +35,15 @@ pub enum RunFault {
     /// The socket of the device with this endpoint identifier can't be made.
     #[error("socket: {0}")]
     Socket(u8),
-    /// What is traced of a run can't be written.
+    /// What is traced of a run or a replay can't be written.
     #[error("trace")]
     Trace,
+    /// The event log's records can't be written.
+    #[error("sel")]
+    Log,
+    /// The file holds no event log: its size is no multiple of 16, or more than 2,048.
+    #[error("sel: Size")]
+    LogSize,
     /// A run over links ended early.
     #[error("edge: {0}")]
     Edge(EdgeFault),

@@ -1,7 +1,7 @@
 //! The files that a job reads.
 
 ghost use Rattle.std.specs.Io.KnownBytes.{IsAtEnd};
-ghost use Rattle.std.specs.Prelude.{◌≡◌, ◌≢◌, ◌∷◌, IfErr, IfOk, IfSome, List, OnOk, false, map, string_bytes, true, ℕ};
+ghost use Rattle.std.specs.Prelude.{◌≡◌, ◌≢◌, ◌∷◌, IfErr, IfOk, IfSome, IsSomeAnd, List, OnOk, option_map, false, map, string_bytes, true, ℕ};
 ghost use Rattle.std.specs.List.{AllByRecursion};
 ghost use Rattle.fwupd_jobs.specs.Setups.{FileOf, IsApartFrom, IsOver, IsOverOne, MayBe, MayHold, any_file};
 
@@ -130,6 +130,17 @@ fn is_same_file<F: Files>(files: &F, one: &str, other: &str) -> bool
     match (files.identity(one), files.identity(other)) {
         (Some(first), Some(second)) => first == second,
         _ => false,
+    }
+}
+
+/// Whether a file to be written, if there is one, is that of a path.
+pub(crate) fn is_one_path<F: Files>(files: &F, path: Option<&str>, other: &str) -> bool
+    ensures over { result ≡ true → IsSomeAnd (option_map (λ p. p.now) path) (λ p. IsOver (F.holds files.now) p other.now) }
+    ensures apart { result ≡ false → IfSome (option_map (λ p. p.now) path) (λ p. IsApartFrom (F.holds files.now) p other.now) }
+{
+    match path {
+        Some(path) => is_same_file(files, other, path),
+        None => false,
     }
 }
 

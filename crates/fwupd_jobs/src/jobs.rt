@@ -9,6 +9,7 @@ use crate::command_line::Job;
 use crate::faults::RunFault;
 use crate::files::Files;
 use crate::inspecting::inspect_file;
+use crate::logging::sel_file;
 use crate::output::Output;
 use crate::places::Places;
 use crate::planning::plan_file;
@@ -22,7 +23,7 @@ use std::io::{Read, Write};
 /// Does a job. What it reads, it reads of the files; what it answers, of the reader; a package that it builds comes to its place.
 ///
 /// # Errors
-/// Those of the job: of `Output::answer`, `inspect_file`, `replay_files`, `update_checked`, `build_file` or `plan_file`.
+/// Those of the job: of `Output::answer`, `inspect_file`, `replay_files`, `update_checked`, `build_file`, `plan_file` or `sel_file`.
 pub fn perform_job<
     F: Files,
     R: Read,
@@ -45,17 +46,19 @@ pub fn perform_job<
     ensures ok { OnOk result (IsDone job.now (F.holds files.now) (R.remaining reader.old) (R.remaining reader.new) (V.watched watch.new) (P.is_known places.old) (P.held places.new) output.old output.new) }
     ensures fault { IfErr result (λ e. JobEnds job.now (F.holds files.now) (V.refuses watch.old) (S.lacks wires.old) (R.remaining reader.old) (R.remaining reader.new) e (V.watched watch.new) output.old output.new) }
     ensures untouched { IfErr result (λ e. e ≡ RunFault.Trace → (watch.new ≡ watch.old) ⊎ ((V.watched watch.new).fault ≡ Some WatchFault.Unwritten)) }
+    ensures unlogged { IfErr result (λ e. e ≡ RunFault.Log → (watch.new ≡ watch.old) ⊎ ((V.watched watch.new).fault ≡ Some WatchFault.Unlogged)) }
 {
     match job {
         Job::Answer(endpoint) => output.answer(alloc, reader, endpoint),
         Job::Inspect(path, form) => inspect_file(alloc, files, path, *form, output),
-        Job::Replay(config, schedule, form) => replay_files(
-            alloc, files, config, schedule, *form, output,
+        Job::Replay(config, schedule, show) => replay_files(
+            alloc, files, config, schedule, *show, watch, output,
         ),
         Job::Run(config, folder, order, show) => update_checked(
             alloc, files, config, *order, folder, *show, wires, watch, output,
         ),
         Job::Build(spec, file) => build_file(alloc, files, spec, file, places),
+        Job::Sel(path) => sel_file(alloc, files, path, output),
         Job::Plan(config, number, form) => plan_file(alloc, files, config, *number, *form, output),
     }
 }

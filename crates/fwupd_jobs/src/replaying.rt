@@ -1,78 +1,175 @@
 //! Replaying a schedule on the nodes of a configuration.
 
-ghost use Rattle.std.specs.Prelude.{IfErr, IfOk, None, OnOk, map};
+ghost use Rattle.std.specs.Prelude.{◌≡◌, ◌<◌, ◌⊎◌, ◌∷◌, IfErr, IfOk, IfSome, None, OnOk, Some, length, map, slice_get, string_bytes, take, true};
 ghost use Rattle.fw_script.specs.Seen.{device_of};
 ghost use Rattle.fw_script.specs.Whole.{AreWhole};
-ghost use Rattle.fw_world.specs.Headline.{new_world};
+ghost use Rattle.fw_world.specs.Headline.{Run, new_world};
+ghost use Rattle.fw_world.specs.Replays.{Refuses};
 ghost use Rattle.fw_setup.specs.Nodes.{nodes_made};
-ghost use Rattle.fwupd_jobs.specs.Replayed.{IsReplayed, ReplayEnds, Reports};
+ghost use Rattle.fwupd_jobs.specs.Replayed.{IsReplayed, ReplayEnds, ReportsReplay};
+ghost use Rattle.fwupd_jobs.specs.Running.{IsApart, IsBarred, show_of, shown_of};
 
+use crate::command_line::Show;
 use crate::faults::RunFault;
-use crate::files::Files;
+use crate::files::{Files, is_one_path};
 use crate::output::Output;
+use crate::running::{Watch, WatchFault, watch_fault};
 use crate::setups::{configuration, package_files, packages_in, schedule};
+use crate::updating::begin_apart;
+use fd_core::MemBank;
 use fw_json::{Form, report_in};
 use fw_package::Package;
 use fw_script::{Config, DeviceConfig};
 use fw_setup::opening_world;
-use fw_world::{Step, StepFault, packets_are_safe, replay};
+use fw_world::{Step, StepFault, World, packets_are_safe, replay};
 use mctp_ctl::Endpoint;
 use mctp_wire::Unit;
 use std::alloc::{AllocError, Global};
 use std::io::Write;
 
-/// What a replay leaves: the report of the world, and the number of the step that isn't taken, from 0 on, and why.
+/// What a replay leaves: the report of the world, the number of the step that isn't taken, from 0 on, and why, and how what looked
+/// on ended.
 #[derive(Drop)]
 pub struct Outcome {
     /// The report.
     pub report: Vec<u8>,
     /// The step that isn't taken, if there is one.
     pub fault: Option<(usize, StepFault)>,
+    /// Whether what looked on had a fault.
+    pub watched: Result<(), WatchFault>,
 }
 
-/// Replays a schedule on the nodes of a configuration, in a network with its transmission unit.
+/// Takes these steps one after another, up to the first that isn't taken. What looks on sees the world after each; a fault of its own
+/// ends nothing, and stays its own.
+///
+/// # Errors
+/// The number of the step that isn't taken, counted from 0, and why.
+fn replay_seen<V: Watch>(
+    world: &mut World<'_, MemBank>,
+    steps: &[Step],
+    watch: &mut V,
+) -> Result<(), (usize, StepFault)>
+    ensures ok { OnOk result (Run world.old steps.now world.new) }
+    ensures stopped { IfErr result (λ e. (e.0 < length steps.now) × Run world.old (take e.0 steps.now) world.new × IfSome (slice_get steps.now e.0) (λ s. Refuses world.new s e.1)) }
+    ensures same { (V.watched watch.new).shows ≡ (V.watched watch.old).shows }
+    ensures seen { OnOk result ((V.watched watch.old).seen ≡ 0 → (V.watched watch.new).seen ≡ length steps.now) }
+    ensures seen_before { IfErr result (λ e. (V.watched watch.old).seen ≡ 0 → (V.watched watch.new).seen ≡ e.0) }
+{
+    for (i, step) in steps.iter().enumerate() {
+        match world.step(step) {
+            Ok(()) => {}
+            Err(fault) => return Err((i, fault)),
+        }
+        let _ = watch.see(world);
+    }
+    Ok(())
+}
+
+/// Takes these steps, each seen by what looks on where packets are traced.
+fn replay_by<V: Watch>(
+    world: &mut World<'_, MemBank>,
+    steps: &[Step],
+    is_traced: bool,
+    watch: &mut V,
+) -> Result<(), (usize, StepFault)>
+    ensures ok { OnOk result (Run world.old steps.now world.new) }
+    ensures stopped { IfErr result (λ e. (e.0 < length steps.now) × Run world.old (take e.0 steps.now) world.new × IfSome (slice_get steps.now e.0) (λ s. Refuses world.new s e.1)) }
+    ensures same { (V.watched watch.new).shows ≡ (V.watched watch.old).shows }
+    ensures seen { OnOk result (is_traced ≡ true → (V.watched watch.old).seen ≡ 0 → (V.watched watch.new).seen ≡ length steps.now) }
+{
+    if is_traced {
+        return replay_seen(world, steps, watch);
+    }
+    replay(world, steps)
+}
+
+/// Replays a schedule on the nodes of a configuration, in a network with its transmission unit, and lets what looks on end.
 ///
 /// # Errors
 /// `AllocError` where memory for the nodes or the report is refused.
-pub fn replayed<'a>(
+pub fn replayed<'a, V: Watch>(
     alloc: Global,
     unit: Unit,
     agent: Endpoint,
     devices: Vec<DeviceConfig>,
     packages: &'a [Package<'a>],
     steps: &[Step],
-    form: Form,
+    show: Show<'_>,
+    watch: &mut V,
 ) -> Result<Outcome, AllocError>
     requires { AreWhole agent.eid (map device_of devices.items) }
-    ensures { IfOk result (λ r. IsReplayed (new_world agent (nodes_made unit agent.eid (map device_of devices.items)) packages.now) steps.now r.fault form r.report.items) }
+    ensures replayed { IfOk result (λ r. IsReplayed (new_world agent (nodes_made unit agent.eid (map device_of devices.items)) packages.now) steps.now r.fault show.entry.form r.report.items) }
+    ensures same { OnOk result ((V.watched watch.new).shows ≡ (V.watched watch.old).shows) }
+    ensures ended { OnOk result ((V.watched watch.new).has_ended ≡ true) }
+    ensures unseen { IfOk result (λ r. IfErr r.watched (λ e. (V.watched watch.new).fault ≡ Some e)) }
+    ensures seen { IfOk result (λ r. OnOk r.watched ((V.watched watch.new).fault ≡ None)) }
 {
     packets_are_safe();
     let mut world = opening_world(alloc, unit, agent, devices, packages)?;
-    let fault = match replay(&mut world, steps) {
+    let fault = match replay_by(&mut world, steps, show.trace.is_some(), watch) {
         Ok(()) => None,
         Err(fault) => Some(fault),
     };
-    let report = report_in(alloc, &world, form)?;
-    Ok(Outcome { report, fault })
+    let watched = watch.end(&world);
+    let report = report_in(alloc, &world, show.form)?;
+    Ok(Outcome {
+        report,
+        fault,
+        watched,
+    })
+}
+
+/// Lets what looks on begin, where what it shows isn't written over a file that was read.
+fn begin_replay<F: Files, V: Watch>(
+    files: &F,
+    config: &str,
+    schedule: &str,
+    packages: &[String],
+    show: Show<'_>,
+    watch: &mut V,
+) -> Result<(), RunFault>
+    ensures shows { OnOk result ((V.watched watch.new).shows ≡ shown_of (show_of show.entry)) }
+    ensures anew { OnOk result ((V.watched watch.new).seen ≡ 0) }
+    ensures apart { OnOk result (IsApart (F.holds files.now) (show_of show.entry) (schedule.now ∷ config.now ∷ map (λ p. string_bytes p) packages.now)) }
+    ensures untouched { IfErr result (λ e. e ≡ RunFault.Trace → (watch.new ≡ watch.old) ⊎ ((V.watched watch.new).fault ≡ Some WatchFault.Unwritten)) }
+    ensures unlogged { IfErr result (λ e. e ≡ RunFault.Log → (watch.new ≡ watch.old) ⊎ ((V.watched watch.new).fault ≡ Some WatchFault.Unlogged)) }
+    ensures fault { IfErr result (λ e. (e ≡ RunFault.Memory)
+        ⊎ IsBarred (F.holds files.now) (V.refuses watch.old) (show_of show.entry) (schedule.now ∷ config.now ∷ map (λ p. string_bytes p) packages.now) e (V.watched watch.new)) }
+{
+    if is_one_path(files, show.trace, schedule) {
+        return Err(RunFault::Trace);
+    }
+    if is_one_path(files, show.log, schedule) {
+        return Err(RunFault::Log);
+    }
+    match begin_apart(files, config, packages, show, watch) {
+        Ok(()) => Ok(()),
+        Err(fault) => Err(fault),
+    }
 }
 
 /// Replays the schedule in a file on the nodes of the configuration in another, and writes in a form the report of what that leaves.
+/// Where packets are traced, they are seen after each step; the report is the same.
 ///
 /// # Errors
 /// The first fault, in this order: of the configuration's file, of the packages that it names, one after the other, and of the
-/// schedule's file. `Step` where a step isn't taken, whose number counts from 1: the report is then of the world before it.
-/// `Output` where the report isn't written whole: a beginning of it may be. `Memory` where memory is refused: nothing is written
-/// then.
-pub fn replay_files<F: Files, W: Write + Drop>(
+/// schedule's file; `Trace` or `Log` where what looks on can't begin, or would write over one of these files. `Step` where a step isn't
+/// taken, whose number counts from 1: the report is then of the world before it. `Trace` or `Log` where what looked on couldn't write:
+/// the report is written all the same. `Output` where the report isn't written whole: a beginning of it may be. `Memory` where memory
+/// is refused: nothing is written then, unless it was what looked on that lacked it.
+pub fn replay_files<F: Files, V: Watch, W: Write + Drop>(
     alloc: Global,
     files: &F,
     config: &str,
     steps: &str,
-    form: Form,
+    show: Show<'_>,
+    watch: &mut V,
     output: &mut Output<W>,
 ) -> Result<(), RunFault>
-    ensures ok { OnOk result (Reports (F.holds files.now) config.now steps.now form None output.old output.new) }
-    ensures fault { IfErr result (λ e. ReplayEnds (F.holds files.now) config.now steps.now form e output.old output.new) }
+    ensures ok { OnOk result (ReportsReplay (F.holds files.now) config.now steps.now (show_of show.entry) (V.watched watch.new) output.old output.new) }
+    ensures fault { IfErr result (λ e. ReplayEnds (F.holds files.now) config.now steps.now (show_of show.entry) (V.refuses watch.old) e (V.watched watch.new) output.old output.new) }
+    ensures untouched { IfErr result (λ e. e ≡ RunFault.Trace → (watch.new ≡ watch.old) ⊎ ((V.watched watch.new).fault ≡ Some WatchFault.Unwritten)) }
+    ensures unlogged { IfErr result (λ e. e ≡ RunFault.Log → (watch.new ≡ watch.old) ⊎ ((V.watched watch.new).fault ≡ Some WatchFault.Unlogged)) }
 {
     let Config {
         agent,
@@ -91,18 +188,23 @@ pub fn replay_files<F: Files, W: Write + Drop>(
         Ok(packages) => packages,
         Err(fault) => return Err(fault),
     };
-    let steps = match schedule(alloc, files, steps) {
-        Ok(steps) => steps,
+    let script = match schedule(alloc, files, steps) {
+        Ok(script) => script,
         Err(fault) => return Err(fault),
     };
+    match begin_replay(files, config, steps, paths.as_slice(), show, watch) {
+        Ok(()) => {}
+        Err(fault) => return Err(fault),
+    }
     let Ok(outcome) = replayed(
         alloc,
         unit,
         agent,
         devices,
         packages.as_slice(),
-        steps.as_slice(),
-        form,
+        script.as_slice(),
+        show,
+        watch,
     ) else {
         return Err(RunFault::Memory);
     };
@@ -111,7 +213,11 @@ pub fn replay_files<F: Files, W: Write + Drop>(
         Err(_) => return Err(RunFault::Output),
     }
     match outcome.fault {
-        Some((place, fault)) => Err(RunFault::Step(place.saturating_add(1), fault)),
-        None => Ok(()),
+        Some((place, fault)) => return Err(RunFault::Step(place.saturating_add(1), fault)),
+        None => {}
+    }
+    match outcome.watched {
+        Ok(()) => Ok(()),
+        Err(fault) => Err(watch_fault(fault)),
     }
 }

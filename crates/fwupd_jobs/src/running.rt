@@ -3,7 +3,7 @@
 ghost use Rattle.std.specs.Prelude.{◌≡◌, ◌-◌, ◌^◌, ◌⊎◌, Bool, Err, IfErr, IfSome, List, None, OnOk, Some, length, map, true, ℕ};
 ghost use Rattle.fw_edge.specs.Ledgers.{AllSent, packet_counts};
 ghost use Rattle.fw_edge.specs.Links.{Rises};
-ghost use Rattle.fwupd_jobs.specs.Running.{AreToldOf, IsCaused, IsRefusedStart, IsUpdated, MayEnd, MayRefuse, Starts, StepsLead, StepsSeen, Updates, show_of, shown_of, told_by, told_of};
+ghost use Rattle.fwupd_jobs.specs.Running.{AreToldOf, IsCaused, IsRefusedStart, IsTold, IsUpdated, MayEnd, MayRefuse, Starts, StepsLead, StepsSeen, Updates, show_of, shown_of, told_by, told_of};
 
 use crate::command_line::Show;
 use crate::faults::{RunFault, edge_fault};
@@ -18,8 +18,10 @@ const TURNS: u32 = 80_000;
 /// Why what looks on ends a run.
 #[derive(Clone, Copy, PartialEq, Eq)]
 pub enum WatchFault {
-    /// What it tells can't be written.
+    /// What it tells of packets can't be written.
     Unwritten,
+    /// The event log's records can't be written.
+    Unlogged,
     /// Memory was refused.
     Memory,
 }
@@ -36,12 +38,13 @@ pub trait Watch {
     /// Begins to show what is asked for.
     ///
     /// # Errors
-    /// The file that the packets are to be written to is refused, or `Memory`. It is known before which files may be refused.
+    /// The file that the packets or the log's records are to be written to is refused, or `Memory`. It is known before which files
+    /// may be refused.
     fn begin(&mut self, show: Show<'_>) -> Result<(), WatchFault>
         ensures shows { OnOk result ((watched self.new).shows ≡ shown_of (show_of show.entry)) }
         ensures anew { OnOk result (((watched self.new).seen ≡ 0) × ((watched self.new).lost ≡ None)) }
         ensures err { IfErr result (λ e. (watched self.new).fault ≡ Some e) }
-        ensures refused { IfErr result (λ e. e ≡ WatchFault.Unwritten → MayRefuse (refuses self.old) (show_of show.entry)) };
+        ensures refused { IfErr result (λ e. e ≡ WatchFault.Memory ⊎ MayRefuse (refuses self.old) (show_of show.entry) e) };
 
     /// Sees what a turn left.
     ///
@@ -63,11 +66,11 @@ pub trait Watch {
         ensures seen { (watched self.new).seen ≡ (watched self.old).seen }
         ensures ended { (watched self.new).has_ended ≡ (watched self.old).has_ended };
 
-    /// The run has ended.
+    /// The run has ended, and has left this world, of whose log the records are written where that is asked for.
     ///
     /// # Errors
-    /// As for a turn.
-    fn end(&mut self) -> Result<(), WatchFault>
+    /// As for a turn; and the records can't be written.
+    fn end(&mut self, world: &World<'_, MemBank>) -> Result<(), WatchFault>
         ensures ok { OnOk result ((watched self.new).fault ≡ None) }
         ensures err { IfErr result (λ e. (watched self.new).fault ≡ Some e) }
         ensures first { IfSome (watched self.old).fault (λ f. result ≡ Err f) }
@@ -84,6 +87,7 @@ pub fn watch_fault(fault: WatchFault) -> RunFault
 {
     match fault {
         WatchFault::Unwritten => RunFault::Trace,
+        WatchFault::Unlogged => RunFault::Log,
         WatchFault::Memory => RunFault::Memory,
     }
 }
@@ -97,7 +101,7 @@ fn start_all(world: &mut World<'_, MemBank>, number: usize) -> Result<(), RunFau
     ensures fault { IfErr result MayEnd }
     ensures refused { IfErr result (λ e. e ≡ RunFault.Edge EdgeFault.Step → IsRefusedStart number world.old world.new) }
     ensures none { IfErr result (λ e. e ≡ RunFault.Edge EdgeFault.Frame → ⊥) }
-    ensures unseen { IfErr result (λ e. e ≡ RunFault.Trace → ⊥) }
+    ensures unseen { IfErr result (λ e. (e ≡ RunFault.Trace → ⊥) × (e ≡ RunFault.Log → ⊥)) }
 {
     for place in 0..world.device_count() {
         let Some(node) = world.device_at(place) else {
@@ -146,7 +150,7 @@ pub fn update_all<L: Link, V: Watch>(
     ensures step { IfErr result (λ e. e ≡ RunFault.Edge EdgeFault.Step → IsRefusedStart number world.old world.new ⊎ (world.new.now ≡ 2 ^ 32 - 1)) }
     ensures sent { OnOk result (AllSent (packet_counts world.old.sites) (packet_counts world.new.sites) (map (λ l. (L.tally l).sent) links.old) (map (λ l. (L.tally l).sent) links.new)) }
     ensures devices { length links.new ≡ length world.new.sites }
-    ensures unwritten { IfErr result (λ e. e ≡ RunFault.Trace → (V.watched watch.new).fault ≡ Some WatchFault.Unwritten) }
+    ensures unwritten { IfErr result (λ e. IsTold e (V.watched watch.new)) }
     ensures same { (V.watched watch.new).shows ≡ (V.watched watch.old).shows }
     ensures turns { OnOk result ((V.watched watch.old).seen ≡ 0 → Updates number world.old world.new (V.watched watch.new).seen) }
     ensures sees { (V.watched watch.old).seen ≡ 0 → StepsSeen number world.old world.new (V.watched watch.new).seen }
@@ -201,7 +205,7 @@ pub fn update_watched<L: Link, V: Watch>(
     ensures sent { OnOk result (AllSent (packet_counts world.old.sites) (packet_counts world.new.sites) (map (λ l. (L.tally l).sent) links.old) (map (λ l. (L.tally l).sent) links.new)) }
 {
     let end = update_all(alloc, world, number, links, watch);
-    let watched = watch.end();
+    let watched = watch.end(world);
     match end {
         Ok(()) => {}
         Err(fault) => return Err(fault),

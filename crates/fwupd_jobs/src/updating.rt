@@ -1,11 +1,12 @@
 //! Updating the devices of a configuration.
 
-ghost use Rattle.std.specs.Prelude.{◌≡◌, ◌∷◌, ◌⊎◌, Bool, IfErr, IfOk, IfSome, List, None, OnOk, Some, length, map, string_bytes, true, ℕ};
+ghost use Rattle.std.specs.Prelude.{◌≡◌, ◌∷◌, ◌⊎◌, Bool, IfErr, IfOk, IfSome, IsSomeAnd, List, None, OnOk, Some, false, option_map, length, map, string_bytes, true, ℕ};
 ghost use Rattle.std.specs.List.{AllByRecursion};
 ghost use Rattle.fw_json.specs.Forms.{report_in};
 ghost use Rattle.fwupd_jobs.specs.Outputs.{FailsToPrint, Prints};
 ghost use Rattle.fwupd_jobs.specs.Sessions.{undone_in};
-ghost use Rattle.fwupd_jobs.specs.Running.{AreLinked, AreToldOf, DrivingEnds, IsApart, IsBarred, IsCaused, IsLost, IsUnlinked, IsUpdated, NamesLost, ReportsUpdate, StepsLead, StepsSeen, UpdateEnds, Updates, show_of, shown_of};
+ghost use Rattle.fwupd_jobs.specs.Setups.{IsOverOne};
+ghost use Rattle.fwupd_jobs.specs.Running.{AreLinked, AreToldOf, DrivingEnds, IsApart, IsBarred, IsCaused, IsFileApart, IsLost, IsTold, IsUnlinked, IsUpdated, NamesLost, ReportsUpdate, StepsLead, StepsSeen, UpdateEnds, Updates, show_of, shown_of};
 
 use crate::command_line::Show;
 use crate::faults::RunFault;
@@ -90,8 +91,19 @@ fn write_report<W: Write + Drop>(
     }
 }
 
+/// Whether a file to be written, if there is one, is one of those that a run reads.
+fn is_over<F: Files>(files: &F, path: Option<&str>, config: &str, packages: &[String]) -> bool
+    ensures over { result ≡ true → IsSomeAnd (option_map (λ p. p.now) path) (λ p. IsOverOne (F.holds files.now) p (config.now ∷ map (λ p. string_bytes p) packages.now)) }
+    ensures apart { result ≡ false → IsFileApart (F.holds files.now) (option_map (λ p. p.now) path) (config.now ∷ map (λ p. string_bytes p) packages.now) }
+{
+    match path {
+        Some(path) => is_read(files, path, config, packages),
+        None => false,
+    }
+}
+
 /// Lets what looks on begin, where what it shows isn't written over a file that was read.
-fn begin_apart<F: Files, V: Watch>(
+pub(crate) fn begin_apart<F: Files, V: Watch>(
     files: &F,
     config: &str,
     packages: &[String],
@@ -102,13 +114,15 @@ fn begin_apart<F: Files, V: Watch>(
     ensures anew { OnOk result (((V.watched watch.new).seen ≡ 0) × ((V.watched watch.new).lost ≡ None)) }
     ensures apart { OnOk result (IsApart (F.holds files.now) (show_of show.entry) (config.now ∷ map (λ p. string_bytes p) packages.now)) }
     ensures untouched { IfErr result (λ e. e ≡ RunFault.Trace → (watch.new ≡ watch.old) ⊎ ((V.watched watch.new).fault ≡ Some WatchFault.Unwritten)) }
+    ensures unlogged { IfErr result (λ e. e ≡ RunFault.Log → (watch.new ≡ watch.old) ⊎ ((V.watched watch.new).fault ≡ Some WatchFault.Unlogged)) }
     ensures fault { IfErr result (λ e. (e ≡ RunFault.Memory)
-        ⊎ ((e ≡ RunFault.Trace) × IsBarred (F.holds files.now) (V.refuses watch.old) (show_of show.entry) (config.now ∷ map (λ p. string_bytes p) packages.now) (V.watched watch.new))) }
+        ⊎ IsBarred (F.holds files.now) (V.refuses watch.old) (show_of show.entry) (config.now ∷ map (λ p. string_bytes p) packages.now) e (V.watched watch.new)) }
 {
-    if let Some(path) = show.trace {
-        if is_read(files, path, config, packages) {
-            return Err(RunFault::Trace);
-        }
+    if is_over(files, show.trace, config, packages) {
+        return Err(RunFault::Trace);
+    }
+    if is_over(files, show.log, config, packages) {
+        return Err(RunFault::Log);
     }
     match watch.begin(show) {
         Ok(()) => Ok(()),
@@ -198,7 +212,7 @@ fn update_over<L: Link + Drop, S: Wires<L>, V: Watch, W: Write + Drop>(
     ensures turns { OnOk result ((V.watched watch.old).seen ≡ 0 → Updates number world.old world.new (V.watched watch.new).seen) }
     ensures lost { IfErr result (λ e. e ≡ RunFault.Edge EdgeFault.Frame → NamesLost world.new (V.watched watch.new).lost) }
     ensures none_lost { OnOk result ((V.watched watch.new).lost ≡ (V.watched watch.old).lost) }
-    ensures unwritten { IfErr result (λ e. e ≡ RunFault.Trace → (V.watched watch.new).fault ≡ Some WatchFault.Unwritten) }
+    ensures unwritten { IfErr result (λ e. IsTold e (V.watched watch.new)) }
     ensures same { (V.watched watch.new).shows ≡ (V.watched watch.old).shows }
     ensures written { OnOk result (Prints output.old output.new (report_in form world.new)) }
     ensures undone { IfOk result (λ u. u ≡ undone_in world.new) }
@@ -232,8 +246,8 @@ fn update_over<L: Link + Drop, S: Wires<L>, V: Watch, W: Write + Drop>(
 ///
 /// # Errors
 /// The first fault, in this order: of the configuration's file; `NoPackage` where it names no package of this number; of the packages that it
-/// names, one after the other; `Trace` where what looks on can't begin, or would write over one of these files; `Socket` where a link isn't opened. `Edge` where a link
-/// failed or the clock stands at its end, and `Trace` where what looks on can't write: the report is then of the world that was
+/// names, one after the other; `Trace` or `Log` where what looks on can't begin, or would write over one of these files; `Socket` where a link isn't opened. `Edge` where a link
+/// failed or the clock stands at its end, and `Trace` or `Log` where what looks on can't write: the report is then of the world that was
 /// reached. `Output` where the report isn't written whole: a beginning of it may be. `Memory` where memory is refused: nothing is
 /// written then.
 pub fn update_files<F: Files, L: Link + Drop, S: Wires<L>, V: Watch, W: Write + Drop>(
@@ -250,6 +264,7 @@ pub fn update_files<F: Files, L: Link + Drop, S: Wires<L>, V: Watch, W: Write + 
     ensures ok { IfOk result (λ undone. ReportsUpdate (F.holds files.now) config.now number (show_of show.entry) (V.watched watch.new) output.old output.new undone) }
     ensures fault { IfErr result (λ e. UpdateEnds (F.holds files.now) config.now number (show_of show.entry) (V.refuses watch.old) (S.lacks wires.old folder.now) e (V.watched watch.new) output.old output.new) }
     ensures untouched { IfErr result (λ e. e ≡ RunFault.Trace → (watch.new ≡ watch.old) ⊎ ((V.watched watch.new).fault ≡ Some WatchFault.Unwritten)) }
+    ensures unlogged { IfErr result (λ e. e ≡ RunFault.Log → (watch.new ≡ watch.old) ⊎ ((V.watched watch.new).fault ≡ Some WatchFault.Unlogged)) }
 {
     let Config {
         agent,

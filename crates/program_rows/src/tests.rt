@@ -2,6 +2,7 @@
 
 mod inspection;
 mod jobs;
+mod traces;
 
 use fwupd_base::{AnswerFault, answer_stream};
 use std::io::{self, Read, Write};

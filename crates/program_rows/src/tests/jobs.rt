@@ -8,7 +8,7 @@ use fw_edge::{Link, MemLink, StreamLink};
 use fw_json::Form;
 use fw_world::World;
 use fwupd_jobs::{
-    FileFault, FileIdentity, Files, Order, Output, RunFault, Show, Watch, WatchFault, Wires,
+    FileFault, FileIdentity, Files, Order, Output, RunFault, Show, TraceForm, Watch, WatchFault, Wires,
     plan_file, update_checked,
 };
 use mctp_wire::Unit;
@@ -18,8 +18,8 @@ use std::test::Fail;
 
 /// Files in memory: a path, the file's number, and its bytes. Paths of one number are of one file.
 #[derive(Drop)]
-struct MemFiles<'a> {
-    files: &'a [(&'a str, u64, &'a [u8])],
+pub struct MemFiles<'a> {
+    pub files: &'a [(&'a str, u64, &'a [u8])],
 }
 
 impl<'a> Files for MemFiles<'a> {
@@ -57,7 +57,7 @@ const CONFIG: &[u8] = b"agent 8 00000000-0000-0000-0000-000000000000\n\
     component 10 1 0 1 1.0 AA\n";
 
 /// What is written of a job that ends with this fault or without one, and the fault's text.
-fn outcome(rt: &HostRuntime, end: Result<(), RunFault>, written: Vec<u8>) -> Result<Vec<u8>, Fail> {
+pub fn outcome(rt: &HostRuntime, end: Result<(), RunFault>, written: Vec<u8>) -> Result<Vec<u8>, Fail> {
     let mut text = written;
     if let Err(fault) = end {
         let told = format!(in rt.alloc(); "{fault}")?;
@@ -124,10 +124,11 @@ impl Wires<StreamLink<UnixStream>> for CutWires {
 
 /// Counts the turns that it sees, and can't tell of the one of this number. It begins with each file but that of the path "/".
 #[derive(Drop)]
-struct Counter {
+pub struct Counter {
     is_quiet: bool,
-    is_traced: bool,
-    turns: usize,
+    traced: Option<TraceForm>,
+    is_logged: bool,
+    pub turns: usize,
     broken: usize,
     fault: Option<WatchFault>,
     has_ended: bool,
@@ -135,6 +136,20 @@ struct Counter {
 }
 
 impl Counter {
+    /// One that has seen nothing, and can't tell of the turn of this number.
+    pub fn new(broken: usize) -> Counter {
+        Counter {
+            is_quiet: false,
+            traced: None,
+            is_logged: false,
+            turns: 0,
+            broken,
+            fault: None,
+            has_ended: false,
+            lost: None,
+        }
+    }
+
     /// How a call ends.
     fn outcome(&self) -> Result<(), WatchFault>
         ensures ok { OnOk result (self.now.fault ≡ None) }
@@ -149,7 +164,7 @@ impl Counter {
 }
 
 impl Watch for Counter {
-    ghost watched = { λ c. record { fault = c.fault; shows = record { is_quiet = c.is_quiet; is_traced = c.is_traced }; has_ended = c.has_ended; seen = c.turns; lost = c.lost } };
+    ghost watched = { λ c. record { fault = c.fault; shows = record { is_quiet = c.is_quiet; traced = c.traced; is_logged = c.is_logged }; has_ended = c.has_ended; seen = c.turns; lost = c.lost } };
 
     ghost refuses = { λ c path. true };
 
@@ -160,7 +175,17 @@ impl Watch for Counter {
                 return Err(WatchFault::Unwritten);
             }
         }
-        self.is_traced = show.trace.is_some();
+        if let Some(path) = show.log {
+            if path == "/" {
+                self.fault = Some(WatchFault::Unlogged);
+                return Err(WatchFault::Unlogged);
+            }
+        }
+        self.traced = match show.trace {
+            Some(_) => Some(show.trace_form),
+            None => None,
+        };
+        self.is_logged = show.log.is_some();
         self.is_quiet = show.is_quiet;
         self.turns = 0;
         self.lost = None;
@@ -179,14 +204,14 @@ impl Watch for Counter {
         self.lost = Some(device);
     }
 
-    fn end(&mut self) -> Result<(), WatchFault> {
+    fn end(&mut self, _world: &World<'_, MemBank>) -> Result<(), WatchFault> {
         self.has_ended = true;
         self.outcome()
     }
 }
 
 /// The worked package: an image of 241 bytes, byte i being i, for class 10, identifier 1.
-fn package(rt: &HostRuntime) -> Result<Vec<u8>, Fail> {
+pub fn package(rt: &HostRuntime) -> Result<Vec<u8>, Fail> {
     let header =
         b"F018878CCB7D49439800A02F059ACA0201560000000000000000000000000000080001000113000100000000\
         01010000014100000200341201000A000100020000000200000056000000F100000001027632FE656275";
@@ -212,15 +237,7 @@ fn updated<'a, L: Link + Drop, S: Wires<L>>(
         ("linked to c", 1, config),
         ("linked to p", 2, package),
     ];
-    let mut watch = Counter {
-        is_quiet: false,
-        is_traced: false,
-        turns: 0,
-        broken,
-        fault: None,
-        has_ended: false,
-        lost: None,
-    };
+    let mut watch = Counter::new(broken);
     let mut output = match Output::new(rt.alloc(), Vec::new(rt.alloc())) {
         Ok(output) => output,
         Err(fault) => return Ok((outcome(rt, Err(fault), Vec::new(rt.alloc()))?, 0, None)),
@@ -237,6 +254,8 @@ fn updated<'a, L: Link + Drop, S: Wires<L>>(
         Show {
             is_quiet: true,
             trace,
+            trace_form: TraceForm::Hex,
+            log: None,
             form: Form::Text,
         },
         wires,
@@ -251,7 +270,7 @@ fn updated<'a, L: Link + Drop, S: Wires<L>>(
 }
 
 /// The configuration, with a package.
-const WHOLE: &[u8] = b"agent 8 00000000-0000-0000-0000-000000000000\n\
+pub const WHOLE: &[u8] = b"agent 8 00000000-0000-0000-0000-000000000000\n\
     device 9 00000000-0000-0000-0000-000000000000\n\
     descriptor 0000 3412\n\
     component 10 1 0 1 1.0 AA\n\

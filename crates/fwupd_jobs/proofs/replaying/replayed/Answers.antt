@@ -7,12 +7,12 @@ use Rattle.fwupd_jobs.proofs.Told.{replayed_by}
 use Rattle.fwupd_jobs.proofs.replaying.replayed.Goals.{in-Err, in-Ok}
 use Rattle.fwupd_jobs.proofs.replaying.replayed.Goals as goal
 
-pub returns : goal.returns
-returns c =
-    replayed_by (new_world c.args.agent (nodes_made c.args.unit c.args.agent.eid (map device_of c.args.devices.items)) c.args.packages.now) c.in_ok-world.world c.replay.new.world c.args.steps.now
-    c.match-replay.fault c.args.form c.in_ok-report.report.items c.in_ok-world.ensures.made c.in_ok-world.ensures.opens c.packets_are_safe.ensures.law
-    (elim c.match-replay.branch [
-      | in-Ok h ↦ subst (λ f. Leaves c.in_ok-world.world c.args.steps.now f c.replay.new.world) (sym h.fault-is) h.in-Ok.ensures.ok
-      | in-Err h ↦ subst (λ f. Leaves c.in_ok-world.world c.args.steps.now f c.replay.new.world) (sym h.fault-is) h.in-Err.ensures.stopped
+pub returns-clause-replayed : goal.returns-clause-replayed
+returns-clause-replayed g c =
+    replayed_by (new_world c.args.agent (nodes_made c.args.unit c.args.agent.eid (map device_of c.args.devices.items)) c.args.packages.now) c.in_ok-world.world c.replay_by.new.world c.args.steps.now
+    c.match-replay_by.fault c.args.show.form c.in_ok-report.report.items c.in_ok-world.ensures.made c.in_ok-world.ensures.opens c.packets_are_safe.ensures.law
+    (elim c.match-replay_by.branch [
+      | in-Ok h ↦ subst (λ f. Leaves c.in_ok-world.world c.args.steps.now f c.replay_by.new.world) (sym h.fault-is) h.in-Ok.ensures.ok
+      | in-Err h ↦ subst (λ f. Leaves c.in_ok-world.world c.args.steps.now f c.replay_by.new.world) (sym h.fault-is) h.in-Err.ensures.stopped
     ])
     c.in_ok-report.ensures

@@ -2,7 +2,7 @@ use Rattle.std.proofs.Common.{◌∙◌, ◌+◌, arith, ap, inl, length, map, r
 use Rattle.fwupd_jobs.specs.Running.{StepsSeen, Updates}
 use Rattle.fw_edge.specs.Ledgers.{AllSent, packet_counts}
 use Rattle.fw_edge.proofs.Sending.{sent_none, sent_on}
-use Rattle.fwupd_jobs.proofs.Started.{counted_alike, seen_next, turned_apart, unwritten_by, updates_more, updates_none, updates_off, updates_reached, updates_seen, updates_seen_off, watched_apart}
+use Rattle.fwupd_jobs.proofs.Started.{counted_alike, seen_next, turned_told, unwritten_by, updates_more, updates_none, updates_off, updates_reached, updates_seen, updates_seen_off, watched_apart}
 use Rattle.fw_edge.specs.declared.driving.EdgeFault.TheVariants as edges
 use Rattle.fwupd_jobs.proofs.running.update_all.Goals as goal
 
@@ -50,11 +50,11 @@ pub returns-in-Err-see-clause-step : goal.returns-in-Err-see-clause-step
 returns-in-Err-see-clause-step g c e = absurd (watched_apart c.in-Err-see.fault edges.Step (sym c.watch_fault.ensures.told ∙ e))
 
 pub returns-in-Err-drive-clause-unwritten : goal.returns-in-Err-drive-clause-unwritten
-returns-in-Err-drive-clause-unwritten g c e = absurd (turned_apart c.in-Err-drive.fault (sym c.broken_off.ensures.told ∙ e))
+returns-in-Err-drive-clause-unwritten g c = turned_told c.in-Err-drive.fault c.broken_off.result (g.V.Watch.watched c.broken_off.new.watch) c.broken_off.ensures.told
 
 pub returns-in-Err-see-clause-unwritten : goal.returns-in-Err-see-clause-unwritten
-returns-in-Err-see-clause-unwritten g c e =
-    unwritten_by c.in-Err-see.fault (g.V.Watch.watched c.see.new.self).fault (sym c.watch_fault.ensures.told ∙ e) c.in-Err-see.ensures.err
+returns-in-Err-see-clause-unwritten g c =
+    unwritten_by c.in-Err-see.fault c.watch_fault.result (g.V.Watch.watched c.see.new.self) c.watch_fault.ensures.told c.in-Err-see.ensures.err
 
 pub returns-then-driven-eq0-clause-sent : goal.returns-then-driven-eq0-clause-sent
 returns-then-driven-eq0-clause-sent g c =
