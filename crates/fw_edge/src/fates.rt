@@ -6,7 +6,7 @@ ghost use Rattle.fw_edge.specs.Fates.{fate_of, generator_after, word_after, word
 use rand_core::utils::NextWord;
 use rand_pcg::Pcg32;
 
-/// How rough a link is.
+/// How rough a link is, and by which chances.
 #[derive(Clone, Copy, Debug, PartialEq, Eq)]
 pub struct Roughness {
     /// How many of a hundred packets are lost, on the average: 0 to 100.
@@ -15,6 +15,8 @@ pub struct Roughness {
     pub duplicate: u8,
     /// How many turns a packet is late at most.
     pub delay: u8,
+    /// What the chances begin with: the same seed gives the same again.
+    pub seed: u64,
 }
 
 impl Roughness {
@@ -23,11 +25,13 @@ impl Roughness {
         ensures loss { result.loss ≡ 0 }
         ensures duplicate { result.duplicate ≡ 0 }
         ensures delay { result.delay ≡ 0 }
+        ensures seed { result.seed ≡ 0 }
     {
         Roughness {
             loss: 0,
             duplicate: 0,
             delay: 0,
+            seed: 0,
         }
     }
 }

@@ -137,11 +137,11 @@ fn release<L: Link>(link: &mut L, held: &mut Vec<Held>, turn: u64) -> Result<(),
 }
 
 impl<L: Link + Drop> Rough<L> {
-    /// A rough link over this one, whose chances are those of a seed, in a stream of its own.
-    pub fn new(alloc: Global, link: L, roughness: Roughness, seed: u64, stream: u64) -> Rough<L>
+    /// A rough link over this one, whose chances are a stream of their own among those of the seed.
+    pub fn new(alloc: Global, link: L, roughness: Roughness, stream: u64) -> Rough<L>
         ensures link { result.link ≡ link }
         ensures roughness { result.roughness ≡ roughness }
-        ensures generator { result.generator ≡ started 64 multiplier_64 seed (increment_of 64 stream) }
+        ensures generator { result.generator ≡ started 64 multiplier_64 roughness.seed (increment_of 64 stream) }
         ensures held { result.held.items ≡ [] }
         ensures turn { result.turn ≡ 0 }
         ensures idle { result.is_idle ≡ false }
@@ -153,7 +153,7 @@ impl<L: Link + Drop> Rough<L> {
         Rough {
             link,
             roughness,
-            generator: Pcg32::new(seed, stream),
+            generator: Pcg32::new(roughness.seed, stream),
             held: Vec::new(alloc),
             turn: 0,
             is_idle: false,
