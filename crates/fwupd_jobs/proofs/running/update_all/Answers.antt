@@ -48,17 +48,17 @@ returns-in-Err-see_turn-clause-reached g c =
 
 pub returns-in-Err-see_turn-clause-failed : goal.returns-in-Err-see_turn-clause-failed
 returns-in-Err-see_turn-clause-failed g c =
-    (λ e. absurd (watched_apart c.in-Err-see_turn.fault edges.Frame (sym c.watch_fault.ensures.told ∙ e)), λ other. c.in-Ok-drive.ensures.done.counts.kept ∙ c.loop.invariant.kept)
+    (λ e. absurd (watched_apart c.in-Err-see_turn.fault edges.Frame (sym c.watch_fault-in-Err-see_turn.ensures.told ∙ e)), λ other. c.in-Ok-drive.ensures.done.counts.kept ∙ c.loop.invariant.kept)
 
 pub returns-in-Err-see_turn-clause-step : goal.returns-in-Err-see_turn-clause-step
-returns-in-Err-see_turn-clause-step g c e = absurd (watched_apart c.in-Err-see_turn.fault edges.Step (sym c.watch_fault.ensures.told ∙ e))
+returns-in-Err-see_turn-clause-step g c e = absurd (watched_apart c.in-Err-see_turn.fault edges.Step (sym c.watch_fault-in-Err-see_turn.ensures.told ∙ e))
 
 pub returns-in-Err-drive-clause-unwritten : goal.returns-in-Err-drive-clause-unwritten
 returns-in-Err-drive-clause-unwritten g c = turned_apart c.in-Err-drive.fault c.broken_off.result _ c.broken_off.ensures.told
 
 pub returns-in-Err-see_turn-clause-unwritten : goal.returns-in-Err-see_turn-clause-unwritten
 returns-in-Err-see_turn-clause-unwritten g c =
-    unwritten_by c.in-Err-see_turn.fault (g.V.Watch.watched c.see_turn.new.watch).fault c.watch_fault.result c.watch_fault.ensures.told c.in-Err-see_turn.ensures.err
+    unwritten_by c.in-Err-see_turn.fault (g.V.Watch.watched c.see_turn.new.watch).fault c.watch_fault-in-Err-see_turn.result c.watch_fault-in-Err-see_turn.ensures.told c.in-Err-see_turn.ensures.err
 
 pub returns-then-driven-eq0-clause-sent : goal.returns-then-driven-eq0-clause-sent
 returns-then-driven-eq0-clause-sent g c =
@@ -72,7 +72,7 @@ loop-preserved g c = record {
       (updates_more c.args.number c.args.world.now c.loop.world c.drive.new.world c.loop.counter c.in-Ok-drive.driven.turns c.loop.steps.items c.drive.new.steps.items c.loop.invariant.updates
       c.loop.invariant.none c.drive.ensures.drives.drives c.in-Ok-drive.ensures.done.ticks);
   devices = c.drive.ensures.devices;
-  none = c.clear.ensures.items;
+  none = c.clear-in-loop.ensures.items;
   sent =
       sent_on (packet_counts c.args.world.now.sites) (packet_counts c.loop.world.sites) (packet_counts c.drive.new.world.sites)
       (map (λ k. (g.L.Link.tally k).sent) c.args.links.now) (map (λ k. (g.L.Link.tally k).sent) c.loop.links) (map (λ k. (g.L.Link.tally k).sent) c.drive.new.links) c.loop.invariant.sent c.in-Ok-drive.ensures.done.counts.sent;
@@ -81,8 +81,8 @@ loop-preserved g c = record {
   lost = c.see_turn.ensures.lost ∙ c.loop.invariant.lost;
   recorded =
       run_noted c.schedules_read_back.ensures.portions c.args.world.now c.loop.world c.drive.new.world (g.V.Watch.watched c.args.watch.now).recording (g.V.Watch.watched c.loop.watch).recording
-      (g.V.Watch.watched c.see_turn.new.watch).recording c.loop.steps.items c.drive.new.steps.items c.as_slice-2.result.now c.loop.invariant.recorded c.loop.invariant.none c.drive.ensures.drives.drives
-      c.as_slice-2.ensures.value c.in-Ok-see_turn.ensures.noted;
+      (g.V.Watch.watched c.see_turn.new.watch).recording c.loop.steps.items c.drive.new.steps.items c.as_slice-in-loop.result.now c.loop.invariant.recorded c.loop.invariant.none c.drive.ensures.drives.drives
+      c.as_slice-in-loop.ensures.value c.in-Ok-see_turn.ensures.noted;
   shows = c.see_turn.ensures.same ∙ c.loop.invariant.shows;
 }
 
