@@ -36,6 +36,7 @@ unsaid_so read path text file fault (faults.Step n f) h held is = absurd h
 unsaid_so read path text file fault faults.NoPackage h held is = absurd h
 unsaid_so read path text file fault (faults.Socket device) h held is = absurd h
 unsaid_so read path text file fault faults.Trace h held is = absurd h
+unsaid_so read path text file fault faults.Record h held is = absurd h
 unsaid_so read path text file fault (faults.Edge f) h held is = absurd h
 unsaid_so read path text file fault (faults.Session device word) h held is = absurd h
 unsaid_so read path text file fault faults.Output h held is = absurd h

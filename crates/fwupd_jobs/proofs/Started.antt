@@ -214,6 +214,10 @@ pub update_caused : (number : ℕ) (w v : WorldOf) (fault : RunFault) (watched :
 update_caused number w v fault watched (inl e) step unwritten ended = inl e
 update_caused number w v fault watched (inr b) step unwritten ended = inr (record { broken = b; stopped = step; unwritten = unwritten; let_end = ended })
 
+pub caused_unwritten : (number : ℕ) (w v : WorldOf) (fault : RunFault) (watched : WatchOf) → (fault ≡ told.Memory) ⊎ IsCaused number w v fault watched → IsUnwritten fault watched.fault
+caused_unwritten number w v fault watched (inl e) = rw e tt
+caused_unwritten number w v fault watched (inr h) = h.unwritten
+
 -- a device to which no link is opened
 pub unlinked_at : (w : WorldOf) (lacks : ℕ → Bool) (place device : ℕ) (n : DeviceNodeOf) (fault : RunFault) → option_map (λ x. x.node) (slice_get w.sites place) ≡ Some n → device ≡ n.endpoint.eid
     → (fault ≡ told.Memory) ⊎ ((fault ≡ told.Socket device) × (lacks device ≡ true)) → (fault ≡ told.Memory) ⊎ IsUnlinked w lacks fault
