@@ -1,6 +1,6 @@
 //! The steps of a run, written as a schedule while they are taken.
 
-ghost use Rattle.std.specs.Prelude.{◌≡◌, [], IfErr, IfOk, List, OnOk, Option, true, ℕ};
+ghost use Rattle.std.specs.Prelude.{◌≡◌, ◌<◌, ◌^◌, [], IfErr, IfOk, List, OnOk, Option, true, ℕ};
 ghost use Rattle.exch_lane.specs.Lanes.{IsEid};
 ghost use Rattle.std.specs.Io.Buffered.{writer_buffer, writer_contents, writer_inner};
 ghost use Rattle.fw_script.specs.ScheduleTexts.{AreSayable, IsSayable};
@@ -28,15 +28,24 @@ fn is_eid(eid: u8) -> bool
     8 <= eid && eid <= 254
 }
 
+/// Whether a number is one of 64 bits, as each of the code is.
+fn is_counted(number: usize) -> bool
+    ensures { result ≡ true → number < 2 ^ 64 }
+{
+    number <= usize::MAX
+}
+
 /// Whether a step is one that a run takes and a schedule can say: the update of a device starts, a packet comes, a tick passes
 /// that nobody misses, a device has its verdict or activates.
 fn is_said(step: &Step) -> bool
     ensures { result ≡ true → IsSayable step.now }
 {
     match step {
-        Step::Deliver(pair, _, node) => is_eid(*pair) && is_eid(*node),
+        Step::Deliver(pair, number, node) => {
+            is_eid(*pair) && is_counted(*number) && is_eid(*node)
+        }
         Step::Tick(missed) => missed.is_empty(),
-        Step::Start(device, _) => is_eid(*device),
+        Step::Start(device, number) => is_eid(*device) && is_counted(*number),
         Step::Activate(device) => is_eid(*device),
         Step::Verdict(device, _) => is_eid(*device),
         _ => false,
