@@ -1,5 +1,5 @@
 -- Steps that are noted, portion by portion.
-use Rattle.std.proofs.Common.{◌≡◌, ◌++◌, ◌∙◌, ℕ, zero, List, [], ◌∷◌, Option, Some, None, Ok, ap, subst, sym, refl, true}
+use Rattle.std.proofs.Common.{◌≡◌, ◌++◌, ◌∙◌, ℕ, zero, List, [], ◌∷◌, Option, Some, None, Result, Ok, Err, OnOk, ap, subst, sym, refl, true}
 use Rattle.std.specs.Prelude.{IfSome}
 use Rattle.std.specs.Io.KnownBytes.{Appends}
 use Rattle.std.proofs.KnownBytes.{Appends-trans}
@@ -14,7 +14,8 @@ use Rattle.fw_script.specs.Schedules.{script_of}
 use Rattle.fw_world.specs.Headline.{Leads, Run, faults_before, world_after}
 use Rattle.fw_world.specs.Worlds.{WorldOf}
 use Rattle.fw_world.specs.declared.step.Step.{Step}
-use Rattle.fwupd_jobs.specs.Recordings.{AllWork, Closes, Ends, IsNew, IsRecorded, Notes, NotesRun, RecordingOf, RecordsReplay, Writes}
+use Rattle.fwupd_jobs.specs.Recordings.{AllWork, Closes, Ends, IsNew, IsRecorded, Notes, NotesRun, RecordingOf, RecordsReplay, Writes, recording_of}
+use Rattle.fwupd_jobs.specs.declared.running.WatchFault.{WatchFault}
 
 -- steps of two lists can be said
 both_sayable : (front back : List Step) → AreSayable front → AreSayable back → AreSayable (front ++ back)
@@ -82,6 +83,17 @@ recorded_whole law w v None (Some s) c h k new = absurd (let noted = h.noted in 
 recorded_whole law w v (Some r) None c h k new = absurd h.noted
 recorded_whole law w v (Some r) (Some s) None h k new = absurd k
 recorded_whole law w v (Some r) (Some s) (Some t) h k new = whole law w v r s t h.steps h.run h.noted k new
+
+-- into a file, of whose bytes nothing is known
+pub ended_in : (r : Result (Prim.Unit {0}) WatchFault) (w v : Option (List ℕ)) (idle left : ℕ) (a : Option RecordingOf) (F : Type 0) → a ≡ Some (recording_of None None idle)
+    → OnOk r (Ends (recording_of None w idle) (recording_of None v left)) → OnOk r (F → Closes a (Some (recording_of None None left)))
+ended_in (Ok u) w v idle left a F is h = λ given. rw is (record { begun = refl; text = tt; none_held = h.none_held })
+ended_in (Err e) w v idle left a F is h = tt
+
+pub noted_in : (r : Result (Prim.Unit {0}) WatchFault) (w v : Option (List ℕ)) (idle left : ℕ) (a : Option RecordingOf) (ss : List Step) (F : Type 0) → a ≡ Some (recording_of None None idle)
+    → OnOk r (Writes (recording_of None w idle) (recording_of None v left) ss) → OnOk r (F → Notes a (Some (recording_of None None left)) ss)
+noted_in (Ok u) w v idle left a ss F is h = λ given. rw is (record { begun = refl; text = tt; idle = h.idle; sayable = h.sayable })
+noted_in (Err e) w v idle left a ss F is h = tt
 
 -- THE LAW
 
