@@ -5,6 +5,7 @@ mod Ended
 mod Examined
 mod Foretold
 mod Named
+mod Noted
 mod Packed
 mod Seen
 mod Started

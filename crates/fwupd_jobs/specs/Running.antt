@@ -1,5 +1,5 @@
 -- What a run over links makes of a world, and what is written of it.
-use Rattle.std.specs.Prelude.{ℕ, suc, ◌≡◌, ◌≢◌, ◌≤◌, ◌+◌, ◌-◌, ◌^◌, ◌++◌, ◌⊎◌, Bool, false, true, if◌then◌else◌, List, [], ◌∷◌, Option, None, Some, IfSome, is_some, length, map, option_map, slice_get, take}
+use Rattle.std.specs.Prelude.{ℕ, suc, ◌≡◌, ◌≢◌, ◌≤◌, ◌+◌, ◌-◌, ◌^◌, ◌++◌, ◌⊎◌, Bool, false, true, if◌then◌else◌, List, [], ◌∷◌, Option, None, Some, IfSome, IsSomeAnd, is_some, length, map, option_map, slice_get, take}
 use Rattle.std.specs.List.{AllByRecursion}
 use Rattle.fw_edge.specs.Drives.{AreDriven, all_over, ticks_in}
 use Rattle.fw_edge.specs.Ledgers.{OneFailed}
@@ -15,8 +15,9 @@ use Rattle.fw_world.specs.declared.step.Step.{Step}
 use Rattle.fw_world.specs.declared.step.Step.TheVariants as steps
 use Rattle.fwupd_jobs.specs.Outputs.{FailsToPrint, OutputOf, Prints}
 use Rattle.fwupd_jobs.specs.Promises.{IsSafeSince}
+use Rattle.fwupd_jobs.specs.Recordings.{IsRecorded, RecordingOf}
 use Rattle.fwupd_jobs.specs.Sessions.{undone_in}
-use Rattle.fwupd_jobs.specs.Setups.{FileOf, IsApartFrom, IsOverOne, IsSetup, LacksPackage, SetupFails}
+use Rattle.fwupd_jobs.specs.Setups.{FileOf, IsApartFrom, IsOver, IsOverOne, IsSetup, LacksPackage, SetupFails}
 use Rattle.fwupd_jobs.specs.declared.command_line.Show.{Show}
 use Rattle.fwupd_jobs.specs.declared.command_line.TraceForm.{TraceForm}
 use Rattle.fwupd_jobs.specs.declared.faults.RunFault.{RunFault}
@@ -67,6 +68,7 @@ IsBroken (faults.Edge edges.Frame) = Prim.Unit {0}
 IsBroken (faults.Edge edges.Step) = Prim.Unit {0}
 IsBroken faults.Trace = Prim.Unit {0}
 IsBroken faults.Log = Prim.Unit {0}
+IsBroken faults.Record = Prim.Unit {0}
 IsBroken fault = ⊥
 
 -- how a run is told of that ends within a turn
@@ -78,7 +80,19 @@ told_of fault = faults.Edge fault
 abbrev pub told_by : WatchFault → RunFault
 told_by watches.Unwritten = faults.Trace
 told_by watches.Unlogged = faults.Log
+told_by watches.Unrecorded = faults.Record
 told_by watches.Memory = faults.Memory
+
+-- the fault of what looks on that is told so, if one is told so alone
+abbrev pub watch_of : RunFault → Option WatchFault
+watch_of faults.Trace = Some watches.Unwritten
+watch_of faults.Log = Some watches.Unlogged
+watch_of faults.Record = Some watches.Unrecorded
+watch_of fault = None
+
+-- Where what looks on can't write a file of its own, it has that fault.
+abbrev pub IsUnwritten : RunFault → Option WatchFault → Type 0
+IsUnwritten told fault = IfSome (watch_of told) (λ f. fault ≡ Some f)
 
 -- A link's fault is told where one failed, and another fault where none did.
 abbrev pub AreToldOf : RunFault → List ℕ → List ℕ → Type 0
@@ -98,12 +112,13 @@ abbrev pub MayEnd : RunFault → Type 0
 MayEnd fault = (fault ≡ faults.Memory) ⊎ IsBroken fault
 
 -- What is shown of a run: whether it is to be without progress, the path of the file that its packets are written to, if any, and in
--- which form, and that of the file of its log's records, if any.
+-- which form, and those of the files of its log's records and of its steps, if any.
 pub record ShowOf : Type 0 where
   pub is_quiet : Bool
   pub trace : Option (List ℕ)
   pub trace_form : TraceForm
   pub log : Option (List ℕ)
+  pub record_path : Option (List ℕ)
   pub form : Form
 
 -- what the words of a command line ask to be shown
@@ -113,71 +128,77 @@ show_of s = record {
   trace = option_map (λ path. path.now) s.trace;
   trace_form = s.trace_form;
   log = option_map (λ path. path.now) s.log;
+  record_path = option_map (λ path. path.now) s.record;
   form = s.form;
 }
 
 -- What looks on shows so much: no progress where it is to be quiet, the packets in a form where they are written to a file, and the
--- log's records where they are.
+-- log's records and the steps where they are.
 pub record ShownOf : Type 0 where
   pub is_quiet : Bool
   pub traced : Option TraceForm
   pub is_logged : Bool
+  pub is_recorded : Bool
 
--- what is shown where there is progress or not, it is to be quiet or not, and there is a trace of a form and a log or not
-abbrev pub shown_by : (has_progress is_quiet : Bool) → (traced : Option TraceForm) → (is_logged : Bool) → ShownOf
-shown_by has_progress is_quiet traced is_logged = record { is_quiet = if has_progress then false else is_quiet; traced = traced; is_logged = is_logged }
+-- what is shown where there is progress or not, it is to be quiet or not, and there is a trace of a form, a log, and a recording, or not
+abbrev pub shown_by : (has_progress is_quiet : Bool) → (traced : Option TraceForm) → (is_logged is_recorded : Bool) → ShownOf
+shown_by has_progress is_quiet traced is_logged is_recorded =
+    record { is_quiet = if has_progress then false else is_quiet; traced = traced; is_logged = is_logged; is_recorded = is_recorded }
 
 -- what is shown where this is asked for
 abbrev pub shown_of : ShowOf → ShownOf
-shown_of show = record { is_quiet = show.is_quiet; traced = option_map (λ _. show.trace_form) show.trace; is_logged = is_some show.log }
+shown_of show = record {
+  is_quiet = show.is_quiet;
+  traced = option_map (λ _. show.trace_form) show.trace;
+  is_logged = is_some show.log;
+  is_recorded = is_some show.record_path;
+}
 
--- the file that a fault of what looks on is about
-abbrev pub file_of : ShowOf → WatchFault → Option (List ℕ)
-file_of show watches.Unwritten = show.trace
-file_of show watches.Unlogged = show.log
-file_of show watches.Memory = None
-
--- What looks on: its first fault, if it had one, what it shows, whether it was let end, how many turns it saw, and the device whose link it
--- was told of as failed, if any.
+-- What looks on: its first fault, if it had one, what it shows, whether it was let end, how many turns it saw, the device whose link it
+-- was told of as failed, if any, and what it has written of the steps, if they are recorded.
 pub record WatchOf : Type 0 where
   pub fault : Option WatchFault
   pub shows : ShownOf
   pub has_ended : Bool
   pub seen : ℕ
   pub lost : Option ℕ
+  pub recording : Option RecordingOf
 
--- A file, if there is one, is none of these paths.
-abbrev pub IsFileApart : (files : List ℕ → FileOf) → Option (List ℕ) → List (List ℕ) → Type 0
-IsFileApart files file paths = IfSome file (λ path. AllByRecursion (IsApartFrom files path) paths)
+-- A file that is written, if one is, is over one of these, or over another that is written; and it is over none.
+abbrev pub IsOverUsed : (files : List ℕ → FileOf) (path other : Option (List ℕ)) (paths : List (List ℕ)) → Type 0
+IsOverUsed files path other paths = IsSomeAnd path (λ p. IsOverOne files p paths ⊎ IsSomeAnd other (IsOver files p))
 
--- The packets and the log's records are written over none of the files of these paths.
+abbrev pub IsApartFromUsed : (files : List ℕ → FileOf) (path other : Option (List ℕ)) (paths : List (List ℕ)) → Type 0
+IsApartFromUsed files path other paths = IfSome path (λ p. AllByRecursion (IsApartFrom files p) paths × IfSome other (IsApartFrom files p))
+
+-- Nothing is written over the files of these paths, and the steps not over the packets.
 abbrev pub IsApart : (files : List ℕ → FileOf) → ShowOf → List (List ℕ) → Type 0
-IsApart files show paths = IsFileApart files show.trace paths × IsFileApart files show.log paths
+IsApart files show paths =
+    IsApartFromUsed files show.trace None paths × (IsApartFromUsed files show.log None paths × IsApartFromUsed files show.record_path show.trace paths)
 
--- The file that a fault is about may be refused.
-pub record MayRefuse (refuses : List ℕ → Bool) (show : ShowOf) (fault : WatchFault) : Type 0 where
-  pub path : List ℕ
-  pub asked : file_of show fault ≡ Some path
-  pub refused : refuses path ≡ true
+-- The file that what looks on can't write, where that is told, would be written over one of these, or the steps over the packets.
+abbrev pub IsOverRead : (files : List ℕ → FileOf) → ShowOf → List (List ℕ) → RunFault → Type 0
+IsOverRead files show paths faults.Trace = IsOverUsed files show.trace None paths
+IsOverRead files show paths faults.Log = IsOverUsed files show.log None paths
+IsOverRead files show paths faults.Record = IsOverUsed files show.record_path show.trace paths
+IsOverRead files show paths told = ⊥
 
--- What looks on doesn't begin: the file that it would write is one of these paths, or is refused.
-pub record IsBarred (files : List ℕ → FileOf) (refuses : List ℕ → Bool) (show : ShowOf) (paths : List (List ℕ)) (told : RunFault) (watched : WatchOf) : Type 0 where
-  pub fault : WatchFault
-  pub is : told ≡ told_by fault
-  pub path : List ℕ
-  pub asked : file_of show fault ≡ Some path
-  pub cause : IsOverOne files path paths ⊎ ((watched.fault ≡ Some fault) × MayRefuse refuses show fault)
+-- Or that file may be refused.
+abbrev pub MayRefuse : (refuses : List ℕ → Bool) → ShowOf → RunFault → Type 0
+MayRefuse refuses show faults.Trace = IsSomeAnd show.trace (λ path. refuses path ≡ true)
+MayRefuse refuses show faults.Log = IsSomeAnd show.log (λ path. refuses path ≡ true)
+MayRefuse refuses show faults.Record = IsSomeAnd show.record_path (λ path. refuses path ≡ true)
+MayRefuse refuses show told = ⊥
 
--- What looks on has the fault that is told, where it is one of its own.
-pub record IsTold (told : RunFault) (watched : WatchOf) : Type 0 where
-  pub trace : told ≡ faults.Trace → watched.fault ≡ Some watches.Unwritten
-  pub log : told ≡ faults.Log → watched.fault ≡ Some watches.Unlogged
+-- What looks on doesn't begin, and tells so.
+abbrev pub IsBarred : (files : List ℕ → FileOf) (refuses : List ℕ → Bool) (show : ShowOf) (paths : List (List ℕ)) (told : RunFault) (watched : WatchOf) → Type 0
+IsBarred files refuses show paths told watched = IsOverRead files show paths told ⊎ (IsUnwritten told watched.fault × MayRefuse refuses show told)
 
 -- Why a run doesn't go on is so: a start is refused or the clock stands at its end, and what looks on can't be written. It was let end.
 pub record IsCaused (number : ℕ) (w v : WorldOf) (told : RunFault) (watched : WatchOf) : Type 0 where
   pub broken : IsBroken told
   pub stopped : told ≡ faults.Edge edges.Step → IsRefusedStart number w v ⊎ (v.now ≡ 2 ^ 32 - 1)
-  pub unwritten : IsTold told watched
+  pub unwritten : IsUnwritten told watched.fault
   pub let_end : watched.has_ended ≡ true
 
 -- Each of these links is that of the device at its place, in a network with its transmission unit.
@@ -244,6 +265,7 @@ pub record ReportsUpdate (files : List ℕ → FileOf) (config : List ℕ) (numb
   pub none_lost : watched.lost ≡ None
   pub let_end : watched.has_ended ≡ true
   pub undone_is : undone ≡ undone_in left
+  pub recorded : IfSome watched.recording (IsRecorded world left)
   pub written : Prints before now (report_in show.form left)
 
 -- It is written of what was reached, and where a link failed, what looks on was told whose.

@@ -2,10 +2,11 @@
 
 ghost use Rattle.std.specs.Prelude.{◌≡◌, IfOk};
 ghost use Rattle.clap.specs.Words.{found_of};
-ghost use Rattle.fwupd_jobs.specs.Words.{Asks, AsksEndpoint, AsksForm, AsksKept, AsksNumber, AsksOrder, AsksTraceForm, text_under};
+ghost use Rattle.fwupd_jobs.specs.Words.{Asks, AsksEndpoint, AsksForm, AsksKept, AsksNumber, AsksOrder, AsksRoughness, AsksSeed, AsksSmall, AsksTraceForm, text_under};
 
 use clap::error::ErrorKind;
 use clap::{Arg, ArgAction, ArgMatches, Command, value_parser};
+use fw_edge::Roughness;
 use fw_json::Form;
 use mctp_ctl::Endpoint;
 use std::alloc::Global;
@@ -49,6 +50,8 @@ pub struct Order {
     pub number: usize,
     /// Whether each session has to be Done in the end.
     pub is_checked: bool,
+    /// How rough its links are.
+    pub roughness: Roughness,
 }
 
 /// What is shown of a run or a replay.
@@ -62,6 +65,8 @@ pub struct Show<'a> {
     pub trace_form: TraceForm,
     /// The file that the event log's records are written to in the end, if there is one.
     pub log: Option<&'a str>,
+    /// The file that each step is written to as it is taken, as a schedule, if there is one.
+    pub record: Option<&'a str>,
     /// The form of its report.
     pub form: Form,
 }
@@ -239,6 +244,7 @@ Examples:
   fwupd run examples/one.config .
   fwupd run --check examples/one.config . && echo updated
   fwupd run --quiet --trace out/packets examples/one.config .
+  fwupd run --loss 20 --delay 3 --seed 7 --record out/kept examples/one.config .
 
 CONFIG and the report are those of 'fwupd replay --help'.
 
@@ -246,12 +252,16 @@ If standard error is a terminal, it shows the progress of the first device that 
 --trace writes a line for each packet: the turn, the device, to-device or to-agent, and the packet
 in hexadecimal digits; with --trace-format text what each packet says, with its number, which
 'deliver' of a schedule takes; with pcap a capture, as Linux makes it on an MCTP interface, in which
-a turn is a second. --sel writes the event log's records, 16 bytes each, for 'fwupd sel'.
+a turn is a second. --sel writes the event log's records, 16 bytes each, for 'fwupd sel'. --record
+writes a line for each step, as a schedule: 'fwupd replay CONFIG FILE' then prints the same report.
+
+--loss, --duplicate and --delay make the links bad on purpose. A packet that is lost never comes; one
+that comes twice is late each time by chance; and one that is late is held back for 0 to N turns.
 
 Faults: 'package: none' if CONFIG names fewer packages; 'socket: EID' if FOLDER/EID.sock can't be
 made, or is there already; after the report, 'edge: Frame' if a socket failed, 'edge: Step' at the
-end of the clock, and 'trace' or 'sel' if the trace or the log can't be written. If its file can't
-be made, or is one that is read, 'trace' or 'sel', and nothing is run. With --check, after the report, 'session EID: WORD' of the first session in
+end of the clock, and 'trace', 'sel' or 'record' if that file can't be written. If it can't be made,
+or is one that is read, the same, and nothing is run. With --check, after the report, 'session EID: WORD' of the first session in
 configured order that isn't Done: the cause of its failure, or where it stands.
 
 Limits: 80000 turns of one tick each. Three images of 1 MiB take about 66000.
@@ -288,6 +298,55 @@ fn log_option<'a>(alloc: Global) -> Arg<'a> {
         .help("Writes the event log's records to a file in the end")
 }
 
+/// An option of a small number, at most this one, and 0 where it isn't given.
+fn small_option<'a>(
+    alloc: Global,
+    name: &'static str,
+    value: &'static str,
+    most: i64,
+    help: &'static str,
+) -> Arg<'a> {
+    Arg::new(alloc, name)
+        .long(name)
+        .value_name(value)
+        .help(help)
+        .default_value("0")
+        .value_parser(value_parser!(u8).range(0..most + 1))
+}
+
+/// A command with the options that make links rough.
+fn with_roughness<'a>(alloc: Global, command: Command<'a>) -> Result<Command<'a>, clap::Error> {
+    let loss = small_option(
+        alloc,
+        "loss",
+        "P",
+        100,
+        "Loses so many of a hundred packets",
+    );
+    let duplicate = small_option(
+        alloc,
+        "duplicate",
+        "P",
+        100,
+        "Delivers so many of a hundred twice",
+    );
+    let delay = small_option(
+        alloc,
+        "delay",
+        "N",
+        8,
+        "Holds packets back for up to so many turns",
+    );
+    let seed = Arg::new(alloc, "seed")
+        .long("seed")
+        .value_name("N")
+        .help("Which chances these are: a seed gives the same run again")
+        .default_value("0")
+        .value_parser(value_parser!(u64));
+    let command = command.arg(loss)?.arg(duplicate)?.arg(delay)?.arg(seed)?;
+    Ok(command)
+}
+
 /// The subcommand `run`.
 fn run_command<'a>(alloc: Global) -> Result<Command<'a>, clap::Error> {
     let config = Arg::new(alloc, "CONFIG")
@@ -302,6 +361,10 @@ fn run_command<'a>(alloc: Global) -> Result<Command<'a>, clap::Error> {
         .long("quiet")
         .help("Shows no progress")
         .action(ArgAction::SetTrue);
+    let record = Arg::new(alloc, "record")
+        .long("record")
+        .value_name("FILE")
+        .help("Writes each step to a file as it is taken, as a schedule to replay");
     let check = Arg::new(alloc, "check")
         .long("check")
         .help("Fails where a session doesn't end Done")
@@ -320,10 +383,11 @@ fn run_command<'a>(alloc: Global) -> Result<Command<'a>, clap::Error> {
         .arg(trace_option(alloc))?
         .arg(trace_form_option(alloc))?
         .arg(log_option(alloc))?
+        .arg(record)?
         .arg(json_option(alloc))?
         .arg(config)?
         .arg(folder)?;
-    Ok(command)
+    with_roughness(alloc, command)
 }
 
 /// What stands below the help of `sel`.
@@ -575,7 +639,40 @@ fn show_in<'a>(matches: &ArgMatches<'a>, is_quiet: bool) -> Show<'a>
         trace: matches.get_str("trace"),
         trace_form: trace_form_in(matches),
         log: matches.get_str("sel"),
+        record: matches.get_str("record"),
         form: form_in(matches),
+    }
+}
+
+/// A small number that the words give under a name, and 0 where they give none.
+fn small_under(matches: &ArgMatches<'_>, name: &str) -> u8
+    ensures { AsksSmall (found_of matches.now) name.now result }
+{
+    match matches.get_one::<u8>(name) {
+        Some(number) => number,
+        None => 0,
+    }
+}
+
+/// The seed that the words give.
+fn seed_in(matches: &ArgMatches<'_>) -> u64
+    ensures { AsksSeed (found_of matches.now) result }
+{
+    match matches.get_one::<u64>("seed") {
+        Some(seed) => seed,
+        None => 0,
+    }
+}
+
+/// How rough the words ask links to be.
+fn roughness_in(matches: &ArgMatches<'_>) -> Roughness
+    ensures { AsksRoughness (found_of matches.now) result }
+{
+    Roughness {
+        loss: small_under(matches, "loss"),
+        duplicate: small_under(matches, "duplicate"),
+        delay: small_under(matches, "delay"),
+        seed: seed_in(matches),
     }
 }
 
@@ -586,6 +683,7 @@ fn order_in(matches: &ArgMatches<'_>) -> Order
     Order {
         number: package_number(matches),
         is_checked: matches.get_flag("check"),
+        roughness: roughness_in(matches),
     }
 }
 

@@ -44,6 +44,9 @@ pub enum RunFault {
     /// The file holds no event log: its size is no multiple of 16, or more than 2,048.
     #[error("sel: Size")]
     LogSize,
+    /// The steps of a run can't be recorded.
+    #[error("record")]
+    Record,
     /// A run over links ended early.
     #[error("edge: {0}")]
     Edge(EdgeFault),

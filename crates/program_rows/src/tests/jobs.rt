@@ -4,9 +4,9 @@ ghost use Rattle.std.specs.Prelude.{◌≡◌, Err, IfErr, IfSome, None, OnOk, S
 ghost use Rattle.fwupd_jobs.specs.Setups.{any_file};
 
 use fd_core::MemBank;
-use fw_edge::{Link, MemLink, StreamLink};
+use fw_edge::{Link, MemLink, Roughness, StreamLink};
 use fw_json::Form;
-use fw_world::World;
+use fw_world::{Step, World};
 use fwupd_jobs::{
     FileFault, FileIdentity, Files, Order, Output, RunFault, Show, TraceForm, Watch, WatchFault, Wires,
     plan_file, update_checked,
@@ -126,9 +126,15 @@ impl Wires<StreamLink<UnixStream>> for CutWires {
 #[derive(Drop)]
 pub struct Counter {
     is_quiet: bool,
+<<<<<<< HEAD
     traced: Option<TraceForm>,
     is_logged: bool,
     pub turns: usize,
+=======
+    is_traced: bool,
+    is_recorded: bool,
+    turns: usize,
+>>>>>>> lane-c
     broken: usize,
     fault: Option<WatchFault>,
     has_ended: bool,
@@ -164,7 +170,11 @@ impl Counter {
 }
 
 impl Watch for Counter {
+<<<<<<< HEAD
     ghost watched = { λ c. record { fault = c.fault; shows = record { is_quiet = c.is_quiet; traced = c.traced; is_logged = c.is_logged }; has_ended = c.has_ended; seen = c.turns; lost = c.lost } };
+=======
+    ghost watched = { λ c. record { fault = c.fault; shows = record { is_quiet = c.is_quiet; is_traced = c.is_traced; is_recorded = c.is_recorded }; has_ended = c.has_ended; seen = c.turns; lost = c.lost; recording = None } };
+>>>>>>> lane-c
 
     ghost refuses = { λ c path. true };
 
@@ -175,6 +185,7 @@ impl Watch for Counter {
                 return Err(WatchFault::Unwritten);
             }
         }
+<<<<<<< HEAD
         if let Some(path) = show.log {
             if path == "/" {
                 self.fault = Some(WatchFault::Unlogged);
@@ -186,10 +197,18 @@ impl Watch for Counter {
             None => None,
         };
         self.is_logged = show.log.is_some();
+=======
+        self.is_traced = show.trace.is_some();
+        self.is_recorded = show.record.is_some();
+>>>>>>> lane-c
         self.is_quiet = show.is_quiet;
         self.turns = 0;
         self.lost = None;
         Ok(())
+    }
+
+    fn note(&mut self, _steps: &[Step]) -> Result<(), WatchFault> {
+        self.outcome()
     }
 
     fn see(&mut self, _world: &World<'_, MemBank>) -> Result<(), WatchFault> {
@@ -237,7 +256,20 @@ fn updated<'a, L: Link + Drop, S: Wires<L>>(
         ("linked to c", 1, config),
         ("linked to p", 2, package),
     ];
+<<<<<<< HEAD
     let mut watch = Counter::new(broken);
+=======
+    let mut watch = Counter {
+        is_quiet: false,
+        is_traced: false,
+        is_recorded: false,
+        turns: 0,
+        broken,
+        fault: None,
+        has_ended: false,
+        lost: None,
+    };
+>>>>>>> lane-c
     let mut output = match Output::new(rt.alloc(), Vec::new(rt.alloc())) {
         Ok(output) => output,
         Err(fault) => return Ok((outcome(rt, Err(fault), Vec::new(rt.alloc()))?, 0, None)),
@@ -249,13 +281,18 @@ fn updated<'a, L: Link + Drop, S: Wires<L>>(
         Order {
             number: 1,
             is_checked: true,
+            roughness: Roughness::none(),
         },
         "f",
         Show {
             is_quiet: true,
             trace,
+<<<<<<< HEAD
             trace_form: TraceForm::Hex,
             log: None,
+=======
+            record: None,
+>>>>>>> lane-c
             form: Form::Text,
         },
         wires,
