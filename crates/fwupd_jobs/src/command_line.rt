@@ -285,7 +285,9 @@ fn trace_form_option<'a>(alloc: Global) -> Arg<'a> {
     Arg::new(alloc, "trace-format")
         .long("trace-format")
         .value_name("FORM")
-        .help("The form of the trace: lines of digits, lines that tell what packets say, or a capture")
+        .help(
+            "The form of the trace: lines of digits, lines that tell what packets say, or a capture",
+        )
         .value_parser(TRACE_FORMS)
         .default_value("hex")
 }

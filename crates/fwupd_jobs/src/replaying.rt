@@ -7,7 +7,7 @@ ghost use Rattle.fw_world.specs.Headline.{Run, new_world};
 ghost use Rattle.fw_world.specs.Replays.{Refuses};
 ghost use Rattle.fw_setup.specs.Nodes.{nodes_made};
 ghost use Rattle.fwupd_jobs.specs.Replayed.{IsReplayed, ReplayEnds, ReportsReplay};
-ghost use Rattle.fwupd_jobs.specs.Running.{IsApart, IsBarred, show_of, shown_of};
+ghost use Rattle.fwupd_jobs.specs.Running.{IsApart, IsBarred, IsUnwritten, show_of, shown_of};
 
 use crate::command_line::Show;
 use crate::faults::RunFault;
@@ -131,8 +131,7 @@ fn begin_replay<F: Files, V: Watch>(
     ensures shows { OnOk result ((V.watched watch.new).shows ≡ shown_of (show_of show.entry)) }
     ensures anew { OnOk result ((V.watched watch.new).seen ≡ 0) }
     ensures apart { OnOk result (IsApart (F.holds files.now) (show_of show.entry) (schedule.now ∷ config.now ∷ map (λ p. string_bytes p) packages.now)) }
-    ensures untouched { IfErr result (λ e. e ≡ RunFault.Trace → (watch.new ≡ watch.old) ⊎ ((V.watched watch.new).fault ≡ Some WatchFault.Unwritten)) }
-    ensures unlogged { IfErr result (λ e. e ≡ RunFault.Log → (watch.new ≡ watch.old) ⊎ ((V.watched watch.new).fault ≡ Some WatchFault.Unlogged)) }
+    ensures untouched { IfErr result (λ e. (watch.new ≡ watch.old) ⊎ IsUnwritten e (V.watched watch.new).fault) }
     ensures fault { IfErr result (λ e. (e ≡ RunFault.Memory)
         ⊎ IsBarred (F.holds files.now) (V.refuses watch.old) (show_of show.entry) (schedule.now ∷ config.now ∷ map (λ p. string_bytes p) packages.now) e (V.watched watch.new)) }
 {
@@ -141,6 +140,9 @@ fn begin_replay<F: Files, V: Watch>(
     }
     if is_one_path(files, show.log, schedule) {
         return Err(RunFault::Log);
+    }
+    if is_one_path(files, show.record, schedule) {
+        return Err(RunFault::Record);
     }
     match begin_apart(files, config, packages, show, watch) {
         Ok(()) => Ok(()),
@@ -168,8 +170,7 @@ pub fn replay_files<F: Files, V: Watch, W: Write + Drop>(
 ) -> Result<(), RunFault>
     ensures ok { OnOk result (ReportsReplay (F.holds files.now) config.now steps.now (show_of show.entry) (V.watched watch.new) output.old output.new) }
     ensures fault { IfErr result (λ e. ReplayEnds (F.holds files.now) config.now steps.now (show_of show.entry) (V.refuses watch.old) e (V.watched watch.new) output.old output.new) }
-    ensures untouched { IfErr result (λ e. e ≡ RunFault.Trace → (watch.new ≡ watch.old) ⊎ ((V.watched watch.new).fault ≡ Some WatchFault.Unwritten)) }
-    ensures unlogged { IfErr result (λ e. e ≡ RunFault.Log → (watch.new ≡ watch.old) ⊎ ((V.watched watch.new).fault ≡ Some WatchFault.Unlogged)) }
+    ensures untouched { IfErr result (λ e. (watch.new ≡ watch.old) ⊎ IsUnwritten e (V.watched watch.new).fault) }
 {
     let Config {
         agent,

@@ -120,7 +120,15 @@ fn lines(
         let Some(packet) = packets.get(place) else {
             unreachable!()
         };
-        push_packet(alloc, form, reader, &mut text, device, written + place + 1, &packet)?;
+        push_packet(
+            alloc,
+            form,
+            reader,
+            &mut text,
+            device,
+            written + place + 1,
+            &packet,
+        )?;
     }
     Ok(text)
 }
@@ -145,7 +153,14 @@ fn write_pair<W: Write>(
     if packets.len() <= written {
         return Ok(packets.len());
     }
-    let Ok(text) = lines(alloc, form, reader, node.eid(), written, &packets.behind(written)) else {
+    let Ok(text) = lines(
+        alloc,
+        form,
+        reader,
+        node.eid(),
+        written,
+        &packets.behind(written),
+    ) else {
         return Err(WatchFault::Memory);
     };
     match writer.write_all(&text) {
@@ -180,7 +195,15 @@ fn write_pairs<W: Write>(
     let mut counts = ArrayVec::new();
     for place in 0..world.device_count() {
         let reader = &mut readers[place];
-        match write_pair(alloc, form, world, place, written_at(written, place), reader, writer) {
+        match write_pair(
+            alloc,
+            form,
+            world,
+            place,
+            written_at(written, place),
+            reader,
+            writer,
+        ) {
             Ok(count) => counts.push(count),
             Err(fault) => return Err(fault),
         }

@@ -8,8 +8,8 @@ use fw_edge::{Link, MemLink, Roughness, StreamLink};
 use fw_json::Form;
 use fw_world::{Step, World};
 use fwupd_jobs::{
-    FileFault, FileIdentity, Files, Order, Output, RunFault, Show, TraceForm, Watch, WatchFault, Wires,
-    plan_file, update_checked,
+    FileFault, FileIdentity, Files, Order, Output, RunFault, Show, TraceForm, Watch, WatchFault,
+    Wires, plan_file, update_checked,
 };
 use mctp_wire::Unit;
 use std::alloc::Global;
@@ -57,7 +57,11 @@ const CONFIG: &[u8] = b"agent 8 00000000-0000-0000-0000-000000000000\n\
     component 10 1 0 1 1.0 AA\n";
 
 /// What is written of a job that ends with this fault or without one, and the fault's text.
-pub fn outcome(rt: &HostRuntime, end: Result<(), RunFault>, written: Vec<u8>) -> Result<Vec<u8>, Fail> {
+pub fn outcome(
+    rt: &HostRuntime,
+    end: Result<(), RunFault>,
+    written: Vec<u8>,
+) -> Result<Vec<u8>, Fail> {
     let mut text = written;
     if let Err(fault) = end {
         let told = format!(in rt.alloc(); "{fault}")?;
@@ -126,15 +130,10 @@ impl Wires<StreamLink<UnixStream>> for CutWires {
 #[derive(Drop)]
 pub struct Counter {
     is_quiet: bool,
-<<<<<<< HEAD
     traced: Option<TraceForm>,
     is_logged: bool,
-    pub turns: usize,
-=======
-    is_traced: bool,
     is_recorded: bool,
-    turns: usize,
->>>>>>> lane-c
+    pub turns: usize,
     broken: usize,
     fault: Option<WatchFault>,
     has_ended: bool,
@@ -148,6 +147,7 @@ impl Counter {
             is_quiet: false,
             traced: None,
             is_logged: false,
+            is_recorded: false,
             turns: 0,
             broken,
             fault: None,
@@ -170,11 +170,7 @@ impl Counter {
 }
 
 impl Watch for Counter {
-<<<<<<< HEAD
-    ghost watched = { λ c. record { fault = c.fault; shows = record { is_quiet = c.is_quiet; traced = c.traced; is_logged = c.is_logged }; has_ended = c.has_ended; seen = c.turns; lost = c.lost } };
-=======
-    ghost watched = { λ c. record { fault = c.fault; shows = record { is_quiet = c.is_quiet; is_traced = c.is_traced; is_recorded = c.is_recorded }; has_ended = c.has_ended; seen = c.turns; lost = c.lost; recording = None } };
->>>>>>> lane-c
+    ghost watched = { λ c. record { fault = c.fault; shows = record { is_quiet = c.is_quiet; traced = c.traced; is_logged = c.is_logged; is_recorded = c.is_recorded }; has_ended = c.has_ended; seen = c.turns; lost = c.lost; recording = None } };
 
     ghost refuses = { λ c path. true };
 
@@ -185,7 +181,6 @@ impl Watch for Counter {
                 return Err(WatchFault::Unwritten);
             }
         }
-<<<<<<< HEAD
         if let Some(path) = show.log {
             if path == "/" {
                 self.fault = Some(WatchFault::Unlogged);
@@ -197,10 +192,7 @@ impl Watch for Counter {
             None => None,
         };
         self.is_logged = show.log.is_some();
-=======
-        self.is_traced = show.trace.is_some();
         self.is_recorded = show.record.is_some();
->>>>>>> lane-c
         self.is_quiet = show.is_quiet;
         self.turns = 0;
         self.lost = None;
@@ -256,20 +248,7 @@ fn updated<'a, L: Link + Drop, S: Wires<L>>(
         ("linked to c", 1, config),
         ("linked to p", 2, package),
     ];
-<<<<<<< HEAD
     let mut watch = Counter::new(broken);
-=======
-    let mut watch = Counter {
-        is_quiet: false,
-        is_traced: false,
-        is_recorded: false,
-        turns: 0,
-        broken,
-        fault: None,
-        has_ended: false,
-        lost: None,
-    };
->>>>>>> lane-c
     let mut output = match Output::new(rt.alloc(), Vec::new(rt.alloc())) {
         Ok(output) => output,
         Err(fault) => return Ok((outcome(rt, Err(fault), Vec::new(rt.alloc()))?, 0, None)),
@@ -287,12 +266,9 @@ fn updated<'a, L: Link + Drop, S: Wires<L>>(
         Show {
             is_quiet: true,
             trace,
-<<<<<<< HEAD
             trace_form: TraceForm::Hex,
             log: None,
-=======
             record: None,
->>>>>>> lane-c
             form: Form::Text,
         },
         wires,

@@ -49,7 +49,11 @@ fn a_packet_is_captured(rt: HostRuntime) -> Result<(), Fail> {
         let wanted = bytes_of(&rt, wanted)?;
         let mut capture = Vec::new(rt.alloc());
         push_capture(&mut capture, turn, is_sent, &packet)?;
-        assert!(rt; capture.as_slice() == wanted.as_slice(), "{}", capture.escape_ascii());
+        assert!(rt;
+            capture.as_slice() == wanted.as_slice(),
+            "{}",
+            capture.escape_ascii()
+        );
     }
     Ok(())
 }
@@ -108,7 +112,11 @@ fn a_record_is_told_in_a_line(rt: HostRuntime) -> Result<(), Fail> {
         let Ok(text) = records_text(rt.alloc(), &record) else {
             return Ok(());
         };
-        assert!(rt; text.as_slice() == line.as_slice(), "{}", text.escape_ascii());
+        assert!(rt;
+            text.as_slice() == line.as_slice(),
+            "{}",
+            text.escape_ascii()
+        );
     }
     Ok(())
 }
@@ -199,6 +207,7 @@ fn replayed(
         trace,
         trace_form: TraceForm::Hex,
         log,
+        record: None,
         form: Form::Text,
     };
     let end = replay_files(
@@ -215,12 +224,12 @@ fn replayed(
 
 #[test]
 fn a_replay_reports_the_same_with_a_trace(rt: HostRuntime) -> Result<(), Fail> {
-    let report = b"now 4\nagent 8 up\ndevice 9 up IDLE session Query sent 2\nactive 9 10 1 1 AA\nlog 1 last -\n"
-        .as_slice();
-    let stopped = b"now 4\nagent 8 up\ndevice 9 up IDLE session Query sent 2\nactive 9 10 1 1 AA\nlog 1 last -\nstep 7: NoSuchNode"
-        .as_slice();
-    let traced = b"now 4\nagent 8 up\ndevice 9 up IDLE session Query sent 2\nactive 9 10 1 1 AA\nlog 1 last -\ntrace"
-        .as_slice();
+    let report =
+        b"now 4\nagent 8 up\ndevice 9 up IDLE session Query sent 2\nactive 9 10 1 1 AA\nlog 1 last -\n".as_slice();
+    let stopped =
+        b"now 4\nagent 8 up\ndevice 9 up IDLE session Query sent 2\nactive 9 10 1 1 AA\nlog 1 last -\nstep 7: NoSuchNode".as_slice();
+    let traced =
+        b"now 4\nagent 8 up\ndevice 9 up IDLE session Query sent 2\nactive 9 10 1 1 AA\nlog 1 last -\ntrace".as_slice();
     let whole = &STEPS[..STEPS.len() - 10];
     let table: [(Option<&str>, Option<&str>, &[u8], usize, &[u8], usize); 10] = [
         (None, None, whole, 0, report, 0),
