@@ -1,0 +1,86 @@
+-- The fields of the answers of firmware update (DSP0267 1.0), in the order of their tables.
+use Rattle.std.specs.Prelude.{ℕ, ◌==◌, ◌&&◌, if◌then◌else◌, List, [], ◌∷◌, ◌++◌, codes, length, Result, Ok, Err}
+use Rattle.std.specs.List.{flat_map}
+use Rattle.fw_text.specs.Printing.{in_eight, in_four, numbered}
+use Rattle.fwup_wire.specs.Answers.{answer_read}
+use Rattle.fwup_wire.specs.Fields.{bit}
+use Rattle.fwup_wire.specs.Values.{AnswerOf, DescriptorOf, ParametersOf, VersionOf}
+use Rattle.fwup_wire.specs.declared.answer.Malformed.{Malformed}
+use Rattle.fwup_wire.specs.declared.answer.OfferResponse.{OfferResponse}
+use Rattle.fwup_wire.specs.declared.answer.Status.{Status}
+use Rattle.fwup_wire.specs.declared.answer.TableResponse.{TableResponse}
+use Rattle.fw_trace.specs.Commands.{component_fields}
+use Rattle.fw_trace.specs.Names.{name_or_digits, update_code, update_command}
+use Rattle.fw_trace.specs.Pieces.{in_digits, in_two, rest_text, text_field}
+
+-- a descriptor: its type and its data
+unfoldable pub descriptor_fields : DescriptorOf → List ℕ
+descriptor_fields d = in_four (codes " ") d.kind ++ in_digits (codes " ") d.bytes
+
+unfoldable pub descriptors_fields : List DescriptorOf → List ℕ
+descriptors_fields ds = numbered (codes " descriptors ") (length ds) ++ flat_map descriptor_fields ds
+
+-- a word, and an image's version after it: its comparison stamp and its text
+unfoldable pub version_fields : List ℕ → VersionOf → List ℕ
+version_fields word v = in_eight word v.stamp ++ text_field (codes " ") v.text
+
+-- the image that is to be active, where there is one: without it stamp, encoding and text are 0
+abbrev pub pending_fields : VersionOf → List ℕ
+pending_fields v =
+    if (v.stamp == 0) && (v.text.text_type == 0) && (length v.text.bytes == 0) then []
+    else version_fields (codes " pending ") v
+
+-- what a device tells of a component
+unfoldable pub parameters_fields : ParametersOf → List ℕ
+parameters_fields p =
+    component_fields p.key p.index ++ version_fields (codes " active ") p.active ++ pending_fields p.pending
+
+unfoldable pub components_fields : List ParametersOf → List ℕ
+components_fields ps = numbered (codes " components ") (length ps) ++ flat_map parameters_fields ps
+
+unfoldable pub table_fields : TableResponse → List ℕ
+table_fields r = numbered (codes " response ") r.response ++ numbered (codes " code ") r.code
+
+unfoldable pub offer_response_fields : OfferResponse → List ℕ
+offer_response_fields r =
+    numbered (codes " compatibility ") r.compatibility ++ numbered (codes " code ") r.code ++ in_eight (codes " flags ") (bit r.force)
+    ++ numbered (codes " time ") r.time
+
+unfoldable pub status_fields : Status → List ℕ
+status_fields s =
+    numbered (codes " state ") s.state ++ numbered (codes " previous ") s.previous ++ numbered (codes " aux ") s.aux
+    ++ in_two (codes " status ") s.aux_status ++ numbered (codes " progress ") s.progress ++ numbered (codes " reason ") s.reason
+    ++ in_eight (codes " flags ") (bit s.force)
+
+-- The fields of an answer after its code. Of image data only their size is shown. An answer to RequestUpdate that is read
+-- has no metadata and wants no package data; one to CancelUpdate names no component that doesn't work.
+abbrev pub answer_fields : AnswerOf → List ℕ
+answer_fields (AnswerOf.Refused code) = []
+answer_fields (AnswerOf.QueryDeviceIdentifiers descriptors) = descriptors_fields descriptors
+answer_fields (AnswerOf.GetFirmwareParameters components) = components_fields components
+answer_fields AnswerOf.RequestUpdate = codes " metadata 0 send 0"
+answer_fields (AnswerOf.PassComponentTable response) = table_fields response
+answer_fields (AnswerOf.UpdateComponent response) = offer_response_fields response
+answer_fields (AnswerOf.RequestFirmwareData bytes) = numbered (codes " bytes ") (length bytes)
+answer_fields AnswerOf.TransferComplete = []
+answer_fields AnswerOf.VerifyComplete = []
+answer_fields AnswerOf.ApplyComplete = []
+answer_fields (AnswerOf.ActivateFirmware time) = numbered (codes " time ") time
+answer_fields (AnswerOf.GetStatus status) = status_fields status
+answer_fields AnswerOf.CancelUpdateComponent = []
+answer_fields AnswerOf.CancelUpdate = codes " broken 0 components 0000000000000000"
+
+-- the fields of the answer that was read, or the digits of what wasn't
+abbrev pub answer_fields_read : Result AnswerOf Malformed → List ℕ → List ℕ
+answer_fields_read (Ok a) fields = answer_fields a
+answer_fields_read (Err fault) fields = rest_text fields
+
+-- an answer's code, and its fields as the command of its own head has them
+abbrev pub code_and_fields : (command : ℕ) → List ℕ → List ℕ
+code_and_fields command [] = []
+code_and_fields command (code ∷ fields) =
+    name_or_digits (update_code code) code ++ answer_fields_read (answer_read command (code ∷ fields)) fields
+
+-- an answer of firmware update
+unfoldable pub update_answer : (command : ℕ) → List ℕ → List ℕ
+update_answer command body = name_or_digits (update_command command) command ++ code_and_fields command body

@@ -1,0 +1,11 @@
+pub mod Answers
+pub mod Bases
+pub mod Commands
+pub mod Control
+pub mod Hearings
+pub mod Laws
+pub mod Lines
+pub mod Messages
+pub mod Names
+pub mod Pieces
+pub mod Sent

@@ -1,0 +1,6 @@
+-- Packets whose bytes are lent.
+use Rattle.fw_trace.specs.Lines.{SentOf}
+use Rattle.fw_trace.specs.declared.lists.Sent.{Sent}
+
+abbrev pub sent_of : Sent → SentOf
+sent_of s = record { turn = s.turn; bytes = s.bytes.now }

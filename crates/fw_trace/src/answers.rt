@@ -1,0 +1,251 @@
+//! The answers of firmware update (DSP0267 1.0): a command, a completion code, and the fields after it. Each function's only
+//! error is want of memory.
+
+ghost use Rattle.std.specs.Prelude.{OnOk, ◌++◌};
+ghost use Rattle.std.specs.List.{flat_map};
+ghost use Rattle.fw_text.specs.Printing.{Adds};
+ghost use Rattle.fwup_wire.specs.Answers.{answer_read};
+ghost use Rattle.fwup_wire.specs.Lent.{answer_of, descriptor_of, parameters_of, version_of};
+ghost use Rattle.fw_trace.specs.Answers.{answer_fields, answer_fields_read, code_and_fields, components_fields, descriptor_fields, descriptors_fields, offer_response_fields, parameters_fields, pending_fields, status_fields, table_fields, update_answer, version_fields};
+ghost use Rattle.fw_trace.specs.Names.{name_or_digits, update_code};
+
+use crate::commands::push_component;
+use crate::names::{update_code, update_command};
+use crate::pieces::{
+    push_byte, push_digits, push_name, push_rest, push_short, push_text, push_two,
+};
+use fw_text::{push_eight, push_four, push_number, push_words};
+use fwup_wire::{
+    Answer, ComponentParameters, Descriptor, Descriptors, OfferResponse, Parameters, Status,
+    TableResponse, Version,
+};
+use std::alloc::{AllocError, Global};
+
+/// Appends a descriptor's type and data.
+fn push_descriptor(
+    alloc: Global,
+    text: &mut Vec<u8>,
+    descriptor: Descriptor<'_>,
+) -> Result<(), AllocError>
+    ensures { OnOk result (Adds text.old.items text.new.items (descriptor_fields (descriptor_of descriptor.entry))) }
+{
+    push_four(alloc, text, " ", descriptor.kind)?;
+    push_digits(alloc, text, " ", descriptor.bytes)?;
+    Ok(())
+}
+
+/// Appends each of these descriptors.
+#[tactic(auto, using(fw_text::proofs::Chains::telling))]
+fn push_each_descriptor(
+    alloc: Global,
+    text: &mut Vec<u8>,
+    descriptors: Descriptors<'_>,
+) -> Result<(), AllocError>
+    ensures { OnOk result (Adds text.old.items text.new.items (flat_map descriptor_fields descriptors.entry)) }
+{
+    for descriptor in descriptors {
+        push_descriptor(alloc, text, descriptor)?;
+    }
+    Ok(())
+}
+
+/// Appends the fields of QueryDeviceIdentifiers' answer.
+fn push_descriptors(
+    alloc: Global,
+    text: &mut Vec<u8>,
+    descriptors: &Descriptors<'_>,
+) -> Result<(), AllocError>
+    ensures { OnOk result (Adds text.old.items text.new.items (descriptors_fields descriptors.now)) }
+{
+    push_number(alloc, text, " descriptors ", descriptors.len())?;
+    push_each_descriptor(alloc, text, descriptors.iter())?;
+    Ok(())
+}
+
+/// Appends a word and an image's version: its comparison stamp and its text.
+fn push_version(
+    alloc: Global,
+    text: &mut Vec<u8>,
+    word: &str,
+    version: &Version<'_>,
+) -> Result<(), AllocError>
+    ensures { OnOk result (Adds text.old.items text.new.items (version_fields word.now (version_of version.now))) }
+{
+    push_eight(alloc, text, word, version.stamp)?;
+    push_text(alloc, text, " ", &version.text)?;
+    Ok(())
+}
+
+/// Appends the version of the image that is to be active, where there is one.
+fn push_pending(alloc: Global, text: &mut Vec<u8>, version: &Version<'_>) -> Result<(), AllocError>
+    ensures { OnOk result (Adds text.old.items text.new.items (pending_fields (version_of version.now))) }
+{
+    if version.stamp == 0 && version.text.text_type == 0 && version.text.bytes.is_empty() {
+        return Ok(());
+    }
+    push_version(alloc, text, " pending ", version)
+}
+
+/// Appends what a device tells of a component.
+fn push_parameters(
+    alloc: Global,
+    text: &mut Vec<u8>,
+    parameters: ComponentParameters<'_>,
+) -> Result<(), AllocError>
+    ensures { OnOk result (Adds text.old.items text.new.items (parameters_fields (parameters_of parameters.entry))) }
+{
+    push_component(alloc, text, parameters.key, parameters.index)?;
+    push_version(alloc, text, " active ", &parameters.active)?;
+    push_pending(alloc, text, &parameters.pending)?;
+    Ok(())
+}
+
+/// Appends each of these components.
+#[tactic(auto, using(fw_text::proofs::Chains::telling))]
+fn push_each_component(
+    alloc: Global,
+    text: &mut Vec<u8>,
+    components: Parameters<'_>,
+) -> Result<(), AllocError>
+    ensures { OnOk result (Adds text.old.items text.new.items (flat_map parameters_fields components.entry)) }
+{
+    for parameters in components {
+        push_parameters(alloc, text, parameters)?;
+    }
+    Ok(())
+}
+
+/// Appends the fields of GetFirmwareParameters' answer.
+fn push_components(
+    alloc: Global,
+    text: &mut Vec<u8>,
+    components: &Parameters<'_>,
+) -> Result<(), AllocError>
+    ensures { OnOk result (Adds text.old.items text.new.items (components_fields components.now)) }
+{
+    push_number(alloc, text, " components ", components.len())?;
+    push_each_component(alloc, text, components.iter())?;
+    Ok(())
+}
+
+/// Appends the fields of PassComponentTable's answer.
+fn push_table(alloc: Global, text: &mut Vec<u8>, response: TableResponse) -> Result<(), AllocError>
+    ensures { OnOk result (Adds text.old.items text.new.items (table_fields response)) }
+{
+    push_byte(alloc, text, " response ", response.response)?;
+    push_byte(alloc, text, " code ", response.code)?;
+    Ok(())
+}
+
+/// Appends the fields of UpdateComponent's answer.
+fn push_offer_response(
+    alloc: Global,
+    text: &mut Vec<u8>,
+    response: OfferResponse,
+) -> Result<(), AllocError>
+    ensures { OnOk result (Adds text.old.items text.new.items (offer_response_fields response)) }
+{
+    push_byte(alloc, text, " compatibility ", response.compatibility)?;
+    push_byte(alloc, text, " code ", response.code)?;
+    push_eight(alloc, text, " flags ", u32::from(response.force))?;
+    push_short(alloc, text, " time ", response.time)?;
+    Ok(())
+}
+
+/// Appends the fields of GetStatus' answer.
+fn push_status(alloc: Global, text: &mut Vec<u8>, status: Status) -> Result<(), AllocError>
+    ensures { OnOk result (Adds text.old.items text.new.items (status_fields status)) }
+{
+    push_byte(alloc, text, " state ", status.state)?;
+    push_byte(alloc, text, " previous ", status.previous)?;
+    push_byte(alloc, text, " aux ", status.aux)?;
+    push_two(alloc, text, " status ", status.aux_status)?;
+    push_byte(alloc, text, " progress ", status.progress)?;
+    push_byte(alloc, text, " reason ", status.reason)?;
+    push_eight(alloc, text, " flags ", u32::from(status.force))?;
+    Ok(())
+}
+
+/// Appends the fields of an answer after its code.
+fn push_answer(alloc: Global, text: &mut Vec<u8>, answer: &Answer<'_>) -> Result<(), AllocError>
+    ensures { OnOk result (Adds text.old.items text.new.items (answer_fields (answer_of answer.now))) }
+{
+    match answer {
+        Answer::QueryDeviceIdentifiers(descriptors) => push_descriptors(alloc, text, descriptors),
+        Answer::GetFirmwareParameters(components) => push_components(alloc, text, components),
+        Answer::RequestUpdate => push_words(text, " metadata 0 send 0"),
+        Answer::PassComponentTable(response) => push_table(alloc, text, *response),
+        Answer::UpdateComponent(response) => push_offer_response(alloc, text, *response),
+        Answer::RequestFirmwareData(bytes) => push_number(alloc, text, " bytes ", bytes.len()),
+        Answer::ActivateFirmware { time } => push_short(alloc, text, " time ", *time),
+        Answer::GetStatus(status) => push_status(alloc, text, *status),
+        Answer::CancelUpdate => push_words(text, " broken 0 components 0000000000000000"),
+        Answer::Refused { .. }
+        | Answer::TransferComplete
+        | Answer::VerifyComplete
+        | Answer::ApplyComplete
+        | Answer::CancelUpdateComponent => Ok(()),
+    }
+}
+
+/// Appends the fields of an answer, whose code comes before them, or their digits where the answer can't be read.
+fn push_fields(
+    alloc: Global,
+    text: &mut Vec<u8>,
+    command: u8,
+    answer: &[u8],
+    fields: &[u8],
+) -> Result<(), AllocError>
+    ensures { OnOk result (Adds text.old.items text.new.items (answer_fields_read (answer_read command answer.now) fields.now)) }
+{
+    match fwup_wire::read_answer(command, answer) {
+        Ok(answer) => push_answer(alloc, text, &answer),
+        Err(_) => push_rest(alloc, text, fields),
+    }
+}
+
+/// Appends this code of an answer, and the fields after it.
+fn push_coded(
+    alloc: Global,
+    text: &mut Vec<u8>,
+    command: u8,
+    code: u8,
+    answer: &[u8],
+    fields: &[u8],
+) -> Result<(), AllocError>
+    ensures { OnOk result (Adds text.old.items text.new.items (name_or_digits (update_code code) code ++ answer_fields_read (answer_read command answer.now) fields.now)) }
+{
+    push_name(alloc, text, update_code(code), code)?;
+    push_fields(alloc, text, command, answer, fields)?;
+    Ok(())
+}
+
+/// Appends an answer's code and fields.
+fn push_code_and_fields(
+    alloc: Global,
+    text: &mut Vec<u8>,
+    command: u8,
+    body: &[u8],
+) -> Result<(), AllocError>
+    ensures { OnOk result (Adds text.old.items text.new.items (code_and_fields command body.now)) }
+{
+    let [code, fields @ ..] = body else {
+        return Ok(());
+    };
+    push_coded(alloc, text, command, *code, body, fields)
+}
+
+/// Appends an answer of firmware update: its command, its code, and its fields as this command's answer has them.
+#[tactic(auto, unfolding(crate::specs::Answers::update_answer))]
+pub fn push_update_answer(
+    alloc: Global,
+    text: &mut Vec<u8>,
+    command: u8,
+    body: &[u8],
+) -> Result<(), AllocError>
+    ensures { OnOk result (Adds text.old.items text.new.items (update_answer command body.now)) }
+{
+    push_name(alloc, text, update_command(command), command)?;
+    push_code_and_fields(alloc, text, command, body)?;
+    Ok(())
+}

@@ -1,0 +1,263 @@
+//! A line of each packet between an agent and a device. Each function's only error is want of memory.
+
+ghost use Rattle.std.specs.Prelude.{◌≡◌, ◌≤◌, ◌++◌, codes, length, OnOk};
+ghost use Rattle.mctp_reasm.specs.Pieces.{packet_of};
+ghost use Rattle.mctp_wire.specs.Units.{bytes_of};
+ghost use Rattle.fw_text.specs.Printing.{Adds};
+ghost use Rattle.fw_trace.specs.Lines.{after_packet, fed_text, head_text, heard_by, heard_text, new_reader, packet_line, packet_text, part_text, place_text, reader_after};
+ghost use Rattle.fw_trace.specs.Messages.{message_text};
+ghost use Rattle.fw_trace.specs.Names.{cause_name};
+ghost use Rattle.fw_trace.specs.Pieces.{in_digits};
+
+use crate::hearing::{Heard, Hearing};
+use crate::messages::push_message;
+use crate::names::cause_name;
+use crate::pieces::{push_byte, push_digits, push_long};
+use fw_text::{push_number, push_words};
+use mctp_reasm::{DropCause, Fed};
+use mctp_wire::{Head, Packet, Unit};
+use std::alloc::{AllocError, Global};
+use std::marker::Model;
+
+/// Reads the packets between an agent and a device, each once and in the order in which they were sent, and tells what each
+/// says. What goes to the device is put together by its assemblies, what goes to the agent by the agent's; time doesn't age
+/// what they hold.
+#[derive(Drop)]
+pub struct PacketReader {
+    at_agent: Hearing,
+    at_device: Hearing,
+}
+
+impl Model for PacketReader {
+    ghost use Rattle.std.specs.Prelude.{◌≡◌};
+    ghost use Rattle.fw_trace.specs.Lines.{ReaderOf};
+
+    ghost Value = { ReaderOf };
+
+    ghost view = { λ r. record { unit = r.at_device.unit; agent = r.at_device.peer; device = r.at_device.own; at_agent = r.at_agent.held; at_device = r.at_device.held } };
+
+    ghost invariant = { λ r. (r.at_agent.unit ≡ r.at_device.unit) × (r.at_agent.own ≡ r.at_device.peer) × (r.at_agent.peer ≡ r.at_device.own) };
+}
+
+/// Where a packet stands among those of its pair.
+#[derive(Clone, Copy)]
+struct Place {
+    /// When it was sent, in ticks.
+    turn: u32,
+    /// The pair's device.
+    device: u8,
+    /// Its number, from 1.
+    number: usize,
+}
+
+impl PacketReader {
+    /// A reader of the packets between the endpoints `agent` and `device` of a network with this transmission unit, before the
+    /// first packet.
+    pub fn new(unit: Unit, agent: u8, device: u8) -> PacketReader
+        ensures { result ≡ new_reader unit agent device }
+    {
+        PacketReader {
+            at_agent: Hearing::new(unit, agent, device),
+            at_device: Hearing::new(unit, device, agent),
+        }
+    }
+
+    /// The network's transmission unit.
+    pub fn unit(&self) -> Unit
+        ensures { result ≡ self.now.unit }
+    {
+        self.at_device.unit()
+    }
+
+    /// The agent's endpoint identifier.
+    pub fn agent(&self) -> u8
+        ensures { result ≡ self.now.agent }
+    {
+        self.at_device.peer()
+    }
+
+    /// The device's endpoint identifier.
+    pub fn device(&self) -> u8
+        ensures { result ≡ self.now.device }
+    {
+        self.at_device.own()
+    }
+
+    /// Hears a packet at the end that it goes to.
+    #[tactic(auto, unfolding(crate::specs::Lines::heard_by, crate::specs::Lines::after_packet))]
+    fn hear(&mut self, packet: &Packet<'_>) -> Heard
+        requires body { (1 ≤ length packet.now.body.now) × (length packet.now.body.now ≤ bytes_of self.old.unit) }
+        requires tag { packet.now.head.tag ≤ 7 }
+        ensures heard { result ≡ heard_by self.old (packet_of packet.now.head packet.now.body.now) }
+        ensures after { self.new ≡ after_packet self.old (packet_of packet.now.head packet.now.body.now) }
+    {
+        let (end, from) = (packet.head.dest, packet.head.source);
+        if end == self.device() {
+            if from != self.agent() {
+                return Heard::Source;
+            }
+            return Heard::Fed(self.at_device.feed(packet));
+        }
+        if end != self.agent() {
+            return Heard::Destination;
+        }
+        if from != self.device() {
+            return Heard::Source;
+        }
+        Heard::Fed(self.at_agent.feed(packet))
+    }
+
+    /// Appends the line of the next packet: it was sent at `turn`, in ticks, as the pair's packet of this number, counted from
+    /// 1. Bytes that are no packet are shown as they are, and change nothing. The reader goes on whatever the result.
+    ///
+    /// # Errors
+    /// Memory was refused. Of the text nothing is known then.
+    #[tactic(auto, unfolding(crate::specs::Lines::packet_line, crate::specs::Lines::reader_after))]
+    pub fn push_line(
+        &mut self,
+        alloc: Global,
+        text: &mut Vec<u8>,
+        turn: u32,
+        number: usize,
+        bytes: &[u8],
+    ) -> Result<(), AllocError>
+        ensures line { OnOk result (Adds text.old.items text.new.items (packet_line self.old turn number bytes.now)) }
+        ensures after { self.new ≡ reader_after self.old bytes.now }
+    {
+        let place = Place {
+            turn,
+            device: self.device(),
+            number,
+        };
+        let Ok(packet) = mctp_wire::decode(self.unit(), bytes) else {
+            return push_bytes_line(alloc, text, place, bytes);
+        };
+        let heard = self.hear(&packet);
+        push_packet_line(alloc, text, place, &packet, &heard)
+    }
+}
+
+/// Appends when a packet was sent, its device, and its number.
+fn push_place(alloc: Global, text: &mut Vec<u8>, place: Place) -> Result<(), AllocError>
+    ensures { OnOk result (Adds text.old.items text.new.items (place_text place.turn place.device place.number)) }
+{
+    push_long(alloc, text, "", place.turn)?;
+    push_byte(alloc, text, " ", place.device)?;
+    push_number(alloc, text, " ", place.number)?;
+    Ok(())
+}
+
+/// Appends the packet's own source and destination, and its tag.
+fn push_head(alloc: Global, text: &mut Vec<u8>, head: &Head) -> Result<(), AllocError>
+    ensures { OnOk result (Adds text.old.items text.new.items (head_text head.now)) }
+{
+    push_byte(alloc, text, " ", head.source)?;
+    push_byte(alloc, text, " > ", head.dest)?;
+    push_byte(alloc, text, " tag ", head.tag)?;
+    Ok(())
+}
+
+/// Appends a packet of a message that goes on.
+fn push_part(alloc: Global, text: &mut Vec<u8>, packet: &Packet<'_>) -> Result<(), AllocError>
+    ensures { OnOk result (Adds text.old.items text.new.items (part_text (packet_of packet.now.head packet.now.body.now))) }
+{
+    push_byte(alloc, text, " part ", packet.head.seq)?;
+    push_number(alloc, text, " of ", packet.body.len())?;
+    push_words(text, " bytes")?;
+    Ok(())
+}
+
+/// Appends the message that a packet ends.
+fn push_whole(alloc: Global, text: &mut Vec<u8>, message: &[u8]) -> Result<(), AllocError>
+    ensures { OnOk result (Adds text.old.items text.new.items (codes " " ++ message_text message.now)) }
+{
+    push_words(text, " ")?;
+    push_message(alloc, text, message)?;
+    Ok(())
+}
+
+/// Appends why a packet is dropped.
+fn push_dropped(text: &mut Vec<u8>, cause: DropCause) -> Result<(), AllocError>
+    ensures { OnOk result (Adds text.old.items text.new.items (codes " drop " ++ cause_name cause)) }
+{
+    push_words(text, " drop ")?;
+    push_words(text, cause_name(cause))?;
+    Ok(())
+}
+
+/// Appends what an assembly made of a packet.
+fn push_fed(
+    alloc: Global,
+    text: &mut Vec<u8>,
+    packet: &Packet<'_>,
+    fed: &Fed,
+) -> Result<(), AllocError>
+    ensures { OnOk result (Adds text.old.items text.new.items (fed_text (packet_of packet.now.head packet.now.body.now) fed.now)) }
+{
+    match fed {
+        Fed::Open => push_part(alloc, text, packet),
+        Fed::Whole(message) => push_whole(alloc, text, message.bytes()),
+        Fed::Dropped(cause) => push_dropped(text, *cause),
+    }
+}
+
+/// Appends what came of a packet.
+fn push_heard(
+    alloc: Global,
+    text: &mut Vec<u8>,
+    packet: &Packet<'_>,
+    heard: &Heard,
+) -> Result<(), AllocError>
+    ensures { OnOk result (Adds text.old.items text.new.items (heard_text (packet_of packet.now.head packet.now.body.now) heard.now)) }
+{
+    match heard {
+        Heard::Destination => push_words(text, " drop Destination"),
+        Heard::Source => push_words(text, " drop Source"),
+        Heard::Fed(fed) => push_fed(alloc, text, packet, fed),
+    }
+}
+
+/// Appends a packet's head, and what came of it.
+fn push_packet(
+    alloc: Global,
+    text: &mut Vec<u8>,
+    packet: &Packet<'_>,
+    heard: &Heard,
+) -> Result<(), AllocError>
+    ensures { OnOk result (Adds text.old.items text.new.items (packet_text (packet_of packet.now.head packet.now.body.now) heard.now)) }
+{
+    push_head(alloc, text, &packet.head)?;
+    push_heard(alloc, text, packet, heard)?;
+    Ok(())
+}
+
+/// Appends the line of a packet.
+fn push_packet_line(
+    alloc: Global,
+    text: &mut Vec<u8>,
+    place: Place,
+    packet: &Packet<'_>,
+    heard: &Heard,
+) -> Result<(), AllocError>
+    ensures { OnOk result (Adds text.old.items text.new.items (place_text place.turn place.device place.number ++ packet_text (packet_of packet.now.head packet.now.body.now) heard.now ++ codes "\n")) }
+{
+    push_place(alloc, text, place)?;
+    push_packet(alloc, text, packet, heard)?;
+    push_words(text, "\n")?;
+    Ok(())
+}
+
+/// Appends the line of bytes that are no packet.
+fn push_bytes_line(
+    alloc: Global,
+    text: &mut Vec<u8>,
+    place: Place,
+    bytes: &[u8],
+) -> Result<(), AllocError>
+    ensures { OnOk result (Adds text.old.items text.new.items (place_text place.turn place.device place.number ++ in_digits (codes " bytes ") bytes.now ++ codes "\n")) }
+{
+    push_place(alloc, text, place)?;
+    push_digits(alloc, text, " bytes ", bytes)?;
+    push_words(text, "\n")?;
+    Ok(())
+}
