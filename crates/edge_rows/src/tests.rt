@@ -5,6 +5,7 @@ mod frames;
 mod hearing;
 mod links;
 mod packages;
+mod rough;
 mod runs;
 mod setup;
 mod stories;

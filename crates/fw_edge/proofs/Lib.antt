@@ -1,5 +1,6 @@
 mod Alive
 mod Arriving
+mod Chances
 mod Dues
 mod Failing
 mod Frames
@@ -12,6 +13,7 @@ mod Overs
 mod Parts
 mod Pieces
 pub mod Rising
+mod Roughening
 pub mod Sending
 mod Stopping
 pub mod Taking

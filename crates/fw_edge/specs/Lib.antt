@@ -1,8 +1,10 @@
 pub mod Drives
+pub mod Fates
 pub mod Frames
 pub mod Hearing
 pub mod Ledgers
 pub mod Links
 pub mod Outcomes
 pub mod Outgoing
+pub mod Roughening
 pub mod Turns

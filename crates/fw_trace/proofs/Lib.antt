@@ -1,2 +1,4 @@
+pub mod Captured
+pub mod Recorded
 mod Shows
 mod Whole

@@ -1,5 +1,6 @@
 pub mod Answers
 pub mod Bases
+pub mod Captures
 pub mod Commands
 pub mod Control
 pub mod Hearings
@@ -8,4 +9,5 @@ pub mod Lines
 pub mod Messages
 pub mod Names
 pub mod Pieces
+pub mod Records
 pub mod Sent

@@ -1,8 +1,9 @@
-//! What the packets between an agent and a device say, a line of text each.
+//! What is told of a run besides its report: its packets, a line of text each or as a capture, and its event log in lines.
 #![tactic(auto)]
 
 mod answers;
 mod bases;
+mod capture;
 mod commands;
 mod control;
 mod hearing;
@@ -12,8 +13,11 @@ mod lists;
 mod messages;
 mod names;
 mod pieces;
+mod records;
 
+pub use capture::{capture_header, capture_reads_back, push_capture};
 pub use laws::{shows_messages, shows_what_was_written};
 pub use lines::PacketReader;
 pub use lists::{Sent, push_lines};
 pub use messages::push_message;
+pub use records::{RecordsFault, log_bytes, records_read_back, records_text};

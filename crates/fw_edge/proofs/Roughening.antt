@@ -1,0 +1,52 @@
+-- Packets that are held back, and go out.
+use Rattle.std.proofs.Common.{◌≡◌, ◌<◌, ◌≤◌, ◌+◌, ◌++◌, ◌∙◌, ℕ, Bool, true, false, List, [], ◌∷◌, append-nil, get_or, length, map, refl, sym, ap, subst, take}
+use Rattle.std.proofs.lemmas.Bool.{le-ltb, lt-ltb}
+use Rattle.std.proofs.lemmas.List.{map-append, take_more}
+use Rattle.std.proofs.lemmas.List.Elements.{filter-append}
+use Rattle.std.specs.List.{filter}
+use Rattle.fw_edge.specs.Frames.{frames_of}
+use Rattle.fw_edge.specs.Links.{EndsOf, GrowsAt}
+use Rattle.fw_edge.specs.Roughening.{GoOut, HeldOf, held_of, helds_of, is_due, is_late}
+use Rattle.fw_edge.specs.declared.rough.Held.{Held}
+
+-- one more goes out
+pub out_more : (hs : List HeldOf) (h : HeldOf) (old mid new : EndsOf) → GoOut hs old mid → GrowsAt h.side (frames_of (h.bytes ∷ [])) mid new → GoOut (hs ++ h ∷ []) old new
+out_more [] h old mid new is grows = (new, subst (λ o. GrowsAt h.side (frames_of (h.bytes ∷ [])) o new) is grows, refl)
+out_more (g ∷ gs) h old mid new out grows = (out.0, out.1, out_more gs h out.0 mid new out.2 grows)
+
+-- those of these packets
+filter_step : (p : HeldOf → Bool) (h : Held) (hs : List Held) (b : Bool) → p (held_of h) ≡ b → map held_of (filter (λ g. p (held_of g)) hs) ≡ filter p (map held_of hs)
+    → map held_of (filter (λ g. p (held_of g)) (h ∷ hs)) ≡ filter p (map held_of (h ∷ hs))
+filter_step p h hs true is rest = rw is (ap (λ gs. held_of h ∷ gs) rest)
+filter_step p h hs false is rest = rw is rest
+
+pub filter_helds : (p : HeldOf → Bool) (hs : List Held) → map held_of (filter (λ h. p (held_of h)) hs) ≡ filter p (map held_of hs)
+filter_helds p [] = refl
+filter_helds p (h ∷ hs) = filter_step p h hs (p (held_of h)) refl (filter_helds p hs)
+
+-- the first so many packets, and one more
+next_of : (i : ℕ) (hs : List Held) (h : Held) → i < length hs → h ≡ get_or hs i h → helds_of (take (i + 1) hs) ≡ helds_of (take i hs) ++ held_of h ∷ []
+next_of i hs h lt is =
+    ap (map held_of) (take_more hs i h lt ∙ ap (λ g. take i hs ++ g ∷ []) (sym is)) ∙ map-append held_of (take i hs) (h ∷ [])
+
+due_next : (turn : ℕ) (gs : List HeldOf) (h : HeldOf) → is_late turn h ≡ false → filter (is_due turn) (gs ++ h ∷ []) ≡ filter (is_due turn) gs ++ h ∷ []
+due_next turn gs h is = filter-append (is_due turn) gs (h ∷ []) ∙ ap (λ hs. filter (is_due turn) gs ++ hs) (rw is refl)
+
+late_next : (turn : ℕ) (gs : List HeldOf) (h : HeldOf) → is_late turn h ≡ true → filter (is_due turn) (gs ++ h ∷ []) ≡ filter (is_due turn) gs
+late_next turn gs h is = filter-append (is_due turn) gs (h ∷ []) ∙ ap (λ hs. filter (is_due turn) gs ++ hs) (rw is refl) ∙ append-nil (filter (is_due turn) gs)
+
+-- it is due, and goes out; or it is late still
+pub goes_next : (turn i : ℕ) (hs : List Held) (h : Held) (old mid new : EndsOf) → i < length hs → h ≡ get_or hs i h → h.due ≤ turn
+    → GoOut (filter (is_due turn) (helds_of (take i hs))) old mid → GrowsAt h.side (frames_of (h.packet.items ∷ [])) mid new
+    → GoOut (filter (is_due turn) (helds_of (take (i + 1) hs))) old new
+goes_next turn i hs h old mid new lt is due out grows =
+    subst (λ gs. GoOut gs old new)
+    (sym (ap (filter (is_due turn)) (next_of i hs h lt is) ∙ due_next turn (helds_of (take i hs)) (held_of h) (le-ltb turn h.due due)))
+    (out_more (filter (is_due turn) (helds_of (take i hs))) (held_of h) old mid new out grows)
+
+pub stays_next : (turn i : ℕ) (hs : List Held) (h : Held) (old new : EndsOf) → i < length hs → h ≡ get_or hs i h → turn < h.due
+    → GoOut (filter (is_due turn) (helds_of (take i hs))) old new → GoOut (filter (is_due turn) (helds_of (take (i + 1) hs))) old new
+stays_next turn i hs h old new lt is far out =
+    subst (λ gs. GoOut gs old new)
+    (sym (ap (filter (is_due turn)) (next_of i hs h lt is) ∙ late_next turn (helds_of (take i hs)) (held_of h) (lt-ltb turn h.due far)))
+    out

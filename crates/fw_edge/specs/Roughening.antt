@@ -1,0 +1,83 @@
+-- What a rough link does: it passes packets on to the link below it, at once or late, once, twice or never.
+use Rattle.std.specs.Prelude.{ℕ, ◌≡◌, ◌≤◌, ◌+◌, ◌-◌, ◌^◌, ◌==◌, ◌++◌, ◌∷◌, [], Bool, false, not, ◌&&◌, nat_lt, List, length, map, min}
+use Rattle.std.specs.List.{AllByRecursion, filter}
+use Rattle.fw_edge.specs.Fates.{fate_of}
+use Rattle.fw_edge.specs.Frames.{frames_of}
+use Rattle.fw_edge.specs.Links.{EndsOf, GrowsAt}
+use Rattle.fw_edge.specs.declared.fates.Fate.{Fate}
+use Rattle.fw_edge.specs.declared.fates.Fate.TheVariants as fates
+use Rattle.fw_edge.specs.declared.fates.Roughness.{Roughness}
+use Rattle.fw_edge.specs.declared.rough.Held.{Held}
+use Rattle.fw_message.specs.declared.side.Side.{Side}
+use Rattle.fw_message.specs.declared.side.Side.TheVariants as sides
+use Rattle.rand_pcg.specs.Lcg.{Lcg}
+
+-- A packet that is held back: the end at which it was sent, the turn behind which it goes out, and its bytes.
+pub record HeldOf : Type 0 where
+  pub side : Side
+  pub due : ℕ
+  pub bytes : List ℕ
+
+abbrev pub held_of : Held → HeldOf
+held_of h = record { side = h.side; due = h.due; bytes = h.packet.items }
+
+abbrev pub helds_of : List Held → List HeldOf
+helds_of hs = map held_of hs
+
+-- how many turns late each copy of a packet comes
+abbrev pub waits_of : Fate → List ℕ
+waits_of fates.Lost = []
+waits_of (fates.Once wait) = wait ∷ []
+waits_of (fates.Twice first second) = first ∷ second ∷ []
+
+-- of the copies of a packet those that aren't late
+abbrev pub at_once : List ℕ → (bytes : List ℕ) → List (List ℕ)
+at_once waits bytes = map (λ w. bytes) (filter (λ w. w == 0) waits)
+
+-- and those that are held back, from this turn on
+abbrev pub late : (turn : ℕ) → List ℕ → Side → (bytes : List ℕ) → List HeldOf
+late turn waits side bytes = map (λ w. record { side = side; due = min (turn + w) (2 ^ 64 - 1); bytes = bytes }) (filter (λ w. nat_lt 0 w) waits)
+
+-- A packet that was sent at an end goes on to the link below so often at once, and the other copies are held back.
+pub record PassesOn (turn : ℕ) (waits : List ℕ) (side : Side) (bytes : List ℕ) (took took_now : EndsOf) (held held_now : List HeldOf) : Type 0 where
+  pub now : GrowsAt side (frames_of (at_once waits bytes)) took took_now
+  pub later : held_now ≡ held ++ late turn waits side bytes
+
+-- A turn, as a link sees it, ends where its ends are asked one after the other, the device's first, and neither gives a frame.
+abbrev pub ends_turn : Side → (gave is_idle : Bool) → Bool
+ends_turn sides.Device gave is_idle = false
+ends_turn sides.Agent gave is_idle = not gave && is_idle
+
+-- whether the device's end was the last that was asked, and gave none
+abbrev pub idle_after : Side → (gave : Bool) → Bool
+idle_after sides.Device gave = not gave
+idle_after sides.Agent gave = false
+
+-- behind a turn the packets that are due go out, and others are late still
+abbrev pub is_late : (turn : ℕ) → HeldOf → Bool
+is_late turn h = nat_lt turn h.due
+
+abbrev pub is_due : (turn : ℕ) → HeldOf → Bool
+is_due turn h = not (is_late turn h)
+
+-- Packets go out, one after another, each at its end.
+abbrev pub GoOut : List HeldOf → EndsOf → EndsOf → Type 0
+GoOut [] old new = new ≡ old
+GoOut (h ∷ hs) old new = (mid : EndsOf) × GrowsAt h.side (frames_of (h.bytes ∷ [])) old mid × GoOut hs mid new
+
+pub record Releases (turn : ℕ) (took took_now : EndsOf) (held held_now : List HeldOf) : Type 0 where
+  pub out : GoOut (filter (is_due turn) held) took took_now
+  pub left : held_now ≡ filter (is_late turn) held
+
+-- THE LAW
+
+-- What becomes of a packet is within what is asked for.
+pub record IsWithin (r : Roughness) (fate : Fate) : Type 0 where
+  pub none_lost : r.loss ≡ 0 → 1 ≤ length (waits_of fate)
+  pub all_lost : 100 ≤ r.loss → waits_of fate ≡ []
+  pub none_doubled : r.duplicate ≡ 0 → length (waits_of fate) ≤ 1
+  pub all_doubled : r.loss ≡ 0 → 100 ≤ r.duplicate → length (waits_of fate) ≡ 2
+  pub late : AllByRecursion (λ w. w ≤ r.delay) (waits_of fate)
+
+abbrev pub FatesAreWithin : Type 0
+FatesAreWithin = (r : Roughness) (g : Lcg) → IsWithin r (fate_of r g)

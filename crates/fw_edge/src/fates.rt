@@ -1,0 +1,78 @@
+//! What becomes of packets on a rough link.
+
+ghost use Rattle.std.specs.Prelude.{◌≡◌, ◌<◌, ◌%◌, false, true};
+ghost use Rattle.fw_edge.specs.Fates.{fate_of, generator_after, word_after, word_of};
+
+use rand_core::utils::NextWord;
+use rand_pcg::Pcg32;
+
+/// How rough a link is, and by which chances.
+#[derive(Clone, Copy, Debug, PartialEq, Eq)]
+pub struct Roughness {
+    /// How many of a hundred packets are lost, on the average: 0 to 100.
+    pub loss: u8,
+    /// How many of a hundred that aren't lost come twice.
+    pub duplicate: u8,
+    /// How many turns a packet is late at most.
+    pub delay: u8,
+    /// What the chances begin with: the same seed gives the same again.
+    pub seed: u64,
+}
+
+impl Roughness {
+    /// No roughness: each packet comes once, and at once.
+    pub fn none() -> Roughness
+        ensures loss { result.loss ≡ 0 }
+        ensures duplicate { result.duplicate ≡ 0 }
+        ensures delay { result.delay ≡ 0 }
+        ensures seed { result.seed ≡ 0 }
+    {
+        Roughness {
+            loss: 0,
+            duplicate: 0,
+            delay: 0,
+            seed: 0,
+        }
+    }
+}
+
+/// What becomes of a packet: how often it comes, and each time how many turns late.
+#[derive(Clone, Copy, Debug, PartialEq, Eq)]
+pub enum Fate {
+    /// It never comes.
+    Lost,
+    /// It comes once.
+    Once(u32),
+    /// It comes twice.
+    Twice(u32, u32),
+}
+
+/// The next number of a generator, below a bound.
+#[tactic(auto, unfolding(crate::specs::Fates::word_of, crate::specs::Fates::word_after))]
+fn below(generator: &mut Pcg32, bound: u32) -> u32
+    requires { 0 < bound }
+    ensures word { result ≡ word_of generator.old % bound }
+    ensures within { result < bound }
+    ensures left { generator.new ≡ word_after generator.old }
+{
+    generator.next_word() % bound
+}
+
+/// What becomes of the next packet. It takes four numbers of the generator, whatever that is.
+pub(crate) fn next_fate(roughness: Roughness, generator: &mut Pcg32) -> Fate
+    ensures fate { result ≡ fate_of roughness generator.old }
+    ensures left { generator.new ≡ generator_after generator.old }
+{
+    let lost = below(generator, 100);
+    let doubled = below(generator, 100);
+    let late = u32::from(roughness.delay) + 1;
+    let first = below(generator, late);
+    let second = below(generator, late);
+    if lost < u32::from(roughness.loss) {
+        return Fate::Lost;
+    }
+    if doubled < u32::from(roughness.duplicate) {
+        return Fate::Twice(first, second);
+    }
+    Fate::Once(first)
+}

@@ -1,0 +1,262 @@
+//! A link that is bad on purpose.
+
+ghost use Rattle.std.specs.Prelude.{[], ◌∷◌, ◌≡◌, ◌+◌, ◌-◌, ◌^◌, false, true, IfOk, OnErr, OnOk, is_some, min, option_map, option_to_list};
+ghost use Rattle.std.specs.List.{filter};
+ghost use Rattle.rand_pcg.specs.Lcg.{increment_of, started};
+ghost use Rattle.rand_pcg.specs.Pcg.{multiplier_64};
+ghost use Rattle.fw_edge.specs.Fates.{fate_of, generator_after};
+ghost use Rattle.fw_edge.specs.Frames.{frames_of};
+ghost use Rattle.fw_edge.specs.Links.{Asks, Fails, GrowsAt, Sends};
+ghost use Rattle.fw_edge.specs.Roughening.{GoOut, PassesOn, Releases, ends_turn, helds_of, idle_after, is_due, is_late, waits_of};
+
+use crate::fates::{Fate, Roughness, next_fate};
+use crate::frame::FrameFault;
+use crate::link::Link;
+use crate::tally::Tally;
+use fw_world::Side;
+use mctp_wire::{RawPacket, copy_of};
+use rand_pcg::Pcg32;
+use std::alloc::Global;
+
+/// A packet that is held back.
+#[derive(Drop)]
+pub struct Held {
+    /// The end at which it was sent.
+    side: Side,
+    /// Behind which turn it goes out.
+    due: u64,
+    packet: RawPacket,
+}
+
+/// A link over another that loses, repeats and holds back packets on purpose, as a generator of random numbers says: a seed
+/// says it again.
+///
+/// It does so with what is sent: a packet that is lost is taken, and doesn't go on to the link below; one that comes twice goes
+/// on twice; and one that is late is held back for so many turns. What the link below gives, it gives.
+///
+/// A turn, as a link sees it, ends where its ends are asked one after the other, the device's first, and neither gives a frame.
+/// `drive` asks so in the last round of each turn, and for a single device in no other.
+#[derive(Drop)]
+pub struct Rough<L: Link + Drop> {
+    link: L,
+    roughness: Roughness,
+    generator: Pcg32,
+    held: Vec<Held>,
+    /// How many turns have ended.
+    turn: u64,
+    /// Whether the device's end was asked last, and gave nothing.
+    is_idle: bool,
+    tally: Tally,
+}
+
+/// Passes a copy of a packet that was sent at an end on to the link below, or holds it back where it comes late.
+fn pass_copy<L: Link>(
+    link: &mut L,
+    held: &mut Vec<Held>,
+    turn: u64,
+    side: Side,
+    packet: &RawPacket,
+    wait: u32,
+) -> Result<(), FrameFault>
+    ensures passes { OnOk result (PassesOn turn (wait ∷ []) side packet.now.items (L.taken link.old) (L.taken link.new) (helds_of held.old.items) (helds_of held.new.items)) }
+    ensures gave { OnOk result (L.gave link.new ≡ L.gave link.old) }
+{
+    if wait == 0 {
+        return link.send(side, packet);
+    }
+    let copy = Held {
+        side,
+        due: turn.saturating_add(u64::from(wait)),
+        packet: copy_of(packet),
+    };
+    match held.push(copy) {
+        Ok(()) => Ok(()),
+        Err(_) => Err(FrameFault::Io),
+    }
+}
+
+/// Passes a packet that was sent at an end on to the link below, as its fate says.
+fn pass<L: Link>(
+    link: &mut L,
+    held: &mut Vec<Held>,
+    turn: u64,
+    side: Side,
+    packet: &RawPacket,
+    fate: Fate,
+) -> Result<(), FrameFault>
+    ensures passes { OnOk result (PassesOn turn (waits_of fate) side packet.now.items (L.taken link.old) (L.taken link.new) (helds_of held.old.items) (helds_of held.new.items)) }
+    ensures gave { OnOk result (L.gave link.new ≡ L.gave link.old) }
+{
+    match fate {
+        Fate::Lost => Ok(()),
+        Fate::Once(wait) => pass_copy(link, held, turn, side, packet, wait),
+        Fate::Twice(first, second) => {
+            match pass_copy(link, held, turn, side, packet, first) {
+                Ok(()) => {}
+                Err(fault) => return Err(fault),
+            }
+            pass_copy(link, held, turn, side, packet, second)
+        }
+    }
+}
+
+/// Passes on those packets that are due behind a turn.
+fn send_due<L: Link>(link: &mut L, held: &[Held], turn: u64) -> Result<(), FrameFault>
+    ensures out { OnOk result (GoOut (filter (is_due turn) (helds_of held.now)) (L.taken link.old) (L.taken link.new)) }
+    ensures gave { OnOk result (L.gave link.new ≡ L.gave link.old) }
+{
+    for packet in held {
+        if packet.due <= turn {
+            match link.send(packet.side, &packet.packet) {
+                Ok(()) => {}
+                Err(fault) => return Err(fault),
+            }
+        }
+    }
+    Ok(())
+}
+
+/// Lets go of those packets that are due behind a turn.
+fn let_go(held: &mut Vec<Held>, turn: u64)
+    ensures { helds_of held.new.items ≡ filter (is_late turn) (helds_of held.old.items) }
+{
+    held.retain(|packet| packet.due > turn);
+}
+
+/// Passes on what is held back and due behind a turn.
+fn release<L: Link>(link: &mut L, held: &mut Vec<Held>, turn: u64) -> Result<(), FrameFault>
+    ensures released { OnOk result (Releases turn (L.taken link.old) (L.taken link.new) (helds_of held.old.items) (helds_of held.new.items)) }
+    ensures gave { OnOk result (L.gave link.new ≡ L.gave link.old) }
+{
+    match send_due(link, held.as_slice(), turn) {
+        Ok(()) => {}
+        Err(fault) => return Err(fault),
+    }
+    let_go(held, turn);
+    Ok(())
+}
+
+impl<L: Link + Drop> Rough<L> {
+    /// A rough link over this one, whose chances are a stream of their own among those of the seed.
+    pub fn new(alloc: Global, link: L, roughness: Roughness, stream: u64) -> Rough<L>
+        ensures link { result.link ≡ link }
+        ensures roughness { result.roughness ≡ roughness }
+        ensures generator { result.generator ≡ started 64 multiplier_64 roughness.seed (increment_of 64 stream) }
+        ensures held { result.held.items ≡ [] }
+        ensures turn { result.turn ≡ 0 }
+        ensures idle { result.is_idle ≡ false }
+        ensures failures { result.tally.failures ≡ 0 }
+        ensures sent { result.tally.sent ≡ 0 }
+        ensures asked { result.tally.asked ≡ 0 }
+        ensures given { result.tally.given ≡ 0 }
+    {
+        Rough {
+            link,
+            roughness,
+            generator: Pcg32::new(roughness.seed, stream),
+            held: Vec::new(alloc),
+            turn: 0,
+            is_idle: false,
+            tally: Tally::new(),
+        }
+    }
+
+    /// An end was asked, and gave a frame or not: behind a turn what is due goes out.
+    fn pass_turn(&mut self, side: Side, gave: bool) -> Result<(), FrameFault>
+        ensures same { (self.new.tally ≡ self.old.tally) × (self.new.generator ≡ self.old.generator) × (self.new.roughness ≡ self.old.roughness) }
+        ensures idle { self.new.is_idle ≡ idle_after side gave }
+        ensures on { ends_turn side gave self.old.is_idle ≡ false → OnOk result ((self.new.link ≡ self.old.link) × (self.new.held ≡ self.old.held) × (self.new.turn ≡ self.old.turn)) }
+        ensures turn { ends_turn side gave self.old.is_idle ≡ true → OnOk result (self.new.turn ≡ min (self.old.turn + 1) (2 ^ 64 - 1)) }
+        ensures released { ends_turn side gave self.old.is_idle ≡ true → OnOk result (Releases self.new.turn (L.taken self.old.link) (L.taken self.new.link) (helds_of self.old.held.items) (helds_of self.new.held.items)) }
+        ensures gave { OnOk result (L.gave self.new.link ≡ L.gave self.old.link) }
+    {
+        let was_idle = self.is_idle;
+        self.is_idle = side == Side::Device && !gave;
+        if side == Side::Device || gave || !was_idle {
+            return Ok(());
+        }
+        self.turn = self.turn.saturating_add(1);
+        release(&mut self.link, &mut self.held, self.turn)
+    }
+}
+
+impl<L: Link + Drop> Link for Rough<L> {
+    ghost tally = { λ r. r.tally };
+
+    ghost gave = { λ r. L.gave r.link };
+
+    fn send(&mut self, side: Side, packet: &RawPacket) -> Result<(), FrameFault>
+        ensures ok { OnOk result (Sends self.old.tally self.new.tally) }
+        ensures err { OnErr result (Fails self.old.tally self.new.tally) }
+        ensures gave { OnOk result (L.gave self.new.link ≡ L.gave self.old.link) }
+        ensures passes { OnOk result (PassesOn self.old.turn (waits_of (fate_of self.old.roughness self.old.generator)) side packet.now.items
+            (L.taken self.old.link) (L.taken self.new.link) (helds_of self.old.held.items) (helds_of self.new.held.items)) }
+        ensures generator { self.new.generator ≡ generator_after self.old.generator }
+        ensures same { (self.new.roughness ≡ self.old.roughness) × (self.new.turn ≡ self.old.turn) × (self.new.is_idle ≡ self.old.is_idle) }
+    {
+        let fate = next_fate(self.roughness, &mut self.generator);
+        match pass(
+            &mut self.link,
+            &mut self.held,
+            self.turn,
+            side,
+            packet,
+            fate,
+        ) {
+            Ok(()) => {
+                self.tally.send();
+                Ok(())
+            }
+            Err(fault) => {
+                self.tally.fail();
+                Err(fault)
+            }
+        }
+    }
+
+    fn receive(&mut self, side: Side) -> Result<Option<RawPacket>, FrameFault>
+        ensures ok { IfOk result (λ p. Asks (is_some p) self.old.tally self.new.tally) }
+        ensures err { OnErr result (Fails self.old.tally self.new.tally) }
+        ensures gave { IfOk result (λ p. GrowsAt side (frames_of (option_to_list (option_map (λ q. q.items) p))) (L.gave self.old.link) (L.gave self.new.link)) }
+        ensures on { IfOk result (λ p. ends_turn side (is_some p) self.old.is_idle ≡ false
+            → (L.taken self.new.link ≡ L.taken self.old.link) × (self.new.held ≡ self.old.held) × (self.new.turn ≡ self.old.turn)) }
+        ensures turn { IfOk result (λ p. ends_turn side (is_some p) self.old.is_idle ≡ true → self.new.turn ≡ min (self.old.turn + 1) (2 ^ 64 - 1)) }
+        ensures released { IfOk result (λ p. ends_turn side (is_some p) self.old.is_idle ≡ true
+            → Releases self.new.turn (L.taken self.old.link) (L.taken self.new.link) (helds_of self.old.held.items) (helds_of self.new.held.items)) }
+        ensures idle { IfOk result (λ p. self.new.is_idle ≡ idle_after side (is_some p)) }
+        ensures same { (self.new.generator ≡ self.old.generator) × (self.new.roughness ≡ self.old.roughness) }
+    {
+        let packet = match self.link.receive(side) {
+            Ok(packet) => packet,
+            Err(fault) => {
+                self.tally.fail();
+                return Err(fault);
+            }
+        };
+        match self.pass_turn(side, packet.is_some()) {
+            Ok(()) => {}
+            Err(fault) => {
+                self.tally.fail();
+                return Err(fault);
+            }
+        }
+        self.tally.ask(packet.is_some());
+        Ok(packet)
+    }
+
+    fn failures(&self) -> u64 {
+        self.tally.failures
+    }
+
+    fn sent(&self) -> u64 {
+        self.tally.sent
+    }
+
+    fn asked(&self) -> u64 {
+        self.tally.asked
+    }
+
+    fn given(&self) -> u64 {
+        self.tally.given
+    }
+}
