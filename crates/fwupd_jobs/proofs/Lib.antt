@@ -4,6 +4,7 @@ mod Checks
 mod Ended
 mod Examined
 mod Foretold
+mod Noted
 mod Packed
 mod Started
 mod Told

@@ -36,6 +36,7 @@ unsaid_so read path text file fault (faults.Step n f) h held is = absurd h
 unsaid_so read path text file fault faults.NoPackage h held is = absurd h
 unsaid_so read path text file fault (faults.Socket device) h held is = absurd h
 unsaid_so read path text file fault faults.Trace h held is = absurd h
+unsaid_so read path text file fault faults.Record h held is = absurd h
 unsaid_so read path text file fault (faults.Edge f) h held is = absurd h
 unsaid_so read path text file fault (faults.Session device word) h held is = absurd h
 unsaid_so read path text file fault faults.Output h held is = absurd h
@@ -244,13 +245,12 @@ pub barred_up : (files : List ℕ → FileOf) (path : List ℕ) (number : ℕ) (
     → ArePacked files (map (λ p. string_bytes p) names) (map (λ f. f.items) contents) → slice ≡ contents → map (λ p. Ok p) ps ≡ map (λ f. package_of f.items) slice
     → packs ≡ ps → w ≡ new_world config.agent (nodes_made config.unit config.agent.eid (map device_of config.devices.items)) packs → 1 ≤ number → number ≤ config.packages.len
     → (others : List (String Global)) → others ≡ config.packages.items
-    → (told ≡ faults.Memory) ⊎ ((told ≡ faults.Trace) × IsBarred files refuses show (path ∷ map (λ p. string_bytes p) others) watched)
+    → (told ≡ faults.Memory) ⊎ IsBarred files refuses show (path ∷ map (λ p. string_bytes p) others) told watched
     → (told ≡ faults.Memory) ⊎ LacksTrace files path number show refuses told watched
 unfolding set_up_named set_up named_up
 barred_up files path number config show refuses told watched names contents slice ps packs w says named packed same read lent is counted there others are (inl e) = inl e
 barred_up files path number config show refuses told watched names contents slice ps packs w says named packed same read lent is counted there others are (inr h) = inr (record {
-  is = h.0;
   world = w;
   named = set_up_named files path number config names contents slice ps packs w says named packed same read lent is counted there;
-  barred = subst (λ qs. IsBarred files refuses show (path ∷ map (λ p. string_bytes p) qs) watched) are h.1;
+  barred = subst (λ qs. IsBarred files refuses show (path ∷ map (λ p. string_bytes p) qs) told watched) are h;
 })

@@ -20,7 +20,7 @@ use Rattle.fw_world.specs.declared.step.Step.{Step}
 use Rattle.fw_world.specs.declared.step.Step.TheVariants as steps
 use Rattle.fw_edge.specs.declared.driving.EdgeFault.{EdgeFault}
 use Rattle.fw_edge.specs.declared.driving.EdgeFault.TheVariants as edges
-use Rattle.fwupd_jobs.specs.Running.{AreLinked, IsCaused, IsLost, IsRefusedStart, IsUnlinked, MayEnd, NamesLost, StepsLead, StepsSeen, Updates, WatchOf, starts_of, told_by, told_of}
+use Rattle.fwupd_jobs.specs.Running.{AreLinked, IsCaused, IsLost, IsRefusedStart, IsUnlinked, IsUnwritten, MayEnd, NamesLost, StepsLead, StepsSeen, Updates, WatchOf, starts_of, told_by, told_of, watch_of}
 use Rattle.fwupd_jobs.specs.declared.faults.RunFault.{RunFault}
 use Rattle.fwupd_jobs.specs.declared.faults.RunFault.TheVariants as told
 use Rattle.fwupd_jobs.specs.declared.running.WatchFault.{WatchFault}
@@ -80,6 +80,19 @@ refused_at number w v place device n fault h at is refused =
       fault = fault;
       refused = subst (λ d. may_step v (steps.Start d number) ≡ Some fault) own refused;
     }
+
+-- and listed
+pub listed_by : (number : ℕ) (w v : WorldOf) (place device : ℕ) (n : DeviceNodeOf) (before after : List Step) → Begun number w place v → option_map (λ x. x.node) (slice_get v.sites place) ≡ Some n
+    → device ≡ n.endpoint.eid → before ≡ starts_of number (take place w.sites) → after ≡ before ++ steps.Start device number ∷ [] → after ≡ starts_of number (take (place + 1) w.sites)
+listed_by number w v place device n before after h at is listed more =
+    let there = node_there (slice_get v.sites place) n at in
+    let own : device ≡ there.0.node.endpoint.eid = is ∙ ap (λ m. m.endpoint.eid) (sym there.2) in
+    let next : suc place ≡ place + 1 = omega arith in
+    more ∙ ap (λ d. before ++ steps.Start d number ∷ []) own ∙ ap (λ ss. ss ++ start_of number there.0 ∷ []) listed
+    ∙ sym (starts_next number w.sites place there.0 (ap (λ xs. slice_get xs place) (sym h.same) ∙ there.1)) ∙ ap (λ k. starts_of number (take k w.sites)) next
+
+pub listed_whole : (number : ℕ) (w v : WorldOf) (place : ℕ) (ss : List Step) → Begun number w place v → place ≡ length v.sites → ss ≡ starts_of number (take place w.sites) → ss ≡ starts_of number w.sites
+listed_whole number w v place ss h e listed = listed ∙ ap (starts_of number) (ap (λ n. take n w.sites) (e ∙ ap length h.same) ∙ take-length w.sites)
 
 pub begun_all : (number : ℕ) (w v : WorldOf) (place : ℕ) → Begun number w place v → place ≡ length v.sites → Run w (starts_of number w.sites) v
 begun_all number w v place h e =
@@ -164,17 +177,23 @@ begun_seen number w v place h =
 -- what ends the watch is told otherwise than what ends a turn
 pub watched_apart : (f : WatchFault) (e : EdgeFault) → told_by f ≡ told.Edge e → ⊥
 watched_apart watches.Unwritten e h = cc
+watched_apart watches.Unrecorded e h = cc
 watched_apart watches.Memory e h = cc
 
-pub turned_apart : (e : EdgeFault) → told_of e ≡ told.Trace → ⊥
-turned_apart edges.Frame h = cc
-turned_apart edges.Step h = cc
-turned_apart edges.Memory h = cc
+pub turned_apart : (e : EdgeFault) (fault : RunFault) (seen : Option WatchFault) → fault ≡ told_of e → IsUnwritten fault seen
+turned_apart edges.Frame fault seen e = rw e tt
+turned_apart edges.Step fault seen e = rw e tt
+turned_apart edges.Memory fault seen e = rw e tt
+
+-- a fault of no watch
+pub none_unwritten : (fault : RunFault) (seen : Option WatchFault) → watch_of fault ≡ None → IsUnwritten fault seen
+none_unwritten fault seen e = rw e tt
 
 -- what looks on can't be written
-pub unwritten_by : (f : WatchFault) (seen : Option WatchFault) → told_by f ≡ told.Trace → seen ≡ Some f → seen ≡ Some watches.Unwritten
-unwritten_by watches.Unwritten seen e is = is
-unwritten_by watches.Memory seen e is = absurd (let h : told.Memory ≡ told.Trace = e in cc)
+pub unwritten_by : (f : WatchFault) (seen : Option WatchFault) (fault : RunFault) → fault ≡ told_by f → seen ≡ Some f → IsUnwritten fault seen
+unwritten_by watches.Unwritten seen fault e is = rw e is
+unwritten_by watches.Unrecorded seen fault e is = rw e is
+unwritten_by watches.Memory seen fault e is = rw e tt
 
 -- and its first fault stays
 pub first_still : (r : Result (Prim.Unit {0}) WatchFault) (old new : Option WatchFault) (f : WatchFault) → old ≡ Some f → IfSome old (λ g. r ≡ Err g) → IfErr r (λ g. new ≡ Some g) → new ≡ Some f
@@ -182,11 +201,22 @@ first_still r old new f e first after =
     let is : r ≡ Err f = subst (λ o. IfSome o (λ g. r ≡ Err g)) e first in
     subst (λ q. IfErr q (λ g. new ≡ Some g)) is after
 
+pub unwritten_still : (r : Result (Prim.Unit {0}) WatchFault) (old new : Option WatchFault) (fault : RunFault) → IsUnwritten fault old → IfSome old (λ g. r ≡ Err g) → IfErr r (λ g. new ≡ Some g) → IsUnwritten fault new
+unwritten_still r old new fault h first after = go (watch_of fault) h
+  where
+    go : (o : Option WatchFault) → IfSome o (λ f. old ≡ Some f) → IfSome o (λ f. new ≡ Some f)
+    go None is = tt
+    go (Some f) is = first_still r old new f is first after
+
 -- the cause of an update's end
 pub update_caused : (number : ℕ) (w v : WorldOf) (fault : RunFault) (watched : WatchOf) → MayEnd fault → (fault ≡ told.Edge edges.Step → IsRefusedStart number w v ⊎ (v.now ≡ 2 ^ 32 - 1))
-    → (fault ≡ told.Trace → watched.fault ≡ Some watches.Unwritten) → watched.has_ended ≡ true → (fault ≡ told.Memory) ⊎ IsCaused number w v fault watched
+    → IsUnwritten fault watched.fault → watched.has_ended ≡ true → (fault ≡ told.Memory) ⊎ IsCaused number w v fault watched
 update_caused number w v fault watched (inl e) step unwritten ended = inl e
 update_caused number w v fault watched (inr b) step unwritten ended = inr (record { broken = b; stopped = step; unwritten = unwritten; let_end = ended })
+
+pub caused_unwritten : (number : ℕ) (w v : WorldOf) (fault : RunFault) (watched : WatchOf) → (fault ≡ told.Memory) ⊎ IsCaused number w v fault watched → IsUnwritten fault watched.fault
+caused_unwritten number w v fault watched (inl e) = rw e tt
+caused_unwritten number w v fault watched (inr h) = h.unwritten
 
 -- a device to which no link is opened
 pub unlinked_at : (w : WorldOf) (lacks : ℕ → Bool) (place device : ℕ) (n : DeviceNodeOf) (fault : RunFault) → option_map (λ x. x.node) (slice_get w.sites place) ≡ Some n → device ≡ n.endpoint.eid
@@ -204,6 +234,10 @@ linked_append is_to [] [] x link own h = (own, tt)
 linked_append is_to [] (l ∷ links) x link own h = absurd h
 linked_append is_to (y ∷ xs) [] x link own h = absurd h
 linked_append is_to (y ∷ xs) (l ∷ links) x link own h = (h.0, linked_append is_to xs links x link own h.1)
+
+pub all_next : {A : Type 0} (P : A → Type 0) (xs : List A) (x : A) → AllByRecursion P xs → P x → AllByRecursion P (xs ++ x ∷ [])
+all_next P [] x h own = (own, tt)
+all_next P (y ∷ ys) x h own = (h.0, all_next P ys x h.1 own)
 
 pub linked_next : {L : Type 0} (is_to : «Unit» → ℕ → L → Bool) (sites : List SiteOf) (links longer : List L) (link : L) (place device : ℕ) (unit : «Unit») (n : DeviceNodeOf)
     → option_map (λ x. x.node) (slice_get sites place) ≡ Some n → unit ≡ n.half.unit → device ≡ n.endpoint.eid → is_to unit device link ≡ true → longer ≡ links ++ link ∷ []
@@ -297,4 +331,4 @@ lost_told failures w olds news lost devices failed told = elim (told devices) [
 -- what it was told changes nothing of why a run doesn't go on
 pub caused_still : (number : ℕ) (w v : WorldOf) (fault : RunFault) (before now : WatchOf) → now.fault ≡ before.fault → now.has_ended ≡ before.has_ended → IsCaused number w v fault before → IsCaused number w v fault now
 caused_still number w v fault before now same ended h =
-    record { broken = h.broken; stopped = h.stopped; unwritten = λ e. same ∙ h.unwritten e; let_end = ended ∙ h.let_end }
+    record { broken = h.broken; stopped = h.stopped; unwritten = subst (IsUnwritten fault) (sym same) h.unwritten; let_end = ended ∙ h.let_end }

@@ -7,9 +7,11 @@ pub mod Outputs
 pub mod Planned
 pub mod Progress
 pub mod Promises
+pub mod Recordings
 pub mod Replayed
 pub mod Running
 pub mod Sessions
 pub mod Setups
 pub mod Traces
+pub mod Watching
 pub mod Words

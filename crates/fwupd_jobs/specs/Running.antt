@@ -1,5 +1,5 @@
 -- What a run over links makes of a world, and what is written of it.
-use Rattle.std.specs.Prelude.{ℕ, suc, ◌≡◌, ◌≢◌, ◌≤◌, ◌+◌, ◌-◌, ◌^◌, ◌++◌, ◌⊎◌, Bool, false, true, if◌then◌else◌, List, [], ◌∷◌, Option, None, Some, IfSome, is_some, length, map, option_map, slice_get, take}
+use Rattle.std.specs.Prelude.{ℕ, suc, ◌≡◌, ◌≢◌, ◌≤◌, ◌+◌, ◌-◌, ◌^◌, ◌++◌, ◌⊎◌, Bool, false, true, if◌then◌else◌, List, [], ◌∷◌, Option, None, Some, IfSome, IsSomeAnd, is_some, length, map, option_map, slice_get, take}
 use Rattle.std.specs.List.{AllByRecursion}
 use Rattle.fw_edge.specs.Drives.{AreDriven, all_over, ticks_in}
 use Rattle.fw_edge.specs.Ledgers.{OneFailed}
@@ -15,8 +15,9 @@ use Rattle.fw_world.specs.declared.step.Step.{Step}
 use Rattle.fw_world.specs.declared.step.Step.TheVariants as steps
 use Rattle.fwupd_jobs.specs.Outputs.{FailsToPrint, OutputOf, Prints}
 use Rattle.fwupd_jobs.specs.Promises.{IsSafeSince}
+use Rattle.fwupd_jobs.specs.Recordings.{IsRecorded, RecordingOf}
 use Rattle.fwupd_jobs.specs.Sessions.{undone_in}
-use Rattle.fwupd_jobs.specs.Setups.{FileOf, IsApartFrom, IsOverOne, IsSetup, LacksPackage, SetupFails}
+use Rattle.fwupd_jobs.specs.Setups.{FileOf, IsApartFrom, IsOver, IsOverOne, IsSetup, LacksPackage, SetupFails}
 use Rattle.fwupd_jobs.specs.declared.command_line.Show.{Show}
 use Rattle.fwupd_jobs.specs.declared.faults.RunFault.{RunFault}
 use Rattle.fwupd_jobs.specs.declared.faults.RunFault.TheVariants as faults
@@ -65,6 +66,7 @@ abbrev pub IsBroken : RunFault → Type 0
 IsBroken (faults.Edge edges.Frame) = Prim.Unit {0}
 IsBroken (faults.Edge edges.Step) = Prim.Unit {0}
 IsBroken faults.Trace = Prim.Unit {0}
+IsBroken faults.Record = Prim.Unit {0}
 IsBroken fault = ⊥
 
 -- how a run is told of that ends within a turn
@@ -75,7 +77,18 @@ told_of fault = faults.Edge fault
 -- and where what looks on can't go on
 abbrev pub told_by : WatchFault → RunFault
 told_by watches.Unwritten = faults.Trace
+told_by watches.Unrecorded = faults.Record
 told_by watches.Memory = faults.Memory
+
+-- the fault of what looks on that is told so, if one is told so alone
+abbrev pub watch_of : RunFault → Option WatchFault
+watch_of faults.Trace = Some watches.Unwritten
+watch_of faults.Record = Some watches.Unrecorded
+watch_of fault = None
+
+-- Where what looks on can't write a file of its own, it has that fault.
+abbrev pub IsUnwritten : RunFault → Option WatchFault → Type 0
+IsUnwritten told fault = IfSome (watch_of told) (λ f. fault ≡ Some f)
 
 -- A link's fault is told where one failed, and another fault where none did.
 abbrev pub AreToldOf : RunFault → List ℕ → List ℕ → Type 0
@@ -94,59 +107,75 @@ pub record IsRefusedStart (number : ℕ) (w v : WorldOf) : Type 0 where
 abbrev pub MayEnd : RunFault → Type 0
 MayEnd fault = (fault ≡ faults.Memory) ⊎ IsBroken fault
 
--- What is shown of a run: whether it is to be without progress, and the path of the file that its packets are written to, if any.
+-- What is shown of a run: whether it is to be without progress, and the paths of the files that its packets and its steps are
+-- written to, if any.
 pub record ShowOf : Type 0 where
   pub is_quiet : Bool
   pub trace : Option (List ℕ)
+  pub record_path : Option (List ℕ)
   pub form : Form
 
 -- what the words of a command line ask to be shown
 abbrev pub show_of : Show → ShowOf
-show_of s = record { is_quiet = s.is_quiet; trace = option_map (λ path. path.now) s.trace; form = s.form }
+show_of s = record { is_quiet = s.is_quiet; trace = option_map (λ path. path.now) s.trace; record_path = option_map (λ path. path.now) s.record; form = s.form }
 
--- What looks on shows so much: no progress where it is to be quiet, and the packets where they are written to a file.
+-- What looks on shows so much: no progress where it is to be quiet, and the packets and the steps where they are written to files.
 pub record ShownOf : Type 0 where
   pub is_quiet : Bool
   pub is_traced : Bool
+  pub is_recorded : Bool
 
--- what is shown where there is progress or not, it is to be quiet or not, and there is a trace or not
-abbrev pub shown_by : (has_progress is_quiet is_traced : Bool) → ShownOf
-shown_by has_progress is_quiet is_traced = record { is_quiet = if has_progress then false else is_quiet; is_traced = is_traced }
+-- what is shown where there is progress or not, it is to be quiet or not, and there is a trace, and a recording, or not
+abbrev pub shown_by : (has_progress is_quiet is_traced is_recorded : Bool) → ShownOf
+shown_by has_progress is_quiet is_traced is_recorded =
+    record { is_quiet = if has_progress then false else is_quiet; is_traced = is_traced; is_recorded = is_recorded }
 
 -- what is shown where this is asked for
 abbrev pub shown_of : ShowOf → ShownOf
-shown_of show = record { is_quiet = show.is_quiet; is_traced = is_some show.trace }
+shown_of show = record { is_quiet = show.is_quiet; is_traced = is_some show.trace; is_recorded = is_some show.record_path }
 
--- What looks on: its first fault, if it had one, what it shows, whether it was let end, how many turns it saw, and the device whose link it
--- was told of as failed, if any.
+-- What looks on: its first fault, if it had one, what it shows, whether it was let end, how many turns it saw, the device whose link it
+-- was told of as failed, if any, and what it has written of the steps, if they are recorded.
 pub record WatchOf : Type 0 where
   pub fault : Option WatchFault
   pub shows : ShownOf
   pub has_ended : Bool
   pub seen : ℕ
   pub lost : Option ℕ
+  pub recording : Option RecordingOf
 
--- The packets are written over none of the files of these paths.
+-- A file that is written, if one is, is over one of these, or over another that is written; and it is over none.
+abbrev pub IsOverUsed : (files : List ℕ → FileOf) (path other : Option (List ℕ)) (paths : List (List ℕ)) → Type 0
+IsOverUsed files path other paths = IsSomeAnd path (λ p. IsOverOne files p paths ⊎ IsSomeAnd other (IsOver files p))
+
+abbrev pub IsApartFromUsed : (files : List ℕ → FileOf) (path other : Option (List ℕ)) (paths : List (List ℕ)) → Type 0
+IsApartFromUsed files path other paths = IfSome path (λ p. AllByRecursion (IsApartFrom files p) paths × IfSome other (IsApartFrom files p))
+
+-- Nothing is written over the files of these paths, and the steps not over the packets.
 abbrev pub IsApart : (files : List ℕ → FileOf) → ShowOf → List (List ℕ) → Type 0
-IsApart files show paths = IfSome show.trace (λ trace. AllByRecursion (IsApartFrom files trace) paths)
+IsApart files show paths = IsApartFromUsed files show.trace None paths × IsApartFromUsed files show.record_path show.trace paths
 
--- The file that they are written to may be refused.
-pub record MayRefuse (refuses : List ℕ → Bool) (show : ShowOf) : Type 0 where
-  pub trace : List ℕ
-  pub asked : show.trace ≡ Some trace
-  pub refused : refuses trace ≡ true
+-- The file that what looks on can't write, where that is told, would be written over one of these, or the steps over the packets.
+abbrev pub IsOverRead : (files : List ℕ → FileOf) → ShowOf → List (List ℕ) → RunFault → Type 0
+IsOverRead files show paths faults.Trace = IsOverUsed files show.trace None paths
+IsOverRead files show paths faults.Record = IsOverUsed files show.record_path show.trace paths
+IsOverRead files show paths told = ⊥
 
--- What looks on doesn't begin: the packets would be written over the file of one of these paths, or their file is refused.
-pub record IsBarred (files : List ℕ → FileOf) (refuses : List ℕ → Bool) (show : ShowOf) (paths : List (List ℕ)) (watched : WatchOf) : Type 0 where
-  pub trace : List ℕ
-  pub asked : show.trace ≡ Some trace
-  pub cause : IsOverOne files trace paths ⊎ ((watched.fault ≡ Some watches.Unwritten) × MayRefuse refuses show)
+-- Or that file may be refused.
+abbrev pub MayRefuse : (refuses : List ℕ → Bool) → ShowOf → RunFault → Type 0
+MayRefuse refuses show faults.Trace = IsSomeAnd show.trace (λ path. refuses path ≡ true)
+MayRefuse refuses show faults.Record = IsSomeAnd show.record_path (λ path. refuses path ≡ true)
+MayRefuse refuses show told = ⊥
+
+-- What looks on doesn't begin, and tells so.
+abbrev pub IsBarred : (files : List ℕ → FileOf) (refuses : List ℕ → Bool) (show : ShowOf) (paths : List (List ℕ)) (told : RunFault) (watched : WatchOf) → Type 0
+IsBarred files refuses show paths told watched = IsOverRead files show paths told ⊎ (IsUnwritten told watched.fault × MayRefuse refuses show told)
 
 -- Why a run doesn't go on is so: a start is refused or the clock stands at its end, and what looks on can't be written. It was let end.
 pub record IsCaused (number : ℕ) (w v : WorldOf) (told : RunFault) (watched : WatchOf) : Type 0 where
   pub broken : IsBroken told
   pub stopped : told ≡ faults.Edge edges.Step → IsRefusedStart number w v ⊎ (v.now ≡ 2 ^ 32 - 1)
-  pub unwritten : told ≡ faults.Trace → watched.fault ≡ Some watches.Unwritten
+  pub unwritten : IsUnwritten told watched.fault
   pub let_end : watched.has_ended ≡ true
 
 -- Each of these links is that of the device at its place, in a network with its transmission unit.
@@ -213,6 +242,7 @@ pub record ReportsUpdate (files : List ℕ → FileOf) (config : List ℕ) (numb
   pub none_lost : watched.lost ≡ None
   pub let_end : watched.has_ended ≡ true
   pub undone_is : undone ≡ undone_in left
+  pub recorded : IfSome watched.recording (IsRecorded world left)
   pub written : Prints before now (report_in show.form left)
 
 -- It is written of what was reached, and where a link failed, what looks on was told whose.
@@ -240,10 +270,9 @@ pub record BreaksReport (files : List ℕ → FileOf) (config : List ℕ) (numbe
 
 -- Before a link is opened, what looks on doesn't begin.
 pub record LacksTrace (files : List ℕ → FileOf) (config : List ℕ) (number : ℕ) (show : ShowOf) (refuses : List ℕ → Bool) (told : RunFault) (watched : WatchOf) : Type 0 where
-  pub is : told ≡ faults.Trace
   pub world : WorldOf
   pub named : IsNamed files config number world
-  pub barred : IsBarred files refuses show (config ∷ named.setup.config.packages) watched
+  pub barred : IsBarred files refuses show (config ∷ named.setup.config.packages) told watched
 
 -- No link to a device of the configuration is opened.
 pub record LacksLink (files : List ℕ → FileOf) (config : List ℕ) (number : ℕ) (show : ShowOf) (lacks : ℕ → Bool) (told : RunFault) : Type 0 where

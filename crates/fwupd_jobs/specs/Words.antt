@@ -3,6 +3,7 @@ use Rattle.std.specs.Prelude.{ℕ, ◌≡◌, ◌<◌, ◌^◌, Bool, true, fals
 use Rattle.std.specs.Str.Parse.{IsNumeral, digits_value, without_leading_plus}
 use Rattle.clap.specs.Words.{first_value, one_text}
 use Rattle.clap.specs.declared.parser.matches.Found.{Found}
+use Rattle.fw_edge.specs.declared.fates.Roughness.{Roughness}
 use Rattle.fw_json.specs.declared.forms.Form.{Form}
 use Rattle.fw_json.specs.declared.forms.Form.TheVariants as forms
 use Rattle.mctp_ctl.specs.declared.answers.Endpoint.{Endpoint}
@@ -42,6 +43,7 @@ pub record AsksNumber (words : Found) (number : ℕ) : Type 0 where
 pub record AsksShow (words : Found) (show : Show) : Type 0 where
   pub quiet : AsksFlag words (codes "quiet") show.is_quiet
   pub trace : option_map (λ path. path.now) show.trace ≡ first_value words (codes "trace")
+  pub record_path : option_map (λ path. path.now) show.record ≡ first_value words (codes "record")
   pub form : AsksForm words show.form
 
 -- The endpoint that answers.
@@ -49,10 +51,27 @@ pub record AsksEndpoint (words : Found) (endpoint : Endpoint) : Type 0 where
   pub eid : (text : List ℕ) → one_text words (codes "EID") ≡ Some text → endpoint.eid ≡ number_of text
   pub uuid : Some endpoint.uuid ≡ parsed (text_under words (codes "uuid"))
 
+-- A small number, of 8 bits; and a seed, of 64.
+abbrev pub AsksSmall : Found → (name : List ℕ) → (number : ℕ) → Type 0
+AsksSmall words name number =
+    (text : List ℕ) → one_text words name ≡ Some text → IsNumeral 10 (without_leading_plus text) → number_of text < 2 ^ 8 → number ≡ number_of text
+
+abbrev pub AsksSeed : Found → (seed : ℕ) → Type 0
+AsksSeed words seed =
+    (text : List ℕ) → one_text words (codes "seed") ≡ Some text → IsNumeral 10 (without_leading_plus text) → number_of text < 2 ^ 64 → seed ≡ number_of text
+
+-- How rough links are.
+pub record AsksRoughness (words : Found) (roughness : Roughness) : Type 0 where
+  pub loss : AsksSmall words (codes "loss") roughness.loss
+  pub duplicate : AsksSmall words (codes "duplicate") roughness.duplicate
+  pub delay : AsksSmall words (codes "delay") roughness.delay
+  pub seed : AsksSeed words roughness.seed
+
 -- What is asked of a run.
 pub record AsksOrder (words : Found) (order : Order) : Type 0 where
   pub number : AsksNumber words order.number
   pub check : AsksFlag words (codes "check") order.is_checked
+  pub roughness : AsksRoughness words order.roughness
 
 -- The subcommand of a name, with these words, asks for a job.
 abbrev pub Asks : (name : List ℕ) → Found → Job → Type 0

@@ -1,14 +1,14 @@
 //! Updating the devices of a configuration, where each session may have to be Done in the end.
 
-ghost use Rattle.std.specs.Prelude.{◌≡◌, ◌⊎◌, IfErr, OnOk, Some};
+ghost use Rattle.std.specs.Prelude.{◌≡◌, ◌⊎◌, IfErr, OnOk};
 ghost use Rattle.fwupd_jobs.specs.Checked.{CheckedEnds, ReportsChecked};
-ghost use Rattle.fwupd_jobs.specs.Running.{show_of};
+ghost use Rattle.fwupd_jobs.specs.Running.{IsUnwritten, show_of};
 
 use crate::command_line::{Order, Show};
 use crate::faults::RunFault;
 use crate::files::Files;
 use crate::output::Output;
-use crate::running::{Watch, WatchFault};
+use crate::running::Watch;
 use crate::sessions::undone_fault;
 use crate::updating::{Wires, update_files};
 use fw_edge::Link;
@@ -35,11 +35,12 @@ pub fn update_checked<F: Files, L: Link + Drop, S: Wires<L>, V: Watch, W: Write 
 ) -> Result<(), RunFault>
     ensures ok { OnOk result (ReportsChecked (F.holds files.now) config.now order (show_of show.entry) (V.watched watch.new) output.old output.new) }
     ensures fault { IfErr result (λ e. CheckedEnds (F.holds files.now) config.now order (show_of show.entry) (V.refuses watch.old) (S.lacks wires.old folder.now) e (V.watched watch.new) output.old output.new) }
-    ensures untouched { IfErr result (λ e. e ≡ RunFault.Trace → (watch.new ≡ watch.old) ⊎ ((V.watched watch.new).fault ≡ Some WatchFault.Unwritten)) }
+    ensures untouched { IfErr result (λ e. (watch.new ≡ watch.old) ⊎ IsUnwritten e (V.watched watch.new).fault) }
 {
     let number = order.number;
+    let roughness = order.roughness;
     let undone = match update_files(
-        alloc, files, config, number, folder, show, wires, watch, output,
+        alloc, files, config, number, folder, roughness, show, wires, watch, output,
     ) {
         Ok(undone) => undone,
         Err(fault) => return Err(fault),

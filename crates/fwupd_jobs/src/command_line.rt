@@ -2,10 +2,11 @@
 
 ghost use Rattle.std.specs.Prelude.{◌≡◌, IfOk};
 ghost use Rattle.clap.specs.Words.{found_of};
-ghost use Rattle.fwupd_jobs.specs.Words.{Asks, AsksEndpoint, AsksForm, AsksNumber, AsksOrder, AsksShow, text_under};
+ghost use Rattle.fwupd_jobs.specs.Words.{Asks, AsksEndpoint, AsksForm, AsksNumber, AsksOrder, AsksRoughness, AsksSeed, AsksShow, AsksSmall, text_under};
 
 use clap::error::ErrorKind;
 use clap::{Arg, ArgAction, ArgMatches, Command, value_parser};
+use fw_edge::Roughness;
 use fw_json::Form;
 use mctp_ctl::Endpoint;
 use std::alloc::Global;
@@ -36,6 +37,8 @@ pub struct Order {
     pub number: usize,
     /// Whether each session has to be Done in the end.
     pub is_checked: bool,
+    /// How rough its links are.
+    pub roughness: Roughness,
 }
 
 /// What is shown of a run.
@@ -45,6 +48,8 @@ pub struct Show<'a> {
     pub is_quiet: bool,
     /// The file that each packet is written to as it goes out, if there is one.
     pub trace: Option<&'a str>,
+    /// The file that each step is written to as it is taken, as a schedule, if there is one.
+    pub record: Option<&'a str>,
     /// The form of its report.
     pub form: Form,
 }
@@ -216,23 +221,77 @@ Examples:
   fwupd run examples/one.config .
   fwupd run --check examples/one.config . && echo updated
   fwupd run --quiet --trace out/packets examples/one.config .
+  fwupd run --loss 20 --delay 3 --seed 7 --record out/kept examples/one.config .
 
 CONFIG and the report are those of 'fwupd replay --help'.
 
 If standard error is a terminal, it shows the progress of the first device that loads an image.
 --trace writes a line for each packet: the turn, the device, to-device or to-agent, and the packet
-in hexadecimal digits.
+in hexadecimal digits. --record writes a line for each step, as a schedule: 'fwupd replay CONFIG FILE'
+then prints the same report.
+
+--loss, --duplicate and --delay make the links bad on purpose. A packet that is lost never comes; one
+that comes twice is late each time by chance; and one that is late is held back for 0 to N turns.
 
 Faults: 'package: none' if CONFIG names fewer packages; 'socket: EID' if FOLDER/EID.sock can't be
 made, or is there already; after the report, 'edge: Frame' if a socket failed, 'edge: Step' at the
-end of the clock, and 'trace' if the trace can't be written. If its file can't be made, 'trace', and
-nothing is run. With --check, after the report, 'session EID: WORD' of the first session in
+end of the clock, and 'trace' or 'record' if that file can't be written. If it can't be made, the
+same, and nothing is run. With --check, after the report, 'session EID: WORD' of the first session in
 configured order that isn't Done: the cause of its failure, or where it stands.
 
 Limits: 80000 turns of one tick each. Three images of 1 MiB take about 66000.
 
 Status: 0; 1 if standard error says 'fwupd: ' and a fault, one of these or of 'replay'; 2 for wrong
 usage.";
+
+/// An option of a small number, at most this one, and 0 where it isn't given.
+fn small_option<'a>(
+    alloc: Global,
+    name: &'static str,
+    value: &'static str,
+    most: i64,
+    help: &'static str,
+) -> Arg<'a> {
+    Arg::new(alloc, name)
+        .long(name)
+        .value_name(value)
+        .help(help)
+        .default_value("0")
+        .value_parser(value_parser!(u8).range(0..most + 1))
+}
+
+/// A command with the options that make links rough.
+fn with_roughness<'a>(alloc: Global, command: Command<'a>) -> Result<Command<'a>, clap::Error> {
+    let loss = small_option(
+        alloc,
+        "loss",
+        "P",
+        100,
+        "Loses so many of a hundred packets",
+    );
+    let duplicate = small_option(
+        alloc,
+        "duplicate",
+        "P",
+        100,
+        "Delivers so many of a hundred twice",
+    );
+    let delay = small_option(
+        alloc,
+        "delay",
+        "N",
+        8,
+        "Holds packets back for up to so many turns",
+    );
+    let seed = Arg::new(alloc, "seed")
+        .long("seed")
+        .value_name("N")
+        .help("Which chances these are: a seed gives the same run again")
+        .default_value("0")
+        .value_parser(value_parser!(u64));
+    let command = command.arg(loss)?.arg(duplicate)?.arg(delay)?.arg(seed)?;
+    Ok(command)
+}
 
 /// The subcommand `run`.
 fn run_command<'a>(alloc: Global) -> Result<Command<'a>, clap::Error> {
@@ -252,6 +311,10 @@ fn run_command<'a>(alloc: Global) -> Result<Command<'a>, clap::Error> {
         .long("trace")
         .value_name("FILE")
         .help("Writes each packet to a file as it goes out");
+    let record = Arg::new(alloc, "record")
+        .long("record")
+        .value_name("FILE")
+        .help("Writes each step to a file as it is taken, as a schedule to replay");
     let check = Arg::new(alloc, "check")
         .long("check")
         .help("Fails where a session doesn't end Done")
@@ -268,10 +331,11 @@ fn run_command<'a>(alloc: Global) -> Result<Command<'a>, clap::Error> {
         .arg(check)?
         .arg(quiet)?
         .arg(trace)?
+        .arg(record)?
         .arg(json_option(alloc))?
         .arg(config)?
         .arg(folder)?;
-    Ok(command)
+    with_roughness(alloc, command)
 }
 
 /// What stands below the help of `build`.
@@ -477,7 +541,40 @@ fn show_in<'a>(matches: &ArgMatches<'a>) -> Show<'a>
     Show {
         is_quiet: matches.get_flag("quiet"),
         trace: matches.get_str("trace"),
+        record: matches.get_str("record"),
         form: form_in(matches),
+    }
+}
+
+/// A small number that the words give under a name, and 0 where they give none.
+fn small_under(matches: &ArgMatches<'_>, name: &str) -> u8
+    ensures { AsksSmall (found_of matches.now) name.now result }
+{
+    match matches.get_one::<u8>(name) {
+        Some(number) => number,
+        None => 0,
+    }
+}
+
+/// The seed that the words give.
+fn seed_in(matches: &ArgMatches<'_>) -> u64
+    ensures { AsksSeed (found_of matches.now) result }
+{
+    match matches.get_one::<u64>("seed") {
+        Some(seed) => seed,
+        None => 0,
+    }
+}
+
+/// How rough the words ask links to be.
+fn roughness_in(matches: &ArgMatches<'_>) -> Roughness
+    ensures { AsksRoughness (found_of matches.now) result }
+{
+    Roughness {
+        loss: small_under(matches, "loss"),
+        duplicate: small_under(matches, "duplicate"),
+        delay: small_under(matches, "delay"),
+        seed: seed_in(matches),
     }
 }
 
@@ -488,6 +585,7 @@ fn order_in(matches: &ArgMatches<'_>) -> Order
     Order {
         number: package_number(matches),
         is_checked: matches.get_flag("check"),
+        roughness: roughness_in(matches),
     }
 }
 

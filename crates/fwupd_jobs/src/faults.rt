@@ -38,6 +38,9 @@ pub enum RunFault {
     /// What is traced of a run can't be written.
     #[error("trace")]
     Trace,
+    /// The steps of a run can't be recorded.
+    #[error("record")]
+    Record,
     /// A run over links ended early.
     #[error("edge: {0}")]
     Edge(EdgeFault),

@@ -120,7 +120,7 @@ impl<'a> Files for SystemFiles<'a> {
 }
 
 /// Whether two paths are of one file: they are spelled alike, or both name the same.
-fn is_same_file<F: Files>(files: &F, one: &str, other: &str) -> bool
+pub fn is_same_file<F: Files>(files: &F, one: &str, other: &str) -> bool
     ensures same { result ≡ true → IsOver (F.holds files.now) other.now one.now }
     ensures apart { result ≡ false → IsApartFrom (F.holds files.now) other.now one.now }
 {

@@ -1,7 +1,8 @@
 //! A job: what the words of a command line ask for, over any files, reader, links, onlooker and output.
 
-ghost use Rattle.std.specs.Prelude.{◌≡◌, ◌⊎◌, IfErr, OnOk, Some};
+ghost use Rattle.std.specs.Prelude.{◌≡◌, ◌⊎◌, IfErr, OnOk};
 ghost use Rattle.fwupd_jobs.specs.Jobs.{IsDone, JobEnds};
+ghost use Rattle.fwupd_jobs.specs.Running.{IsUnwritten};
 
 use crate::building::build_file;
 use crate::checking::update_checked;
@@ -13,7 +14,7 @@ use crate::output::Output;
 use crate::places::Places;
 use crate::planning::plan_file;
 use crate::replaying::replay_files;
-use crate::running::{Watch, WatchFault};
+use crate::running::Watch;
 use crate::updating::Wires;
 use fw_edge::Link;
 use std::alloc::Global;
@@ -44,7 +45,7 @@ pub fn perform_job<
 ) -> Result<(), RunFault>
     ensures ok { OnOk result (IsDone job.now (F.holds files.now) (R.remaining reader.old) (R.remaining reader.new) (V.watched watch.new) (P.is_known places.old) (P.held places.new) output.old output.new) }
     ensures fault { IfErr result (λ e. JobEnds job.now (F.holds files.now) (V.refuses watch.old) (S.lacks wires.old) (R.remaining reader.old) (R.remaining reader.new) e (V.watched watch.new) output.old output.new) }
-    ensures untouched { IfErr result (λ e. e ≡ RunFault.Trace → (watch.new ≡ watch.old) ⊎ ((V.watched watch.new).fault ≡ Some WatchFault.Unwritten)) }
+    ensures untouched { IfErr result (λ e. (watch.new ≡ watch.old) ⊎ IsUnwritten e (V.watched watch.new).fault) }
 {
     match job {
         Job::Answer(endpoint) => output.answer(alloc, reader, endpoint),

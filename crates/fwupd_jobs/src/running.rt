@@ -1,14 +1,16 @@
 //! Updating devices over links.
 
-ghost use Rattle.std.specs.Prelude.{◌≡◌, ◌-◌, ◌^◌, ◌⊎◌, Bool, Err, IfErr, IfSome, List, None, OnOk, Some, length, map, true, ℕ};
+ghost use Rattle.std.specs.Prelude.{[], ◌≡◌, ◌≢◌, ◌-◌, ◌^◌, ◌⊎◌, Bool, Err, IfErr, IfSome, List, None, OnOk, Some, length, map, true, ℕ};
 ghost use Rattle.fw_edge.specs.Ledgers.{AllSent, packet_counts};
 ghost use Rattle.fw_edge.specs.Links.{Rises};
-ghost use Rattle.fwupd_jobs.specs.Running.{AreToldOf, IsCaused, IsRefusedStart, IsUpdated, MayEnd, MayRefuse, Starts, StepsLead, StepsSeen, Updates, show_of, shown_of, told_by, told_of};
+ghost use Rattle.fwupd_jobs.specs.Recordings.{Closes, IsNew, IsRecorded, Notes, NotesRun};
+ghost use Rattle.fwupd_jobs.specs.Running.{AreToldOf, IsCaused, IsRefusedStart, IsUnwritten, IsUpdated, MayEnd, MayRefuse, Starts, StepsLead, StepsSeen, Updates, show_of, shown_of, starts_of, told_by, told_of, watch_of};
 
 use crate::command_line::Show;
 use crate::faults::{RunFault, edge_fault};
 use fd_core::MemBank;
 use fw_edge::{EdgeFault, Link, drive};
+use fw_script::schedules_read_back;
 use fw_world::{Step, StepFault, World};
 use std::alloc::Global;
 
@@ -20,6 +22,8 @@ const TURNS: u32 = 80_000;
 pub enum WatchFault {
     /// What it tells can't be written.
     Unwritten,
+    /// The steps that it records can't be written.
+    Unrecorded,
     /// Memory was refused.
     Memory,
 }
@@ -36,12 +40,27 @@ pub trait Watch {
     /// Begins to show what is asked for.
     ///
     /// # Errors
-    /// The file that the packets are to be written to is refused, or `Memory`. It is known before which files may be refused.
+    /// A file that the packets or the steps are to be written to is refused, or `Memory`. It is known before which files may be
+    /// refused.
     fn begin(&mut self, show: Show<'_>) -> Result<(), WatchFault>
         ensures shows { OnOk result ((watched self.new).shows ≡ shown_of (show_of show.entry)) }
         ensures anew { OnOk result (((watched self.new).seen ≡ 0) × ((watched self.new).lost ≡ None)) }
+        ensures recording { OnOk result (IfSome (watched self.new).recording IsNew) }
         ensures err { IfErr result (λ e. (watched self.new).fault ≡ Some e) }
-        ensures refused { IfErr result (λ e. e ≡ WatchFault.Unwritten → MayRefuse (refuses self.old) (show_of show.entry)) };
+        ensures refused { IfErr result (λ e. e ≢ WatchFault.Memory → MayRefuse (refuses self.old) (show_of show.entry) (told_by e)) };
+
+    /// Notes the steps that were taken, where they are recorded.
+    ///
+    /// # Errors
+    /// The fault that it had; else that they can't be written, or said by a schedule, or that memory is refused.
+    fn note(&mut self, steps: &[Step]) -> Result<(), WatchFault>
+        ensures ok { OnOk result ((watched self.new).fault ≡ None) }
+        ensures err { IfErr result (λ e. (watched self.new).fault ≡ Some e) }
+        ensures first { IfSome (watched self.old).fault (λ f. result ≡ Err f) }
+        ensures noted { OnOk result (Notes (watched self.old).recording (watched self.new).recording steps.now) }
+        ensures same { (watched self.new).shows ≡ (watched self.old).shows }
+        ensures seen { (watched self.new).seen ≡ (watched self.old).seen }
+        ensures lost { (watched self.new).lost ≡ (watched self.old).lost };
 
     /// Sees what a turn left.
     ///
@@ -53,7 +72,8 @@ pub trait Watch {
         ensures first { IfSome (watched self.old).fault (λ f. result ≡ Err f) }
         ensures same { (watched self.new).shows ≡ (watched self.old).shows }
         ensures seen { Rises (watched self.old).seen (watched self.new).seen }
-        ensures lost { (watched self.new).lost ≡ (watched self.old).lost };
+        ensures lost { (watched self.new).lost ≡ (watched self.old).lost }
+        ensures recording { (watched self.new).recording ≡ (watched self.old).recording };
 
     /// Is told that the link of this device failed.
     fn lose(&mut self, device: u8)
@@ -61,6 +81,7 @@ pub trait Watch {
         ensures fault { (watched self.new).fault ≡ (watched self.old).fault }
         ensures same { (watched self.new).shows ≡ (watched self.old).shows }
         ensures seen { (watched self.new).seen ≡ (watched self.old).seen }
+        ensures recording { (watched self.new).recording ≡ (watched self.old).recording }
         ensures ended { (watched self.new).has_ended ≡ (watched self.old).has_ended };
 
     /// The run has ended.
@@ -74,6 +95,7 @@ pub trait Watch {
         ensures same { (watched self.new).shows ≡ (watched self.old).shows }
         ensures seen { (watched self.new).seen ≡ (watched self.old).seen }
         ensures lost { (watched self.new).lost ≡ (watched self.old).lost }
+        ensures closed { OnOk result (Closes (watched self.old).recording (watched self.new).recording) }
         ensures ended { (watched self.new).has_ended ≡ true };
 }
 
@@ -84,48 +106,81 @@ pub fn watch_fault(fault: WatchFault) -> RunFault
 {
     match fault {
         WatchFault::Unwritten => RunFault::Trace,
+        WatchFault::Unrecorded => RunFault::Record,
         WatchFault::Memory => RunFault::Memory,
     }
 }
 
-/// Starts the update of each device with the package of this number.
-fn start_all(world: &mut World<'_, MemBank>, number: usize) -> Result<(), RunFault>
+/// Starts the update of each device with the package of this number, and lists the steps.
+fn start_all(
+    world: &mut World<'_, MemBank>,
+    number: usize,
+    steps: &mut Vec<Step>,
+) -> Result<(), RunFault>
+    requires none { steps.old.items ≡ [] }
     ensures started { OnOk result (Starts number world.old world.new) }
+    ensures listed { OnOk result (steps.new.items ≡ starts_of number world.old.sites) }
     ensures same { world.new.sites ≡ world.old.sites }
     ensures reached { StepsLead number world.old world.new }
     ensures unseen_steps { StepsSeen number world.old world.new 0 }
     ensures fault { IfErr result MayEnd }
     ensures refused { IfErr result (λ e. e ≡ RunFault.Edge EdgeFault.Step → IsRefusedStart number world.old world.new) }
     ensures none { IfErr result (λ e. e ≡ RunFault.Edge EdgeFault.Frame → ⊥) }
-    ensures unseen { IfErr result (λ e. e ≡ RunFault.Trace → ⊥) }
+    ensures unseen { IfErr result (λ e. watch_of e ≡ None) }
 {
     for place in 0..world.device_count() {
         let Some(node) = world.device_at(place) else {
             unreachable!()
         };
         let start = Step::Start(node.eid(), number);
+        let Ok(()) = steps.reserve(1) else {
+            return Err(RunFault::Memory);
+        };
         match world.step(&start) {
             Ok(()) => {}
             Err(StepFault::Memory) => return Err(RunFault::Memory),
             Err(_) => return Err(RunFault::Edge(EdgeFault::Step)),
         }
+        let _ = steps.push(start);
     }
     Ok(())
 }
 
-/// The run's fault when a turn fails. The onlooker still sees that turn; a fault of its own isn't told then.
-fn broken_off<V: Watch>(world: &World<'_, MemBank>, watch: &mut V, fault: EdgeFault) -> RunFault
+/// What looks on notes the steps of a turn, and sees what it left.
+fn see_turn<V: Watch>(
+    world: &World<'_, MemBank>,
+    watch: &mut V,
+    steps: &[Step],
+) -> Result<(), WatchFault>
+    ensures ok { OnOk result ((V.watched watch.new).fault ≡ None) }
+    ensures err { IfErr result (λ e. (V.watched watch.new).fault ≡ Some e) }
+    ensures noted { OnOk result (Notes (V.watched watch.old).recording (V.watched watch.new).recording steps.now) }
+    ensures same { (V.watched watch.new).shows ≡ (V.watched watch.old).shows }
+    ensures seen { Rises (V.watched watch.old).seen (V.watched watch.new).seen }
+    ensures lost { (V.watched watch.new).lost ≡ (V.watched watch.old).lost }
+{
+    let _ = watch.note(steps);
+    watch.see(world)
+}
+
+/// The run's fault when a turn fails. The onlooker still notes its steps, and sees it; a fault of its own isn't told then.
+fn broken_off<V: Watch>(
+    world: &World<'_, MemBank>,
+    watch: &mut V,
+    steps: &[Step],
+    fault: EdgeFault,
+) -> RunFault
     ensures told { result ≡ told_of fault }
     ensures same { (V.watched watch.new).shows ≡ (V.watched watch.old).shows }
     ensures seen { Rises (V.watched watch.old).seen (V.watched watch.new).seen }
     ensures lost { (V.watched watch.new).lost ≡ (V.watched watch.old).lost }
 {
-    let _ = watch.see(world);
+    let _ = see_turn(world, watch, steps);
     edge_fault(fault)
 }
 
 /// Updates each device of a new world with the package of this number over its link, turn by turn, until each session is Done or Failed, and at
-/// most for 80,000 turns. Each turn is seen by what looks on, the one too in which a link fails.
+/// most for 80,000 turns. What looks on notes each step, and sees each turn, the one too in which a link fails.
 ///
 /// # Errors
 /// `Edge` where a link failed, a start is refused or the clock stands at its end, `Memory` where memory was refused, and what ends
@@ -146,26 +201,35 @@ pub fn update_all<L: Link, V: Watch>(
     ensures step { IfErr result (λ e. e ≡ RunFault.Edge EdgeFault.Step → IsRefusedStart number world.old world.new ⊎ (world.new.now ≡ 2 ^ 32 - 1)) }
     ensures sent { OnOk result (AllSent (packet_counts world.old.sites) (packet_counts world.new.sites) (map (λ l. (L.tally l).sent) links.old) (map (λ l. (L.tally l).sent) links.new)) }
     ensures devices { length links.new ≡ length world.new.sites }
-    ensures unwritten { IfErr result (λ e. e ≡ RunFault.Trace → (V.watched watch.new).fault ≡ Some WatchFault.Unwritten) }
+    ensures unwritten { IfErr result (λ e. IsUnwritten e (V.watched watch.new).fault) }
+    ensures noted { OnOk result (NotesRun world.old world.new (V.watched watch.old).recording (V.watched watch.new).recording) }
     ensures same { (V.watched watch.new).shows ≡ (V.watched watch.old).shows }
     ensures turns { OnOk result ((V.watched watch.old).seen ≡ 0 → Updates number world.old world.new (V.watched watch.new).seen) }
     ensures sees { (V.watched watch.old).seen ≡ 0 → StepsSeen number world.old world.new (V.watched watch.new).seen }
     ensures lost { (V.watched watch.new).lost ≡ (V.watched watch.old).lost }
 {
-    match start_all(world, number) {
+    let mut steps = Vec::new(alloc);
+    schedules_read_back();
+    let started = start_all(world, number, &mut steps);
+    let noted = watch.note(steps.as_slice());
+    match started {
         Ok(()) => {}
         Err(fault) => return Err(fault),
     }
-    let mut steps = Vec::new(alloc);
+    match noted {
+        Ok(()) => {}
+        Err(fault) => return Err(watch_fault(fault)),
+    }
+    steps.clear();
     for _ in 0..TURNS {
         let driven = match drive(world, links, 1, &mut steps) {
             Ok(driven) => driven,
-            Err(fault) => return Err(broken_off(world, watch, fault)),
+            Err(fault) => return Err(broken_off(world, watch, steps.as_slice(), fault)),
         };
         if driven.turns == 0 {
             return Ok(());
         }
-        match watch.see(world) {
+        match see_turn(world, watch, steps.as_slice()) {
             Ok(()) => {}
             Err(fault) => return Err(watch_fault(fault)),
         }
@@ -189,6 +253,7 @@ pub fn update_watched<L: Link, V: Watch>(
     ensures updated { OnOk result (IsUpdated number world.old world.new) }
     ensures reached { StepsLead number world.old world.new }
     ensures seen { OnOk result ((V.watched watch.new).fault ≡ None) }
+    ensures recorded { OnOk result (IfSome (V.watched watch.old).recording IsNew → IfSome (V.watched watch.new).recording (IsRecorded world.old world.new)) }
     ensures ended { (V.watched watch.new).has_ended ≡ true }
     ensures devices { length links.new ≡ length world.new.sites }
     ensures same { (V.watched watch.new).shows ≡ (V.watched watch.old).shows }
@@ -200,6 +265,7 @@ pub fn update_watched<L: Link, V: Watch>(
     ensures failed { IfErr result (λ e. AreToldOf e (map (λ l. (L.tally l).failures) links.old) (map (λ l. (L.tally l).failures) links.new)) }
     ensures sent { OnOk result (AllSent (packet_counts world.old.sites) (packet_counts world.new.sites) (map (λ l. (L.tally l).sent) links.old) (map (λ l. (L.tally l).sent) links.new)) }
 {
+    schedules_read_back();
     let end = update_all(alloc, world, number, links, watch);
     let watched = watch.end();
     match end {

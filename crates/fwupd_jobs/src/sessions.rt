@@ -1,6 +1,7 @@
 //! Which session of a world isn't Done.
 
-ghost use Rattle.std.specs.Prelude.{◌≡◌, ◌≢◌};
+ghost use Rattle.std.specs.Prelude.{◌≡◌, None};
+ghost use Rattle.fwupd_jobs.specs.Running.{watch_of};
 ghost use Rattle.fwupd_jobs.specs.Sessions.{TellsUndone, is_done, undone_in, undone_word};
 
 use crate::faults::RunFault;
@@ -56,7 +57,7 @@ fn undone_word(state: Option<SessionState>) -> &'static str
 /// What is told of a session that isn't Done.
 pub fn undone_fault(undone: Undone) -> RunFault
     ensures tells { TellsUndone undone result }
-    ensures other { result ≢ RunFault.Trace }
+    ensures other { watch_of result ≡ None }
 {
     RunFault::Session(undone.eid, undone_word(undone.state))
 }

@@ -1,22 +1,23 @@
 //! Updating the devices of a configuration.
 
-ghost use Rattle.std.specs.Prelude.{◌≡◌, ◌∷◌, ◌⊎◌, Bool, IfErr, IfOk, IfSome, List, None, OnOk, Some, length, map, string_bytes, true, ℕ};
+ghost use Rattle.std.specs.Prelude.{◌≡◌, ◌∷◌, ◌⊎◌, Bool, false, IfErr, IfOk, IfSome, List, None, OnOk, length, map, option_map, string_bytes, true, ℕ};
 ghost use Rattle.std.specs.List.{AllByRecursion};
 ghost use Rattle.fw_json.specs.Forms.{report_in};
 ghost use Rattle.fwupd_jobs.specs.Outputs.{FailsToPrint, Prints};
 ghost use Rattle.fwupd_jobs.specs.Sessions.{undone_in};
-ghost use Rattle.fwupd_jobs.specs.Running.{AreLinked, AreToldOf, DrivingEnds, IsApart, IsBarred, IsCaused, IsLost, IsUnlinked, IsUpdated, NamesLost, ReportsUpdate, StepsLead, StepsSeen, UpdateEnds, Updates, show_of, shown_of};
+ghost use Rattle.fwupd_jobs.specs.Recordings.{IsNew, IsRecorded};
+ghost use Rattle.fwupd_jobs.specs.Running.{AreLinked, AreToldOf, DrivingEnds, IsApart, IsApartFromUsed, IsBarred, IsCaused, IsLost, IsOverUsed, IsUnlinked, IsUnwritten, IsUpdated, NamesLost, ReportsUpdate, StepsLead, StepsSeen, UpdateEnds, Updates, show_of, shown_of};
 
 use crate::command_line::Show;
 use crate::faults::RunFault;
-use crate::files::{Files, is_read};
+use crate::files::{Files, is_read, is_same_file};
 use crate::numbering::is_numbered;
 use crate::output::Output;
 use crate::running::{Watch, WatchFault, update_watched, watch_fault};
 use crate::sessions::{Undone, first_undone};
 use crate::setups::{configuration, package_files, packages_in};
 use fd_core::MemBank;
-use fw_edge::{EdgeFault, Link};
+use fw_edge::{EdgeFault, Link, Rough, Roughness};
 use fw_json::{Form, report_in};
 use fw_script::Config;
 use fw_setup::opening_world;
@@ -44,15 +45,17 @@ pub trait Wires<L> {
         ensures fault { IfErr result (λ e. (e ≡ RunFault.Memory) ⊎ ((e ≡ RunFault.Socket device) × (lacks self.old folder.now device ≡ true))) };
 }
 
-/// Opens a link to each device of a world, in configured order.
+/// Opens a link to each device of a world, in configured order, each as rough as asked for, by chances of its own.
 fn open_all<L: Link + Drop, S: Wires<L>>(
     alloc: Global,
     world: &World<'_, MemBank>,
     folder: &str,
+    roughness: Roughness,
     wires: &mut S,
-) -> Result<Vec<L>, RunFault>
+) -> Result<Vec<Rough<L>>, RunFault>
     ensures links { IfOk result (λ links. length links.items ≡ length world.now.sites) }
-    ensures each { IfOk result (λ links. AreLinked (λ unit. S.is_to unit folder.now) world.now.sites links.items) }
+    ensures each { IfOk result (λ links. AreLinked (λ unit device link. S.is_to unit folder.now device link.link) world.now.sites links.items) }
+    ensures rough { IfOk result (λ links. AllByRecursion (λ link. link.roughness ≡ roughness) links.items) }
     ensures fault { IfErr result (λ e. (e ≡ RunFault.Memory) ⊎ IsUnlinked world.now (S.lacks wires.old folder.now) e) }
 {
     let mut links = Vec::new(alloc);
@@ -64,7 +67,8 @@ fn open_all<L: Link + Drop, S: Wires<L>>(
             Ok(link) => link,
             Err(fault) => return Err(fault),
         };
-        let Ok(()) = links.push(link) else {
+        let stream = u64::from(node.eid());
+        let Ok(()) = links.push(Rough::new(alloc, link, roughness, stream)) else {
             return Err(RunFault::Memory);
         };
     }
@@ -90,7 +94,30 @@ fn write_report<W: Write + Drop>(
     }
 }
 
-/// Lets what looks on begin, where what it shows isn't written over a file that was read.
+/// Whether a file that is to be written, if one is, is one of those that a run reads, or another that it writes.
+fn is_over<F: Files>(
+    files: &F,
+    path: Option<&str>,
+    other: Option<&str>,
+    config: &str,
+    packages: &[String],
+) -> bool
+    ensures over { result ≡ true → IsOverUsed (F.holds files.now) (option_map (λ p. p.now) path.entry) (option_map (λ p. p.now) other.entry) (config.now ∷ map (λ p. string_bytes p) packages.now) }
+    ensures apart { result ≡ false → IsApartFromUsed (F.holds files.now) (option_map (λ p. p.now) path.entry) (option_map (λ p. p.now) other.entry) (config.now ∷ map (λ p. string_bytes p) packages.now) }
+{
+    let Some(path) = path else {
+        return false;
+    };
+    if is_read(files, path, config, packages) {
+        return true;
+    }
+    match other {
+        Some(other) => is_same_file(files, other, path),
+        None => false,
+    }
+}
+
+/// Lets what looks on begin, where what it shows isn't written over a file that was read, nor the steps over the packets.
 fn begin_apart<F: Files, V: Watch>(
     files: &F,
     config: &str,
@@ -100,15 +127,17 @@ fn begin_apart<F: Files, V: Watch>(
 ) -> Result<(), RunFault>
     ensures shows { OnOk result ((V.watched watch.new).shows ≡ shown_of (show_of show.entry)) }
     ensures anew { OnOk result (((V.watched watch.new).seen ≡ 0) × ((V.watched watch.new).lost ≡ None)) }
+    ensures recording { OnOk result (IfSome (V.watched watch.new).recording IsNew) }
     ensures apart { OnOk result (IsApart (F.holds files.now) (show_of show.entry) (config.now ∷ map (λ p. string_bytes p) packages.now)) }
-    ensures untouched { IfErr result (λ e. e ≡ RunFault.Trace → (watch.new ≡ watch.old) ⊎ ((V.watched watch.new).fault ≡ Some WatchFault.Unwritten)) }
+    ensures untouched { IfErr result (λ e. (watch.new ≡ watch.old) ⊎ IsUnwritten e (V.watched watch.new).fault) }
     ensures fault { IfErr result (λ e. (e ≡ RunFault.Memory)
-        ⊎ ((e ≡ RunFault.Trace) × IsBarred (F.holds files.now) (V.refuses watch.old) (show_of show.entry) (config.now ∷ map (λ p. string_bytes p) packages.now) (V.watched watch.new))) }
+        ⊎ IsBarred (F.holds files.now) (V.refuses watch.old) (show_of show.entry) (config.now ∷ map (λ p. string_bytes p) packages.now) e (V.watched watch.new)) }
 {
-    if let Some(path) = show.trace {
-        if is_read(files, path, config, packages) {
-            return Err(RunFault::Trace);
-        }
+    if is_over(files, show.trace, None, config, packages) {
+        return Err(RunFault::Trace);
+    }
+    if is_over(files, show.record, show.trace, config, packages) {
+        return Err(RunFault::Record);
     }
     match watch.begin(show) {
         Ok(()) => Ok(()),
@@ -161,6 +190,7 @@ fn update_told<L: Link, V: Watch>(
     ensures updated { OnOk result (IsUpdated number world.old world.new) }
     ensures reached { StepsLead number world.old world.new }
     ensures seen { OnOk result ((V.watched watch.new).fault ≡ None) }
+    ensures recorded { OnOk result (IfSome (V.watched watch.old).recording IsNew → IfSome (V.watched watch.new).recording (IsRecorded world.old world.new)) }
     ensures ended { (V.watched watch.new).has_ended ≡ true }
     ensures same { (V.watched watch.new).shows ≡ (V.watched watch.old).shows }
     ensures turns { OnOk result ((V.watched watch.old).seen ≡ 0 → Updates number world.old world.new (V.watched watch.new).seen) }
@@ -187,6 +217,7 @@ fn update_over<L: Link + Drop, S: Wires<L>, V: Watch, W: Write + Drop>(
     world: &mut World<'_, MemBank>,
     number: usize,
     folder: &str,
+    roughness: Roughness,
     form: Form,
     wires: &mut S,
     watch: &mut V,
@@ -194,11 +225,12 @@ fn update_over<L: Link + Drop, S: Wires<L>, V: Watch, W: Write + Drop>(
 ) -> Result<Option<Undone>, RunFault>
     ensures updated { OnOk result (IsUpdated number world.old world.new) }
     ensures seen { OnOk result ((V.watched watch.new).fault ≡ None) }
+    ensures recorded { OnOk result (IfSome (V.watched watch.old).recording IsNew → IfSome (V.watched watch.new).recording (IsRecorded world.old world.new)) }
     ensures let_end { OnOk result ((V.watched watch.new).has_ended ≡ true) }
     ensures turns { OnOk result ((V.watched watch.old).seen ≡ 0 → Updates number world.old world.new (V.watched watch.new).seen) }
     ensures lost { IfErr result (λ e. e ≡ RunFault.Edge EdgeFault.Frame → NamesLost world.new (V.watched watch.new).lost) }
     ensures none_lost { OnOk result ((V.watched watch.new).lost ≡ (V.watched watch.old).lost) }
-    ensures unwritten { IfErr result (λ e. e ≡ RunFault.Trace → (V.watched watch.new).fault ≡ Some WatchFault.Unwritten) }
+    ensures unwritten { IfErr result (λ e. IsUnwritten e (V.watched watch.new).fault) }
     ensures same { (V.watched watch.new).shows ≡ (V.watched watch.old).shows }
     ensures written { OnOk result (Prints output.old output.new (report_in form world.new)) }
     ensures undone { IfOk result (λ u. u ≡ undone_in world.new) }
@@ -206,7 +238,7 @@ fn update_over<L: Link + Drop, S: Wires<L>, V: Watch, W: Write + Drop>(
     ensures sees { (V.watched watch.old).seen ≡ 0 → StepsSeen number world.old world.new (V.watched watch.new).seen }
     ensures fault { IfErr result (λ e. DrivingEnds number form (S.lacks wires.old folder.now) world.old world.new e (V.watched watch.new) output.old output.new) }
 {
-    let mut links = match open_all(alloc, world, folder, wires) {
+    let mut links = match open_all(alloc, world, folder, roughness, wires) {
         Ok(links) => links,
         Err(fault) => return Err(fault),
     };
@@ -227,13 +259,13 @@ fn update_over<L: Link + Drop, S: Wires<L>, V: Watch, W: Write + Drop>(
     }
 }
 
-/// Updates the devices of the configuration in a file with its package of this number, from 1 on, each over a link of its own, and writes the report
-/// of what that leaves. It gives the first session in configured order that isn't Done then.
+/// Updates the devices of the configuration in a file with its package of this number, from 1 on, each over a link of its own, as rough
+/// as asked for, and writes the report of what that leaves. It gives the first session in configured order that isn't Done then.
 ///
 /// # Errors
 /// The first fault, in this order: of the configuration's file; `NoPackage` where it names no package of this number; of the packages that it
-/// names, one after the other; `Trace` where what looks on can't begin, or would write over one of these files; `Socket` where a link isn't opened. `Edge` where a link
-/// failed or the clock stands at its end, and `Trace` where what looks on can't write: the report is then of the world that was
+/// names, one after the other; `Trace` or `Record` where what looks on can't begin, or would write over one of these files; `Socket` where a link isn't opened. `Edge` where a link
+/// failed or the clock stands at its end, and `Trace` or `Record` where what looks on can't write: the report is then of the world that was
 /// reached. `Output` where the report isn't written whole: a beginning of it may be. `Memory` where memory is refused: nothing is
 /// written then.
 pub fn update_files<F: Files, L: Link + Drop, S: Wires<L>, V: Watch, W: Write + Drop>(
@@ -242,6 +274,7 @@ pub fn update_files<F: Files, L: Link + Drop, S: Wires<L>, V: Watch, W: Write + 
     config: &str,
     number: usize,
     folder: &str,
+    roughness: Roughness,
     show: Show<'_>,
     wires: &mut S,
     watch: &mut V,
@@ -249,7 +282,7 @@ pub fn update_files<F: Files, L: Link + Drop, S: Wires<L>, V: Watch, W: Write + 
 ) -> Result<Option<Undone>, RunFault>
     ensures ok { IfOk result (λ undone. ReportsUpdate (F.holds files.now) config.now number (show_of show.entry) (V.watched watch.new) output.old output.new undone) }
     ensures fault { IfErr result (λ e. UpdateEnds (F.holds files.now) config.now number (show_of show.entry) (V.refuses watch.old) (S.lacks wires.old folder.now) e (V.watched watch.new) output.old output.new) }
-    ensures untouched { IfErr result (λ e. e ≡ RunFault.Trace → (watch.new ≡ watch.old) ⊎ ((V.watched watch.new).fault ≡ Some WatchFault.Unwritten)) }
+    ensures untouched { IfErr result (λ e. (watch.new ≡ watch.old) ⊎ IsUnwritten e (V.watched watch.new).fault) }
 {
     let Config {
         agent,
@@ -280,7 +313,7 @@ pub fn update_files<F: Files, L: Link + Drop, S: Wires<L>, V: Watch, W: Write + 
         Err(fault) => return Err(fault),
     }
     match update_over(
-        alloc, &mut world, number, folder, show.form, wires, watch, output,
+        alloc, &mut world, number, folder, roughness, show.form, wires, watch, output,
     ) {
         Ok(undone) => Ok(undone),
         Err(fault) => Err(fault),

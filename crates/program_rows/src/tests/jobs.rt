@@ -4,9 +4,9 @@ ghost use Rattle.std.specs.Prelude.{◌≡◌, Err, IfErr, IfSome, None, OnOk, S
 ghost use Rattle.fwupd_jobs.specs.Setups.{any_file};
 
 use fd_core::MemBank;
-use fw_edge::{Link, MemLink, StreamLink};
+use fw_edge::{Link, MemLink, Roughness, StreamLink};
 use fw_json::Form;
-use fw_world::World;
+use fw_world::{Step, World};
 use fwupd_jobs::{
     FileFault, FileIdentity, Files, Order, Output, RunFault, Show, Watch, WatchFault, Wires,
     plan_file, update_checked,
@@ -127,6 +127,7 @@ impl Wires<StreamLink<UnixStream>> for CutWires {
 struct Counter {
     is_quiet: bool,
     is_traced: bool,
+    is_recorded: bool,
     turns: usize,
     broken: usize,
     fault: Option<WatchFault>,
@@ -149,7 +150,7 @@ impl Counter {
 }
 
 impl Watch for Counter {
-    ghost watched = { λ c. record { fault = c.fault; shows = record { is_quiet = c.is_quiet; is_traced = c.is_traced }; has_ended = c.has_ended; seen = c.turns; lost = c.lost } };
+    ghost watched = { λ c. record { fault = c.fault; shows = record { is_quiet = c.is_quiet; is_traced = c.is_traced; is_recorded = c.is_recorded }; has_ended = c.has_ended; seen = c.turns; lost = c.lost; recording = None } };
 
     ghost refuses = { λ c path. true };
 
@@ -161,10 +162,15 @@ impl Watch for Counter {
             }
         }
         self.is_traced = show.trace.is_some();
+        self.is_recorded = show.record.is_some();
         self.is_quiet = show.is_quiet;
         self.turns = 0;
         self.lost = None;
         Ok(())
+    }
+
+    fn note(&mut self, _steps: &[Step]) -> Result<(), WatchFault> {
+        self.outcome()
     }
 
     fn see(&mut self, _world: &World<'_, MemBank>) -> Result<(), WatchFault> {
@@ -215,6 +221,7 @@ fn updated<'a, L: Link + Drop, S: Wires<L>>(
     let mut watch = Counter {
         is_quiet: false,
         is_traced: false,
+        is_recorded: false,
         turns: 0,
         broken,
         fault: None,
@@ -232,11 +239,13 @@ fn updated<'a, L: Link + Drop, S: Wires<L>>(
         Order {
             number: 1,
             is_checked: true,
+            roughness: Roughness::none(),
         },
         "f",
         Show {
             is_quiet: true,
             trace,
+            record: None,
             form: Form::Text,
         },
         wires,

@@ -1,6 +1,11 @@
+use Rattle.std.proofs.Common.{◌≡◌, take}
+use Rattle.fwupd_jobs.specs.Running.{starts_of}
 use Rattle.fwupd_jobs.proofs.Started.{Begun}
 use Rattle.fwupd_jobs.proofs.running.start_all.Given as goal
 
--- so many updates are started
+-- so many updates are started, and listed
 abbrev pub invariant-loop-place : goal.invariant-loop-place
-invariant-loop-place l = Begun l.number l.fn.world l.place l.world
+invariant-loop-place l = record {
+  begun : Begun l.number l.fn.world l.place l.world;
+  listed : l.steps.items ≡ starts_of l.number (take l.place l.fn.world.sites);
+}

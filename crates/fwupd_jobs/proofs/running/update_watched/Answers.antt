@@ -1,19 +1,19 @@
 use Rattle.std.proofs.Common.{subst, sym, ◌∙◌}
 use Rattle.fwupd_jobs.specs.Running.{StepsSeen}
 use Rattle.fw_edge.specs.declared.driving.EdgeFault.TheVariants as edges
-use Rattle.fwupd_jobs.specs.declared.running.WatchFault.TheVariants as watches
-use Rattle.fwupd_jobs.proofs.Started.{first_still, unwritten_by, update_caused, watched_apart}
+use Rattle.fwupd_jobs.proofs.Noted.{recorded_whole}
+use Rattle.fwupd_jobs.proofs.Started.{unwritten_by, unwritten_still, update_caused, watched_apart}
 use Rattle.fwupd_jobs.proofs.running.update_watched.Goals as goal
 
 pub returns-in-Err-clause-fault : goal.returns-in-Err-clause-fault
 returns-in-Err-clause-fault g c =
     update_caused c.args.number _ _ _ _ c.in-Err.ensures.fault c.in-Err.ensures.step
-    (λ e. first_still c.end-watched.result _ _ watches.Unwritten (c.in-Err.ensures.unwritten e) c.end-watched.ensures.first c.end-watched.ensures.err) c.end-watched.ensures.ended
+    (unwritten_still c.end-watched.result _ _ c.in-Err.fault c.in-Err.ensures.unwritten c.end-watched.ensures.first c.end-watched.ensures.err) c.end-watched.ensures.ended
 
 pub returns-in-Err-watched-clause-fault : goal.returns-in-Err-watched-clause-fault
 returns-in-Err-watched-clause-fault g c =
     update_caused c.args.number _ _ _ _ c.watch_fault.ensures.ends (λ e. absurd (watched_apart c.in-Err-watched.fault edges.Step (sym c.watch_fault.ensures.told ∙ e)))
-    (λ e. unwritten_by c.in-Err-watched.fault _ (sym c.watch_fault.ensures.told ∙ e) c.in-Err-watched.ensures.err) c.end-watched.ensures.ended
+    (unwritten_by c.in-Err-watched.fault _ _ c.watch_fault.ensures.told c.in-Err-watched.ensures.err) c.end-watched.ensures.ended
 
 pub returns-in-Err-clause-sees : goal.returns-in-Err-clause-sees
 returns-in-Err-clause-sees g c none = subst (StepsSeen c.args.number c.args.world.now c.update_all-end.new.world) (sym c.end-watched.ensures.seen) (c.update_all-end.ensures.sees none)
@@ -23,3 +23,8 @@ returns-in-Err-watched-clause-sees g c none = subst (StepsSeen c.args.number c.a
 
 pub returns-in-Ok-watched-clause-sees : goal.returns-in-Ok-watched-clause-sees
 returns-in-Ok-watched-clause-sees g c none = subst (StepsSeen c.args.number c.args.world.now c.update_all-end.new.world) (sym c.end-watched.ensures.seen) (c.update_all-end.ensures.sees none)
+
+pub returns-in-Ok-watched-clause-recorded : goal.returns-in-Ok-watched-clause-recorded
+returns-in-Ok-watched-clause-recorded g c new =
+    recorded_whole c.schedules_read_back.ensures.read c.args.world.now c.update_all-end.new.world (g.V.Watch.watched c.args.watch.now).recording (g.V.Watch.watched c.update_all-end.new.watch).recording
+    (g.V.Watch.watched c.end-watched.new.self).recording c.in-Ok.ensures.noted c.in-Ok-watched.ensures.closed new

@@ -35,6 +35,7 @@ returns-in-Ok-update_over-clause-ok g c = record {
   seen = c.in-Ok-update_over.ensures.seen;
   turns = c.in-Ok-update_over.ensures.turns c.in-Ok-begin_apart.ensures.anew.0;
   none_lost = c.in-Ok-update_over.ensures.none_lost ∙ c.in-Ok-begin_apart.ensures.anew.1;
+  recorded = c.in-Ok-update_over.ensures.recorded c.in-Ok-begin_apart.ensures.recording;
   let_end = c.in-Ok-update_over.ensures.let_end;
   undone_is = c.in-Ok-update_over.ensures.undone;
   written = c.in-Ok-update_over.ensures.written;

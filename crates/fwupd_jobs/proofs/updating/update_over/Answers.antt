@@ -1,8 +1,12 @@
 use Rattle.std.proofs.Common.{subst, sym}
 use Rattle.fwupd_jobs.specs.Running.{StepsSeen}
-use Rattle.fwupd_jobs.proofs.Started.{begun_none, begun_seen}
+use Rattle.fwupd_jobs.proofs.Started.{begun_none, begun_seen, caused_unwritten}
 use Rattle.fwupd_jobs.proofs.updating.update_over.Goals as goal
 
 pub returns-in-Err-clause-sees : goal.returns-in-Err-clause-sees
 returns-in-Err-clause-sees g c none =
     subst (StepsSeen c.args.number c.args.world.now c.args.world.now) (sym none) (begun_seen c.args.number c.args.world.now c.args.world.now 0 (begun_none c.args.number c.args.world.now))
+
+pub returns-in-Err-update_told-clause-unwritten : goal.returns-in-Err-update_told-clause-unwritten
+returns-in-Err-update_told-clause-unwritten g c =
+    caused_unwritten c.args.number c.args.world.now c.update_told.new.world c.in-Err-update_told.fault (g.V.Watch.watched c.update_told.new.watch) c.in-Err-update_told.ensures.fault

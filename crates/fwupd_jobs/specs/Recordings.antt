@@ -1,0 +1,75 @@
+-- What is written of the steps of a run, as a schedule that a replay reads.
+use Rattle.std.specs.Prelude.{ℕ, ◌≡◌, List, [], ◌∷◌, Ok, Option, None, Some, true}
+use Rattle.std.specs.Io.KnownBytes.{Appends}
+use Rattle.fw_json.specs.Forms.{report_in}
+use Rattle.fw_json.specs.declared.forms.Form.{Form}
+use Rattle.fw_script.specs.ScheduleTexts.{AreSayable, idle_at, schedule_text, text_of_steps, ticks_text}
+use Rattle.fw_script.specs.Schedules.{script_of}
+use Rattle.fw_world.specs.Headline.{Run}
+use Rattle.fw_world.specs.Worlds.{WorldOf}
+use Rattle.fw_world.specs.declared.step.Step.{Step}
+
+-- What stood where steps are written when their recording began, and what stands there now, where that is known; and how many idle
+-- ticks are held back.
+pub record RecordingOf : Type 0 where
+  pub begun : Option (List ℕ)
+  pub written : Option (List ℕ)
+  pub idle : ℕ
+
+abbrev pub recording_of : (begun written : Option (List ℕ)) (idle : ℕ) → RecordingOf
+recording_of begun written idle = record { begun = begun; written = written; idle = idle }
+
+-- nothing is written yet
+pub record IsNew (r : RecordingOf) : Type 0 where
+  pub written : r.written ≡ r.begun
+  pub idle : r.idle ≡ 0
+
+-- These steps are written behind the others, and a schedule can say them.
+pub record Writes (before now : RecordingOf) (steps : List Step) : Type 0 where
+  pub begun : now.begun ≡ before.begun
+  pub text : Appends before.written now.written (text_of_steps before.idle steps)
+  pub idle : now.idle ≡ idle_at before.idle steps
+  pub sayable : AreSayable steps
+
+-- where they are recorded at all
+abbrev pub Notes : (before now : Option RecordingOf) → List Step → Type 0
+Notes None now steps = now ≡ None
+Notes (Some r) None steps = ⊥
+Notes (Some r) (Some s) steps = Writes r s steps
+
+-- The ticks that are held back are written too.
+pub record Ends (before now : RecordingOf) : Type 0 where
+  pub begun : now.begun ≡ before.begun
+  pub text : Appends before.written now.written (ticks_text before.idle)
+  pub none_held : now.idle ≡ 0
+
+abbrev pub Closes : (before now : Option RecordingOf) → Type 0
+Closes None now = now ≡ None
+Closes (Some r) None = ⊥
+Closes (Some r) (Some s) = Ends r s
+
+-- The steps that led from one world to another are noted.
+pub record NotesRun (w v : WorldOf) (before now : Option RecordingOf) : Type 0 where
+  pub steps : List Step
+  pub run : Run w steps v
+  pub noted : Notes before now steps
+
+-- They are written whole, as a schedule that is read as these steps.
+pub record IsRecorded (w v : WorldOf) (r : RecordingOf) : Type 0 where
+  pub steps : List Step
+  pub run : Run w steps v
+  pub written : Appends r.begun r.written (schedule_text steps)
+  pub reads : script_of (schedule_text steps) ≡ Ok steps
+
+-- THE LAW
+
+-- no call of a bank failed in a run
+abbrev pub AllWork : (w : WorldOf) (ss : List Step) (v : WorldOf) → Run w ss v → Type 0
+AllWork w [] v h = Prim.Unit {0}
+AllWork w (s ∷ ss) v h = (h.1.works ≡ true) × AllWork h.0 ss v h.2
+
+-- Where no call of a bank failed in two runs of the same steps from one world, they lead to the same. So the report of the replay of a
+-- recorded run is that of the run.
+abbrev pub RecordsReplay : Type 0
+RecordsReplay = (w v u : WorldOf) (r : RecordingOf) (form : Form) (h : IsRecorded w v r) (steps : List Step) → script_of (schedule_text h.steps) ≡ Ok steps → (k : Run w steps u)
+    → AllWork w h.steps v h.run → AllWork w steps u k → report_in form u ≡ report_in form v
