@@ -28,9 +28,9 @@ fn rough(alloc: Global, roughness: Roughness) -> Rough<MemLink> {
 
 /// Sends the packets 1 to this one, of a byte each, at the agent's end. Whether all were taken.
 fn sends(link: &mut Rough<MemLink>, last: u8) -> bool {
-    for number in 1..last + 1 {
+    for before in 0..last {
         let mut packet = RawPacket::new();
-        packet.push(number);
+        packet.push(before + 1);
         if link.send(Side::Agent, &packet).is_err() {
             return false;
         }
