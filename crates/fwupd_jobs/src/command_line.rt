@@ -300,12 +300,12 @@ fn log_option<'a>(alloc: Global) -> Arg<'a> {
         .help("Writes the event log's records to a file in the end")
 }
 
-/// An option of a small number, at most this one, and 0 where it isn't given.
+/// An option of a small number, below this one, and 0 where it isn't given.
 fn small_option<'a>(
     alloc: Global,
     name: &'static str,
     value: &'static str,
-    most: i64,
+    below: i64,
     help: &'static str,
 ) -> Arg<'a> {
     Arg::new(alloc, name)
@@ -313,7 +313,7 @@ fn small_option<'a>(
         .value_name(value)
         .help(help)
         .default_value("0")
-        .value_parser(value_parser!(u8).range(0..most + 1))
+        .value_parser(value_parser!(u8).range(0..below))
 }
 
 /// A command with the options that make links rough.
@@ -322,21 +322,21 @@ fn with_roughness<'a>(alloc: Global, command: Command<'a>) -> Result<Command<'a>
         alloc,
         "loss",
         "P",
-        100,
+        101,
         "Loses so many of a hundred packets",
     );
     let duplicate = small_option(
         alloc,
         "duplicate",
         "P",
-        100,
+        101,
         "Delivers so many of a hundred twice",
     );
     let delay = small_option(
         alloc,
         "delay",
         "N",
-        8,
+        9,
         "Holds packets back for up to so many turns",
     );
     let seed = Arg::new(alloc, "seed")
