@@ -11,7 +11,7 @@ use Rattle.fw_node.specs.Nodes.{DeviceNodeOf}
 use Rattle.fw_trace.specs.Lines.{ReaderOf, new_reader}
 use Rattle.fw_world.specs.Worlds.{SiteOf, WorldOf}
 use Rattle.fwupd_jobs.proofs.Started.{take_next}
-use Rattle.fwupd_jobs.specs.Traces.{packet_text, pair_text, pairs_text, reader_for, reader_next, reader_of_pair, reader_past, readers_for, trace_text, written_at}
+use Rattle.fwupd_jobs.specs.Traces.{packet_text, pair_text, pairs_text, reader_for, reader_next, reader_of_pair, reader_past, trace_text, written_at}
 use Rattle.fwupd_jobs.specs.declared.command_line.TraceForm.{TraceForm}
 
 -- the packets of a pair behind so many

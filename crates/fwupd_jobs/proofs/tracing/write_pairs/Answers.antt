@@ -13,12 +13,12 @@ loop-place-preserved g c =
     reader_kept c.loop-place.place c.loop-place.readers c.args.readers.now x c.loop-place.invariant.readers
     (slice_get_read c.loop-place.readers (length c.loop-place.readers) c.loop-place.place x refl lt (ap (get_or c.loop-place.readers c.loop-place.place) c.index-readers-place.is)) in
     record {
-  lines =
-      pairs_more c.args.form c.args.readers.now (g.W.Write.contents c.args.writer.now) (g.W.Write.contents c.loop-place.writer) (g.W.Write.contents c.write_pair.new.writer) c.args.written.now c.args.world.now.sites c.loop-place.place
-      c.loop-place.invariant.lines (rw (reader, sym c.written_at.ensures) c.in-Ok.ensures.lines);
-  counts =
-      counts_more c.loop-place.counts.items c.push.new.self.items c.args.world.now.sites c.loop-place.place c.in-Ok.count (search rules) c.loop-place.invariant.counts c.in-Ok.ensures.count c.push.ensures.items;
-  few = search rules;
-  readers = others_kept c.loop-place.place c.loop-place.readers c.args.readers.now c.write_pair.new.reader c.loop-place.invariant.readers;
-  size = length-set c.loop-place.readers c.loop-place.place c.write_pair.new.reader ∙ c.loop-place.invariant.size;
-}
+      lines =
+          pairs_more c.args.form c.args.readers.now (g.W.Write.contents c.args.writer.now) (g.W.Write.contents c.loop-place.writer) (g.W.Write.contents c.write_pair.new.writer) c.args.written.now c.args.world.now.sites c.loop-place.place
+          c.loop-place.invariant.lines (rw (reader, sym c.written_at.ensures) c.in-Ok.ensures.lines);
+      counts =
+          counts_more c.loop-place.counts.items c.push.new.self.items c.args.world.now.sites c.loop-place.place c.in-Ok.count (search rules) c.loop-place.invariant.counts c.in-Ok.ensures.count c.push.ensures.items;
+      few = search rules;
+      readers = others_kept c.loop-place.place c.loop-place.readers c.args.readers.now c.write_pair.new.reader c.loop-place.invariant.readers;
+      size = length-set c.loop-place.readers c.loop-place.place c.write_pair.new.reader ∙ c.loop-place.invariant.size;
+    }
