@@ -7,6 +7,7 @@ mod Foretold
 mod Named
 mod Noted
 mod Packed
+mod Refused
 mod Seen
 mod Started
 mod Told

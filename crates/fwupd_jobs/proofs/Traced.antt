@@ -1,16 +1,17 @@
 -- The lines of packets, pair by pair.
-use Rattle.std.proofs.Common.{◌≡◌, ◌<◌, ◌≤◌, ◌+◌, ◌++◌, ◌∙◌, ℕ, zero, suc, List, [], ◌∷◌, Option, None, Some, append_assoc, arith, ap, drop, length, refl, subst, sym, take}
+use Rattle.std.proofs.Common.{◌≡◌, ◌<◌, ◌≤◌, ◌+◌, ◌++◌, ◌∙◌, ℕ, zero, suc, List, [], ◌∷◌, Option, None, Some, append_assoc, append-nil, arith, ap, drop, length, map, refl, subst, sym, take}
 use Rattle.std.specs.Prelude.{IfSome, option_map, slice_get}
 use Rattle.std.specs.Io.KnownBytes.{Appends}
 use Rattle.std.proofs.KnownBytes.{Appends-nil, Appends-trans}
-use Rattle.std.proofs.lemmas.List.{map-append}
+use Rattle.std.proofs.Math.ListN.{set}
+use Rattle.std.proofs.lemmas.List.{drop-set-lt, map-append}
 use Rattle.exch_lane.specs.Lanes.{Sent}
 use Rattle.fw_edge.specs.Ledgers.{packet_counts}
 use Rattle.fw_node.specs.Nodes.{DeviceNodeOf}
-use Rattle.fw_trace.specs.Lines.{ReaderOf}
-use Rattle.fw_world.specs.Worlds.{SiteOf}
+use Rattle.fw_trace.specs.Lines.{ReaderOf, new_reader}
+use Rattle.fw_world.specs.Worlds.{SiteOf, WorldOf}
 use Rattle.fwupd_jobs.proofs.Started.{take_next}
-use Rattle.fwupd_jobs.specs.Traces.{packet_text, pair_text, pairs_text, reader_next, reader_of_pair, reader_past, trace_text, written_at}
+use Rattle.fwupd_jobs.specs.Traces.{packet_text, pair_text, pairs_text, reader_for, reader_next, reader_of_pair, reader_past, trace_text, written_at}
 use Rattle.fwupd_jobs.specs.declared.command_line.TraceForm.{TraceForm}
 
 -- the packets of a pair behind so many
@@ -111,3 +112,43 @@ counts_more counts after sites place n lt e h is =
     is ∙ ap (λ m. counts ++ m ∷ []) size ∙ ap (λ cs. cs ++ length there.0.packets ∷ []) e
     ∙ sym (map-append (λ x. length x.packets) (take place sites) (there.0 ∷ []))
     ∙ ap packet_counts (sym (take_next sites place there.0 there.1)) ∙ ap (λ m. packet_counts (take m sites)) next
+
+-- the readers of the pairs that aren't written yet are as they were
+get_drop : {A : Type 0} (n : ℕ) (xs : List A) → slice_get (drop n xs) zero ≡ slice_get xs n
+get_drop zero xs = refl
+get_drop (suc n) [] = refl
+get_drop (suc n) (x ∷ xs) = get_drop n xs
+
+drop_next : {A : Type 0} (n : ℕ) (xs : List A) → drop (suc n) xs ≡ drop 1 (drop n xs)
+drop_next zero xs = refl
+drop_next (suc n) [] = refl
+drop_next (suc n) (x ∷ xs) = drop_next n xs
+
+pub reader_kept : (place : ℕ) (now first : List ReaderOf) (r : ReaderOf) → drop place now ≡ drop place first → slice_get now place ≡ Some r → slice_get first place ≡ Some r
+reader_kept place now first r same at = sym (get_drop place first) ∙ ap (λ rs. slice_get rs zero) (sym same) ∙ get_drop place now ∙ at
+
+pub others_kept : (place : ℕ) (now first : List ReaderOf) (r : ReaderOf) → drop place now ≡ drop place first → drop (place + 1) (set now place r) ≡ drop (place + 1) first
+others_kept place now first r same =
+    let further : place + 1 ≡ suc place = omega arith in
+    drop-set-lt (place + 1) now place r (omega arith) ∙ rw further (drop_next place now ∙ ap (drop 1) same ∙ sym (drop_next place first))
+
+-- one reader more
+made_next : (f : SiteOf → ReaderOf) (place : ℕ) (xs : List SiteOf) (x : SiteOf) → slice_get xs place ≡ Some x → map f (drop place xs) ≡ f x ∷ map f (drop (suc place) xs)
+made_next f place [] x at = absurd (cc)
+made_next f zero (y ∷ ys) x at = let same : y ≡ x = cc in ap (λ z. f z ∷ map f ys) same
+made_next f (suc place) (y ∷ ys) x at = made_next f place ys x at
+
+pub readers_more : (w : WorldOf) (place : ℕ) (n : DeviceNodeOf) (before after all : List ReaderOf) (r : ReaderOf) → place < length w.sites → option_map (λ x. x.node) (slice_get w.sites place) ≡ Some n
+    → r ≡ new_reader n.half.unit w.agent.endpoint.eid n.endpoint.eid → after ≡ before ++ r ∷ [] → before ++ map (reader_for w) (drop place w.sites) ≡ all
+    → after ++ map (reader_for w) (drop (place + 1) w.sites) ≡ all
+readers_more w place n before after all r lt at is pushed h =
+    let there = site_there w.sites place lt in
+    let node : there.0.node ≡ n = (let k : Some there.0.node ≡ Some n = subst (λ o. option_map (λ x. x.node) o ≡ Some n) there.1 at in cc) in
+    let made : r ≡ reader_for w there.0 = is ∙ ap (λ m. new_reader m.half.unit w.agent.endpoint.eid m.endpoint.eid) (sym node) in
+    let further : place + 1 ≡ suc place = omega arith in
+    rw (pushed, further) (append_assoc before (r ∷ []) (map (reader_for w) (drop (suc place) w.sites))
+    ∙ ap (λ it. before ++ it) (ap (λ z. z ∷ map (reader_for w) (drop (suc place) w.sites)) made ∙ sym (made_next (reader_for w) place w.sites there.0 there.1)) ∙ h)
+
+-- all are there
+pub readers_all : (w : WorldOf) (place : ℕ) (now all : List ReaderOf) → length w.sites ≤ place → now ++ map (reader_for w) (drop place w.sites) ≡ all → now ≡ all
+readers_all w place now all past h = sym (append-nil now) ∙ ap (λ xs. now ++ map (reader_for w) xs) (sym (drop_beyond place w.sites past)) ∙ h

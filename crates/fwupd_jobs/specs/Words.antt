@@ -45,7 +45,7 @@ pub record AsksNumber (words : Found) (number : ℕ) : Type 0 where
 pub record AsksTraceForm (words : Found) (form : TraceForm) : Type 0 where
   pub none : first_value words (codes "trace-format") ≡ None → form ≡ traces.Hex
   pub hex : first_value words (codes "trace-format") ≡ Some (codes "hex") → form ≡ traces.Hex
-  pub words : first_value words (codes "trace-format") ≡ Some (codes "text") → form ≡ traces.Text
+  pub told : first_value words (codes "trace-format") ≡ Some (codes "text") → form ≡ traces.Text
   pub capture : first_value words (codes "trace-format") ≡ Some (codes "pcap") → form ≡ traces.Capture
 
 -- What is shown of a run or a replay.

@@ -1,7 +1,7 @@
 //! The command line: what the words ask for.
 
-ghost use Rattle.std.specs.Prelude.{◌≡◌, IfOk};
-ghost use Rattle.clap.specs.Words.{found_of};
+ghost use Rattle.std.specs.Prelude.{◌≡◌, IfOk, codes, option_map};
+ghost use Rattle.clap.specs.Words.{first_value, found_of};
 ghost use Rattle.fwupd_jobs.specs.Words.{Asks, AsksEndpoint, AsksForm, AsksKept, AsksNumber, AsksOrder, AsksRoughness, AsksSeed, AsksSmall, AsksTraceForm, text_under};
 
 use clap::error::ErrorKind;
@@ -634,6 +634,7 @@ fn trace_form_in(matches: &ArgMatches<'_>) -> TraceForm
 /// What the words of `run` or `replay` ask to be shown, with progress or without.
 fn show_in<'a>(matches: &ArgMatches<'a>, is_quiet: bool) -> Show<'a>
     ensures quiet { result.is_quiet ≡ is_quiet }
+    ensures record { option_map (λ path. path.now) result.record ≡ first_value (found_of matches.now) (codes "record") }
     ensures kept { AsksKept (found_of matches.now) result }
 {
     Show {

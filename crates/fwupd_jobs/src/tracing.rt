@@ -1,6 +1,6 @@
 //! The packets of a run, written as they go out.
 
-ghost use Rattle.std.specs.Prelude.{◌≡◌, ◌<◌, ◌≤◌, ◌+◌, ◌^◌, [], Some, IfOk, IfSome, OnOk, length, slice_get};
+ghost use Rattle.std.specs.Prelude.{◌≡◌, ◌<◌, ◌≤◌, ◌⊎◌, ◌+◌, ◌^◌, [], Some, IfErr, IfOk, IfSome, OnOk, length, slice_get};
 ghost use Rattle.std.specs.Io.Buffered.{writer_buffer, writer_contents};
 ghost use Rattle.std.specs.Io.KnownBytes.{Appends, Keeps};
 ghost use Rattle.fw_edge.specs.Ledgers.{packet_counts};
@@ -237,6 +237,7 @@ impl<W: Write + Drop> Trace<W> {
         ensures unread { IfOk result (λ t. t.readers.items ≡ []) }
         ensures form { IfOk result (λ t. t.form ≡ form) }
         ensures head { IfOk result (λ t. Appends (W.contents writer) (writer_contents W.contents t.writer) (head_of form)) }
+        ensures fault { IfErr result (λ e. (e ≡ WatchFault.Memory) ⊎ (e ≡ WatchFault.Unwritten)) }
     {
         let Ok(mut writer) = BufWriter::new(alloc, writer) else {
             return Err(WatchFault::Memory);
