@@ -1,4 +1,4 @@
-use Rattle.std.proofs.Common.{arith, subst, take, ◌∙◌}
+use Rattle.std.proofs.Common.{arith, subst, ◌∙◌}
 use Rattle.fw_world.specs.Headline.{Leads}
 use Rattle.fwupd_jobs.proofs.Seen.{rises_to, step_taken}
 use Rattle.fwupd_jobs.proofs.replaying.replay_seen.Goals as goal
