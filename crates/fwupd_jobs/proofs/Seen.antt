@@ -1,5 +1,5 @@
 -- Steps that are taken one by one, each of them seen.
-use Rattle.std.proofs.Common.{◌≡◌, ◌<◌, ◌+◌, ◌-◌, ◌^◌, ◌⊎◌, ◌∙◌, ℕ, zero, suc, List, [], ◌∷◌, ◌++◌, length, take, get_or, inl, inr, subst, sym, ap, refl, arith}
+use Rattle.std.proofs.Common.{◌≡◌, ◌<◌, ◌+◌, ◌-◌, ◌^◌, ◌∙◌, ℕ, List, [], ◌∷◌, length, take, get_or, inl, inr, subst, sym, ap, refl, arith}
 use Rattle.std.proofs.lemmas.List.{take_more}
 use Rattle.fw_edge.proofs.Going.{run_append}
 use Rattle.fw_edge.specs.Links.{Rises}

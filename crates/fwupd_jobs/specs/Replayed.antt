@@ -64,7 +64,7 @@ pub record ScheduleFails (files : List ℕ → FileOf) (config schedule : List �
   pub setup : IsSetup files config world
   pub fails : TextFails script_of files schedule told
 
--- Neither the packets nor the log's records are written over one of the files that a replay reads.
+-- Nothing that looks on writes is written over one of the files that a replay reads.
 pub record IsReplayApart (files : List ℕ → FileOf) (config schedule : List ℕ) (show : ShowOf) : Type 0 where
   pub says : ConfigOf
   pub is : Says config_of (files config) says

@@ -245,7 +245,7 @@ pub record IsNamed (files : List ℕ → FileOf) (config : List ℕ) (number : �
   pub counted : 1 ≤ number
   pub there : number ≤ length w.packages
 
--- The world of a configuration over none of whose files the packets are written.
+-- The world of a configuration over none of whose files anything is written.
 pub record IsWatched (files : List ℕ → FileOf) (config : List ℕ) (number : ℕ) (show : ShowOf) (w : WorldOf) : Type 0 where
   pub named : IsNamed files config number w
   pub apart : IsApart files show (config ∷ named.setup.config.packages)

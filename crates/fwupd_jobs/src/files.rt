@@ -135,8 +135,8 @@ pub fn is_same_file<F: Files>(files: &F, one: &str, other: &str) -> bool
 
 /// Whether a file to be written, if there is one, is that of a path.
 pub(crate) fn is_one_path<F: Files>(files: &F, path: Option<&str>, other: &str) -> bool
-    ensures over { result ≡ true → IsSomeAnd (option_map (λ p. p.now) path) (λ p. IsOver (F.holds files.now) p other.now) }
-    ensures apart { result ≡ false → IfSome (option_map (λ p. p.now) path) (λ p. IsApartFrom (F.holds files.now) p other.now) }
+    ensures over { result ≡ true → IsSomeAnd (option_map (λ p. p.now) path.entry) (λ p. IsOver (F.holds files.now) p other.now) }
+    ensures apart { result ≡ false → IfSome (option_map (λ p. p.now) path.entry) (λ p. IsApartFrom (F.holds files.now) p other.now) }
 {
     match path {
         Some(path) => is_same_file(files, other, path),

@@ -1,5 +1,5 @@
-use Rattle.std.proofs.Common.{arith, ap, map, refl, List}
-use Rattle.std.specs.Prelude.{String, Global, string_bytes}
+use Rattle.std.proofs.Common.{arith, ap, map, refl, ◌∙◌, List, String, Global}
+use Rattle.std.specs.Prelude.{string_bytes}
 use Rattle.fw_script.specs.Seen.{config_seen, device_of}
 use Rattle.fw_world.specs.Headline.{new_world}
 use Rattle.fw_setup.specs.Nodes.{nodes_made}
@@ -48,7 +48,26 @@ returns-in-Some-clause-fault g c =
     c.in-Some.is (omega (arith, c.saturating_add.ensures, c.as_slice-5.type_inv)) (rw c.deref.ensures.value at c.in-Ok-write.ensures.ok)
 
 pub returns-in-Ok-watched-clause-ok : goal.returns-in-Ok-watched-clause-ok
-returns-in-Ok-watched-clause-ok g c = ?
+returns-in-Ok-watched-clause-ok g c =
+    seen_ends (g.F.Files.holds c.args.files.now) c.args.config.now c.args.steps.now (show_of c.args.show) (g.V.Watch.watched c.replayed.new.watch) c.args.output.now c.write.new.self (config_seen c.in-Ok.config) (map (λ p. string_bytes p) c.as_slice-3.result.now)
+    c.in-Ok.ensures.says (ap (λ (xs : List (String Global)). map (λ p. string_bytes p) xs) c.as_slice-3.ensures.value) c.in-Ok-begin_replay.ensures.apart
+    (c.in-Ok-replayed.ensures.same ∙ c.in-Ok-begin_replay.ensures.shows) (rw c.in-Ok-watched.is at c.in-Ok-replayed.ensures.seen) c.in-Ok-replayed.ensures.ended
+    (replay_reports (g.F.Files.holds c.args.files.now) c.args.config.now c.args.steps.now c.args.show.form c.in-Ok-replayed.outcome.fault c.in-Ok-replayed.outcome.report.items c.args.output.now c.write.new.self
+    (report_there (g.F.Files.holds c.args.files.now) c.args.config.now c.args.steps.now c.args.show.form (new_world c.in-Ok.config.agent (nodes_made c.in-Ok.config.unit c.in-Ok.config.agent.eid (map device_of c.in-Ok.config.devices.items)) c.as_slice-4.result.now) c.in-Ok-schedule.script.items c.as_slice-5.result.now c.in-Ok-replayed.outcome.fault c.in-Ok-replayed.outcome.report.items
+    (set_up (g.F.Files.holds c.args.files.now) c.args.config.now c.in-Ok.config c.as_slice.result.now c.in-Ok-package_files.contents.items c.as_slice-2.result.now c.in-Ok-packages_in.packages.items
+    c.as_slice-4.result.now (nodes_made c.in-Ok.config.unit c.in-Ok.config.agent.eid (map device_of c.in-Ok.config.devices.items)) (new_world c.in-Ok.config.agent (nodes_made c.in-Ok.config.unit c.in-Ok.config.agent.eid (map device_of c.in-Ok.config.devices.items)) c.as_slice-4.result.now)
+    c.in-Ok.ensures.says c.as_slice.ensures.value c.in-Ok-package_files.ensures.packed c.as_slice-2.ensures.value c.in-Ok-packages_in.ensures.is refl c.as_slice-4.ensures.value refl)
+    c.in-Ok-schedule.ensures.says c.as_slice-5.ensures.value c.in-Ok-replayed.ensures.replayed)
+    c.in-None.is (rw c.deref.ensures.value at c.in-Ok-write.ensures.ok))
 
 pub returns-clause-fault : goal.returns-clause-fault
-returns-clause-fault g c = ?
+returns-clause-fault g c =
+    unseen_ends (g.F.Files.holds c.args.files.now) c.args.config.now c.args.steps.now (show_of c.args.show) (g.V.Watch.refuses c.args.watch.now) c.in-Err-watched.fault c.watch_fault.result (g.V.Watch.watched c.replayed.new.watch) c.args.output.now c.write.new.self
+    (replay_reports (g.F.Files.holds c.args.files.now) c.args.config.now c.args.steps.now c.args.show.form c.in-Ok-replayed.outcome.fault c.in-Ok-replayed.outcome.report.items c.args.output.now c.write.new.self
+    (report_there (g.F.Files.holds c.args.files.now) c.args.config.now c.args.steps.now c.args.show.form (new_world c.in-Ok.config.agent (nodes_made c.in-Ok.config.unit c.in-Ok.config.agent.eid (map device_of c.in-Ok.config.devices.items)) c.as_slice-4.result.now) c.in-Ok-schedule.script.items c.as_slice-5.result.now c.in-Ok-replayed.outcome.fault c.in-Ok-replayed.outcome.report.items
+    (set_up (g.F.Files.holds c.args.files.now) c.args.config.now c.in-Ok.config c.as_slice.result.now c.in-Ok-package_files.contents.items c.as_slice-2.result.now c.in-Ok-packages_in.packages.items
+    c.as_slice-4.result.now (nodes_made c.in-Ok.config.unit c.in-Ok.config.agent.eid (map device_of c.in-Ok.config.devices.items)) (new_world c.in-Ok.config.agent (nodes_made c.in-Ok.config.unit c.in-Ok.config.agent.eid (map device_of c.in-Ok.config.devices.items)) c.as_slice-4.result.now)
+    c.in-Ok.ensures.says c.as_slice.ensures.value c.in-Ok-package_files.ensures.packed c.as_slice-2.ensures.value c.in-Ok-packages_in.ensures.is refl c.as_slice-4.ensures.value refl)
+    c.in-Ok-schedule.ensures.says c.as_slice-5.ensures.value c.in-Ok-replayed.ensures.replayed)
+    c.in-None.is (rw c.deref.ensures.value at c.in-Ok-write.ensures.ok))
+    c.watch_fault.ensures.told (rw c.in-Err-watched.is at c.in-Ok-replayed.ensures.unseen) c.in-Ok-replayed.ensures.ended
