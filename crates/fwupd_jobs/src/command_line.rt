@@ -244,12 +244,12 @@ Limits: 80000 turns of one tick each. Three images of 1 MiB take about 66000.
 Status: 0; 1 if standard error says 'fwupd: ' and a fault, one of these or of 'replay'; 2 for wrong
 usage.";
 
-/// An option of a small number, at most this one, and 0 where it isn't given.
+/// An option of a small number, below this one, and 0 where it isn't given.
 fn small_option<'a>(
     alloc: Global,
     name: &'static str,
     value: &'static str,
-    most: i64,
+    below: i64,
     help: &'static str,
 ) -> Arg<'a> {
     Arg::new(alloc, name)
@@ -257,7 +257,7 @@ fn small_option<'a>(
         .value_name(value)
         .help(help)
         .default_value("0")
-        .value_parser(value_parser!(u8).range(0..most + 1))
+        .value_parser(value_parser!(u8).range(0..below))
 }
 
 /// A command with the options that make links rough.
@@ -266,21 +266,21 @@ fn with_roughness<'a>(alloc: Global, command: Command<'a>) -> Result<Command<'a>
         alloc,
         "loss",
         "P",
-        100,
+        101,
         "Loses so many of a hundred packets",
     );
     let duplicate = small_option(
         alloc,
         "duplicate",
         "P",
-        100,
+        101,
         "Delivers so many of a hundred twice",
     );
     let delay = small_option(
         alloc,
         "delay",
         "N",
-        8,
+        9,
         "Holds packets back for up to so many turns",
     );
     let seed = Arg::new(alloc, "seed")
