@@ -183,17 +183,18 @@ fn the_log_in_a_file_is_told(rt: HostRuntime) -> Result<(), Fail> {
 const STEPS: &[u8] = b"start 9 1\ntick\ndeliver 9 1 9\ntick 3\ncancel 10\n";
 
 /// What a replay writes, its fault, and how many steps were seen.
-fn replayed(
+fn replayed<'a>(
     rt: &HostRuntime,
+    config: &'a [u8],
+    package: &'a [u8],
+    steps: &'a [u8],
     trace: Option<&str>,
     log: Option<&str>,
-    steps: &[u8],
     broken: usize,
 ) -> Result<(Vec<u8>, usize), Fail> {
-    let package = package(rt)?;
-    let files: [(&str, u64, &[u8]); 4] = [
-        ("c", 1, WHOLE),
-        ("p", 2, &package),
+    let files: [(&'a str, u64, &'a [u8]); 4] = [
+        ("c", 1, config),
+        ("p", 2, package),
         ("s", 3, steps),
         ("linked to s", 3, steps),
     ];
@@ -243,8 +244,9 @@ fn a_replay_reports_the_same_with_a_trace(rt: HostRuntime) -> Result<(), Fail> {
         (None, Some("/"), whole, 0, b"sel", 0),
         (Some("t"), Some("c"), whole, 0, b"sel", 0),
     ];
+    let package = package(&rt)?;
     for (trace, log, steps, broken, wanted, turns) in table {
-        let (told, seen) = replayed(&rt, trace, log, steps, broken)?;
+        let (told, seen) = replayed(&rt, WHOLE, &package, steps, trace, log, broken)?;
         assert!(rt; told.as_slice() == wanted, "{}", told.escape_ascii());
         assert!(rt; seen == turns);
     }
