@@ -183,13 +183,13 @@ fn the_log_in_a_file_is_told(rt: HostRuntime) -> Result<(), Fail> {
 const STEPS: &[u8] = b"start 9 1\ntick\ndeliver 9 1 9\ntick 3\ncancel 10\n";
 
 /// What a replay writes, its fault, and how many steps were seen.
-fn replayed<'a>(
+fn replayed<'a, 'b>(
     rt: &HostRuntime,
     config: &'a [u8],
     package: &'a [u8],
     steps: &'a [u8],
-    trace: Option<&str>,
-    log: Option<&str>,
+    trace: Option<&'b str>,
+    log: Option<&'b str>,
     broken: usize,
 ) -> Result<(Vec<u8>, usize), Fail> {
     let files: [(&'a str, u64, &'a [u8]); 4] = [
