@@ -5,6 +5,7 @@ ghost use Rattle.std.specs.Prelude.{◌≡◌, ◌≢◌, ◌∷◌, IfErr, IfOk
 ghost use Rattle.std.specs.List.{AllByRecursion};
 ghost use Rattle.fwupd_jobs.specs.Setups.{FileOf, IsApartFrom, IsOver, IsOverOne, MayBe, MayHold, any_file};
 
+use fwupd_base::read_some;
 use std::alloc::Global;
 use std::fs::{self, File};
 use std::io::{self, ErrorKind, Read};
@@ -68,6 +69,9 @@ impl<'a> SystemFiles<'a> {
     }
 }
 
+/// The most bytes that are read at once.
+const PIECE: usize = 16_384;
+
 /// All bytes that a reader gives up to its end, into room for so many at first.
 ///
 /// # Errors
@@ -77,14 +81,23 @@ fn read_whole<R: Read>(alloc: Global, reader: &mut R, size: usize) -> io::Result
     ensures end { OnOk result (IsAtEnd (R.remaining reader.new)) }
 {
     let mut bytes = Vec::new(alloc);
-    match bytes.reserve(size.saturating_add(1)) {
+    match bytes.reserve(size) {
         Ok(()) => {}
         Err(error) => return Err(io::Error::from(error)),
     }
-    match reader.read_to_end(&mut bytes) {
-        Ok(_) => Ok(bytes),
-        Err(error) => Err(error),
+    let mut piece = [0; PIECE];
+    for _ in 0..u64::MAX {
+        let count = match read_some(reader, &mut piece, PIECE) {
+            Ok(0) => return Ok(bytes),
+            Ok(count) => count,
+            Err(error) => return Err(error),
+        };
+        match bytes.extend_from_slice(&piece[..count]) {
+            Ok(()) => {}
+            Err(error) => return Err(io::Error::from(error)),
+        }
     }
+    Err(io::Error::from(ErrorKind::TimedOut))
 }
 
 /// Why the bytes of a file aren't there, by why its reading failed.
