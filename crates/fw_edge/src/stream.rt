@@ -1,6 +1,7 @@
 //! A link over a byte stream.
 
 ghost use Rattle.std.specs.Prelude.{◌≡◌, ◌≢◌, ◌+◌, IfErr, IfOk, IfSome, None, Ok, OnErr, OnOk, is_some};
+ghost use Rattle.std.specs.Io.KnownBytes.{Keeps};
 ghost use Rattle.fw_edge.specs.Frames.{ReadStops, WriteStops};
 ghost use Rattle.fw_edge.specs.Links.{Asks, Fails, Reads, Sends, Writes};
 
@@ -12,7 +13,8 @@ use mctp_wire::{RawPacket, Unit};
 use std::io::{Read, Write};
 
 /// A link of a network with a transmission unit, whose ends are those of a byte stream, as of a socket: the frames that are
-/// written at one are read at the other. It reads only where a frame that it wrote is still to come, so it never waits for nothing.
+/// written at one are read at the other. It reads only where a frame that it wrote is still to come, so it never waits for nothing;
+/// what the other end's stream holds back goes out before, so a stream may write many frames at once.
 #[derive(Drop)]
 pub struct StreamLink<S: Read + Write + Drop> {
     unit: Unit,
@@ -23,6 +25,17 @@ pub struct StreamLink<S: Read + Write + Drop> {
     /// Frames on the way to the device.
     down: u64,
     tally: Tally,
+}
+
+/// Lets go out what a stream holds back.
+fn flush<S: Write>(stream: &mut S) -> Result<(), FrameFault>
+    ensures kept { Keeps (S.contents stream.old) (S.contents stream.new) }
+    ensures fault { IfErr result (λ e. e ≡ FrameFault.Io) }
+{
+    match stream.flush() {
+        Ok(()) => Ok(()),
+        Err(_) => Err(FrameFault::Io),
+    }
 }
 
 impl<S: Read + Write + Drop> StreamLink<S> {
@@ -72,8 +85,8 @@ impl<S: Read + Write + Drop> StreamLink<S> {
         Ok(())
     }
 
-    /// Reads a frame at an end, if one is on the way there; else it leaves the streams as they are. The stream of the other end
-    /// stays as it is. A frame that can't be read is on the way no more.
+    /// Reads a frame at an end, if one is on the way there; else it leaves the streams as they are. What the stream of the other
+    /// end holds back goes out before, and nothing else is written there. A frame that can't be read is on the way no more.
     fn read(&mut self, side: Side) -> Result<Option<RawPacket>, FrameFault>
         ensures tally { self.new.tally ≡ self.old.tally }
         ensures unit { self.new.unit ≡ self.old.unit }
@@ -85,8 +98,8 @@ impl<S: Read + Write + Drop> StreamLink<S> {
         ensures some_down { side ≡ Side.Device → self.old.down ≢ 0 → result ≢ Ok None }
         ensures agent_fault { side ≡ Side.Agent → IfErr result (λ e. (self.old.up ≡ self.new.up + 1) × ReadStops self.old.unit e (S.remaining self.old.agent) (S.remaining self.new.agent)) }
         ensures device_fault { side ≡ Side.Device → IfErr result (λ e. (self.old.down ≡ self.new.down + 1) × ReadStops self.old.unit e (S.remaining self.old.device) (S.remaining self.new.device)) }
-        ensures not_device { side ≡ Side.Agent → (self.new.device ≡ self.old.device) × (self.new.down ≡ self.old.down) }
-        ensures not_agent { side ≡ Side.Device → (self.new.agent ≡ self.old.agent) × (self.new.up ≡ self.old.up) }
+        ensures not_device { side ≡ Side.Agent → Keeps (S.contents self.old.device) (S.contents self.new.device) × (self.new.down ≡ self.old.down) }
+        ensures not_agent { side ≡ Side.Device → Keeps (S.contents self.old.agent) (S.contents self.new.agent) × (self.new.up ≡ self.old.up) }
     {
         match side {
             Side::Agent => {
@@ -94,6 +107,7 @@ impl<S: Read + Write + Drop> StreamLink<S> {
                     return Ok(None);
                 };
                 self.up = left;
+                flush(&mut self.device)?;
                 Ok(Some(read_frame(self.unit, &mut self.agent)?))
             }
             Side::Device => {
@@ -101,6 +115,7 @@ impl<S: Read + Write + Drop> StreamLink<S> {
                     return Ok(None);
                 };
                 self.down = left;
+                flush(&mut self.agent)?;
                 Ok(Some(read_frame(self.unit, &mut self.device)?))
             }
         }
@@ -145,8 +160,8 @@ impl<S: Read + Write + Drop> Link for StreamLink<S> {
         ensures some_down { side ≡ Side.Device → self.old.down ≢ 0 → result ≢ Ok None }
         ensures agent_fault { side ≡ Side.Agent → IfErr result (λ e. (self.old.up ≡ self.new.up + 1) × ReadStops self.old.unit e (S.remaining self.old.agent) (S.remaining self.new.agent)) }
         ensures device_fault { side ≡ Side.Device → IfErr result (λ e. (self.old.down ≡ self.new.down + 1) × ReadStops self.old.unit e (S.remaining self.old.device) (S.remaining self.new.device)) }
-        ensures not_device { side ≡ Side.Agent → (self.new.device ≡ self.old.device) × (self.new.down ≡ self.old.down) }
-        ensures not_agent { side ≡ Side.Device → (self.new.agent ≡ self.old.agent) × (self.new.up ≡ self.old.up) }
+        ensures not_device { side ≡ Side.Agent → Keeps (S.contents self.old.device) (S.contents self.new.device) × (self.new.down ≡ self.old.down) }
+        ensures not_agent { side ≡ Side.Device → Keeps (S.contents self.old.agent) (S.contents self.new.agent) × (self.new.up ≡ self.old.up) }
     {
         match self.read(side) {
             Ok(packet) => {

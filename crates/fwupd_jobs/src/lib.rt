@@ -27,6 +27,7 @@ mod tracing;
 mod updating;
 mod watching;
 mod words;
+mod write_behind;
 
 pub use building::build_file;
 pub use checking::update_checked;

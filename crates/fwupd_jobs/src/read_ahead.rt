@@ -1,13 +1,14 @@
 //! A byte stream that is read ahead.
 
-ghost use Rattle.std.specs.Prelude.{◌≡◌, [], IfOk};
+ghost use Rattle.std.specs.Prelude.{◌≡◌, [], IfErr, IfOk};
+ghost use Rattle.std.specs.IoError.{error_kind};
 ghost use Rattle.std.specs.Io.Buffered.{reader_buffer, reader_inner, reader_remaining};
 
 use std::alloc::Global;
-use std::io::{self, BufReader, Read, Write};
+use std::io::{self, BufReader, ErrorKind, Read, Write};
 
-/// A byte stream of which all that has come is read at once, where each frame asks for two pieces. What is written goes out
-/// at once.
+/// A byte stream of which all that has come is read at once, where each frame asks for two pieces. What is written goes to the
+/// stream at once.
 #[derive(Drop)]
 pub struct ReadAhead<S: Read + Write + Drop> {
     reader: BufReader<S>,
@@ -21,6 +22,7 @@ impl<S: Read + Write + Drop> ReadAhead<S> {
     pub fn new(alloc: Global, stream: S) -> io::Result<ReadAhead<S>>
         ensures stream { IfOk result (λ s. reader_inner s.reader ≡ stream) }
         ensures none { IfOk result (λ s. reader_buffer s.reader ≡ []) }
+        ensures err { IfErr result (λ e. error_kind e ≡ ErrorKind.OutOfMemory) }
     {
         let reader = BufReader::new(alloc, stream)?;
         Ok(ReadAhead { reader })

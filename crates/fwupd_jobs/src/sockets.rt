@@ -6,8 +6,10 @@ ghost use Rattle.mctp_wire.specs.Units.{bytes_of};
 use crate::faults::RunFault;
 use crate::read_ahead::ReadAhead;
 use crate::updating::Wires;
+use crate::write_behind::WriteBehind;
 use fw_edge::StreamLink;
 use mctp_wire::Unit;
+use std::alloc::Global;
 use std::fs;
 use std::io::{self, IsTerminal};
 use std::os::unix::net::{UnixListener, UnixStream};
@@ -20,8 +22,16 @@ pub struct Sockets<'a> {
     refused: Option<(u8, io::Error)>,
 }
 
-/// A link over sockets. What has come at an end is read at once.
-type SocketLink = StreamLink<ReadAhead<UnixStream>>;
+/// A socket of which what has come is read at once, and to which what is written is held back until the other end is read.
+type Socket = ReadAhead<WriteBehind<UnixStream>>;
+
+/// A link over sockets.
+type SocketLink = StreamLink<Socket>;
+
+/// An end of a connection.
+fn end(alloc: Global, stream: UnixStream) -> io::Result<Socket> {
+    ReadAhead::new(alloc, WriteBehind::new(alloc, stream)?)
+}
 
 /// Both ends of a connection of a socket to itself, as a link.
 fn connected(
@@ -34,9 +44,7 @@ fn connected(
 {
     let device = UnixStream::connect(rt, path)?;
     let (agent, _) = listener.accept()?;
-    let agent = ReadAhead::new(rt.alloc(), agent)?;
-    let device = ReadAhead::new(rt.alloc(), device)?;
-    Ok(StreamLink::new(unit, agent, device))
+    Ok(StreamLink::new(unit, end(rt.alloc(), agent)?, end(rt.alloc(), device)?))
 }
 
 /// Makes a socket of this path, and a link over it to itself. The path's name is taken only meanwhile.

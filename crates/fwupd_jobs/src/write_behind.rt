@@ -1,0 +1,49 @@
+//! A byte stream that is written behind.
+
+ghost use Rattle.std.specs.Prelude.{◌≡◌, [], IfErr, IfOk};
+ghost use Rattle.std.specs.IoError.{error_kind};
+ghost use Rattle.std.specs.Io.Buffered.{writer_buffer, writer_contents, writer_inner};
+
+use std::alloc::Global;
+use std::io::{self, BufWriter, ErrorKind, Read, Write};
+
+/// A byte stream that holds back what is written to it until it is flushed, or has no more room.
+#[derive(Drop)]
+pub struct WriteBehind<S: Read + Write + Drop> {
+    writer: BufWriter<S>,
+}
+
+impl<S: Read + Write + Drop> WriteBehind<S> {
+    /// The stream, for which nothing is held back yet.
+    ///
+    /// # Errors
+    /// `OutOfMemory` where room for what is held back is refused.
+    pub fn new(alloc: Global, stream: S) -> io::Result<WriteBehind<S>>
+        ensures stream { IfOk result (λ s. writer_inner s.writer ≡ stream) }
+        ensures none { IfOk result (λ s. writer_buffer s.writer ≡ []) }
+        ensures err { IfErr result (λ e. error_kind e ≡ ErrorKind.OutOfMemory) }
+    {
+        let writer = BufWriter::new(alloc, stream)?;
+        Ok(WriteBehind { writer })
+    }
+}
+
+impl<S: Read + Write + Drop> Read for WriteBehind<S> {
+    ghost remaining = { λ s. S.remaining (writer_inner s.writer) };
+
+    fn read(&mut self, bytes: &mut [u8]) -> io::Result<usize> {
+        self.writer.get_mut().read(bytes)
+    }
+}
+
+impl<S: Read + Write + Drop> Write for WriteBehind<S> {
+    ghost contents = { λ s. writer_contents S.contents s.writer };
+
+    fn write(&mut self, bytes: &[u8]) -> io::Result<usize> {
+        self.writer.write(bytes)
+    }
+
+    fn flush(&mut self) -> io::Result<()> {
+        self.writer.flush()
+    }
+}
