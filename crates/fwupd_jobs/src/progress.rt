@@ -6,7 +6,7 @@ ghost use Rattle.fwupd_jobs.specs.Progress.{end_asked, progress_line};
 ghost use Rattle.mctp_wire.specs.Packet.{packet_of};
 ghost use Rattle.mctp_wire.specs.declared.unit.Unit.TheVariants.{U128};
 
-use fd_core::{Key, MemBank};
+use fd_core::{Bank, Key};
 use fw_node::DeviceNode;
 use fw_text::{push_number, push_words};
 use fw_world::{SentPackets, World};
@@ -111,7 +111,7 @@ impl<'a> Progress<'a> {
     }
 
     /// Shows how far a device is, if it loads an image.
-    fn show(&self, node: &DeviceNode<MemBank>, packets: &SentPackets<'_>) -> bool {
+    fn show<B: Bank + Drop>(&self, node: &DeviceNode<B>, packets: &SentPackets<'_>) -> bool {
         let Some((key, size)) = node.device().staged() else {
             return false;
         };
@@ -125,7 +125,7 @@ impl<'a> Progress<'a> {
     }
 
     /// Shows what a turn left, where it wasn't shown a moment ago.
-    pub fn see(&mut self, world: &World<'_, MemBank>) {
+    pub fn see<B: Bank + Drop>(&mut self, world: &World<'_, B>) {
         let Some(now) = self.due() else {
             return;
         };

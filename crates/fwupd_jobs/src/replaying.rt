@@ -15,7 +15,7 @@ use crate::output::Output;
 use crate::running::{Watch, WatchFault, watch_fault};
 use crate::setups::{configuration, package_files, packages_in, schedule};
 use crate::updating::begin_apart;
-use fd_core::MemBank;
+use fd_core::Bank;
 use fw_json::report_in;
 use fw_package::Package;
 use fw_script::{Config, DeviceConfig};
@@ -45,8 +45,8 @@ pub struct Outcome {
 ///
 /// # Errors
 /// The number of the step that isn't taken, counted from 0, and why.
-fn replay_seen<V: Watch>(
-    world: &mut World<'_, MemBank>,
+fn replay_seen<B: Bank + Drop, V: Watch>(
+    world: &mut World<'_, B>,
     steps: &[Step],
     watch: &mut V,
 ) -> Result<(), (usize, StepFault)>
@@ -67,8 +67,8 @@ fn replay_seen<V: Watch>(
 }
 
 /// Takes these steps, each seen by what looks on where packets are traced.
-fn replay_by<V: Watch>(
-    world: &mut World<'_, MemBank>,
+fn replay_by<B: Bank + Drop, V: Watch>(
+    world: &mut World<'_, B>,
     steps: &[Step],
     is_traced: bool,
     watch: &mut V,

@@ -7,7 +7,7 @@ ghost use Rattle.fwupd_jobs.specs.Recordings.{Closes, IsNew, IsRecorded, Notes, 
 ghost use Rattle.fwupd_jobs.specs.Running.{AreToldOf, IsCaused, IsRefusedStart, IsUnwritten, IsUpdated, MayEnd, MayRefuse, Starts, StepsLead, StepsSeen, Updates, show_of, shown_of, starts_of, told_by, told_of, watch_of};
 
 use crate::faults::{RunFault, edge_fault};
-use fd_core::MemBank;
+use fd_core::Bank;
 use fw_edge::{EdgeFault, Link, drive};
 use fw_script::schedules_read_back;
 use fw_world::{Step, StepFault, World};
@@ -68,7 +68,7 @@ pub trait Watch {
     ///
     /// # Errors
     /// The fault that it had; else that what it tells of the turn can't be written, or that memory is refused.
-    fn see(&mut self, world: &World<'_, MemBank>) -> Result<(), WatchFault>
+    fn see<B: Bank + Drop>(&mut self, world: &World<'_, B>) -> Result<(), WatchFault>
         ensures ok { OnOk result ((watched self.new).fault ≡ None) }
         ensures err { IfErr result (λ e. (watched self.new).fault ≡ Some e) }
         ensures first { IfSome (watched self.old).fault (λ f. result ≡ Err f) }
@@ -90,7 +90,7 @@ pub trait Watch {
     ///
     /// # Errors
     /// As for a turn; and the records can't be written.
-    fn end(&mut self, world: &World<'_, MemBank>) -> Result<(), WatchFault>
+    fn end<B: Bank + Drop>(&mut self, world: &World<'_, B>) -> Result<(), WatchFault>
         ensures ok { OnOk result ((watched self.new).fault ≡ None) }
         ensures err { IfErr result (λ e. (watched self.new).fault ≡ Some e) }
         ensures first { IfSome (watched self.old).fault (λ f. result ≡ Err f) }
@@ -115,8 +115,8 @@ pub fn watch_fault(fault: WatchFault) -> RunFault
 }
 
 /// Starts the update of each device with the package of this number, and lists the steps.
-fn start_all(
-    world: &mut World<'_, MemBank>,
+fn start_all<B: Bank + Drop>(
+    world: &mut World<'_, B>,
     number: usize,
     steps: &mut Vec<Step>,
 ) -> Result<(), RunFault>
@@ -150,8 +150,8 @@ fn start_all(
 }
 
 /// What looks on notes the steps of a turn, and sees what it left.
-fn see_turn<V: Watch>(
-    world: &World<'_, MemBank>,
+fn see_turn<B: Bank + Drop, V: Watch>(
+    world: &World<'_, B>,
     watch: &mut V,
     steps: &[Step],
 ) -> Result<(), WatchFault>
@@ -167,8 +167,8 @@ fn see_turn<V: Watch>(
 }
 
 /// The run's fault when a turn fails. The onlooker still notes its steps, and sees it; a fault of its own isn't told then.
-fn broken_off<V: Watch>(
-    world: &World<'_, MemBank>,
+fn broken_off<B: Bank + Drop, V: Watch>(
+    world: &World<'_, B>,
     watch: &mut V,
     steps: &[Step],
     fault: EdgeFault,
@@ -188,9 +188,9 @@ fn broken_off<V: Watch>(
 /// # Errors
 /// `Edge` where a link failed, a start is refused or the clock stands at its end, `Memory` where memory was refused, and what ends
 /// the watch.
-pub fn update_all<L: Link, V: Watch>(
+pub fn update_all<B: Bank + Drop, L: Link, V: Watch>(
     alloc: Global,
-    world: &mut World<'_, MemBank>,
+    world: &mut World<'_, B>,
     number: usize,
     links: &mut [L],
     watch: &mut V,
@@ -245,9 +245,9 @@ pub fn update_all<L: Link, V: Watch>(
 ///
 /// # Errors
 /// That of the update, and else what ends the watch.
-pub fn update_watched<L: Link, V: Watch>(
+pub fn update_watched<B: Bank + Drop, L: Link, V: Watch>(
     alloc: Global,
-    world: &mut World<'_, MemBank>,
+    world: &mut World<'_, B>,
     number: usize,
     links: &mut [L],
     watch: &mut V,

@@ -5,7 +5,7 @@ ghost use Rattle.fwupd_jobs.specs.Running.{watch_of};
 ghost use Rattle.fwupd_jobs.specs.Sessions.{TellsUndone, is_done, undone_in, undone_word};
 
 use crate::faults::RunFault;
-use fd_core::MemBank;
+use fd_core::Bank;
 use fw_script::{cause_name, session_name, session_of};
 use fw_world::World;
 use ua_core::SessionState;
@@ -27,7 +27,7 @@ fn is_done(state: Option<SessionState>) -> bool
 }
 
 /// The first session of a world, in configured order, that isn't Done.
-pub fn first_undone(world: &World<'_, MemBank>) -> Option<Undone>
+pub fn first_undone<B: Bank + Drop>(world: &World<'_, B>) -> Option<Undone>
     ensures { result ≡ undone_in world.now }
 {
     for place in 0..world.device_count() {

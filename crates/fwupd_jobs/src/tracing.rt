@@ -10,7 +10,7 @@ ghost use Rattle.fwupd_jobs.specs.Traces.{head_of, is_to_agent, packet_text, pai
 
 use crate::running::WatchFault;
 use arrayvec::ArrayVec;
-use fd_core::MemBank;
+use fd_core::Bank;
 use fw_text::{push_number, push_words};
 use fw_trace::{PacketReader, capture_header, push_capture};
 use fw_world::{SentPacket, SentPackets, World};
@@ -134,10 +134,10 @@ fn lines(
 }
 
 /// Writes the packets of the pair at a place behind so many, and gives how many packets it has.
-fn write_pair<W: Write>(
+fn write_pair<B: Bank + Drop, W: Write>(
     alloc: Global,
     form: TraceForm,
-    world: &World<'_, MemBank>,
+    world: &World<'_, B>,
     place: usize,
     written: usize,
     reader: &mut PacketReader,
@@ -180,10 +180,10 @@ fn written_at(written: &[usize], place: usize) -> usize
 }
 
 /// Writes the packets of each pair behind those that are written, and gives how many there are of each.
-fn write_pairs<W: Write>(
+fn write_pairs<B: Bank + Drop, W: Write>(
     alloc: Global,
     form: TraceForm,
-    world: &World<'_, MemBank>,
+    world: &World<'_, B>,
     written: &[usize],
     readers: &mut [PacketReader],
     writer: &mut W,
@@ -212,8 +212,8 @@ fn write_pairs<W: Write>(
 }
 
 /// Adds a reader for each pair that has none.
-fn add_readers(
-    world: &World<'_, MemBank>,
+fn add_readers<B: Bank + Drop>(
+    world: &World<'_, B>,
     readers: &mut Vec<PacketReader>,
 ) -> Result<(), AllocError>
     ensures { OnOk result (readers.new.items ≡ readers_for readers.old.items world.now) }
@@ -259,7 +259,7 @@ impl<W: Write + Drop> Trace<W> {
     ///
     /// # Errors
     /// They can't be written, or memory for their lines is refused.
-    pub fn see(&mut self, world: &World<'_, MemBank>) -> Result<(), WatchFault>
+    pub fn see<B: Bank + Drop>(&mut self, world: &World<'_, B>) -> Result<(), WatchFault>
         ensures lines { OnOk result (Appends (writer_contents W.contents self.old.writer) (writer_contents W.contents self.new.writer)
             (pairs_text self.old.form (readers_for self.old.readers.items world.now) self.old.written.items world.now.sites (length world.now.sites))) }
         ensures counts { OnOk result (self.new.written.items ≡ packet_counts world.now.sites) }

@@ -15,7 +15,7 @@ use crate::output::Output;
 use crate::running::{Watch, WatchFault, update_watched, watch_fault};
 use crate::sessions::{Undone, first_undone};
 use crate::setups::{configuration, package_files, packages_in};
-use fd_core::MemBank;
+use fd_core::Bank;
 use fw_edge::{EdgeFault, Link, Rough, Roughness};
 use fw_json::report_in;
 use fw_script::Config;
@@ -47,9 +47,9 @@ pub trait Wires<L> {
 }
 
 /// Opens a link to each device of a world, in configured order, each as rough as asked for, by chances of its own.
-fn open_all<L: Link + Drop, S: Wires<L>>(
+fn open_all<B: Bank + Drop, L: Link + Drop, S: Wires<L>>(
     alloc: Global,
-    world: &World<'_, MemBank>,
+    world: &World<'_, B>,
     folder: &str,
     roughness: Roughness,
     wires: &mut S,
@@ -77,9 +77,9 @@ fn open_all<L: Link + Drop, S: Wires<L>>(
 }
 
 /// Writes the report of a world in a form.
-fn write_report<W: Write + Drop>(
+fn write_report<B: Bank + Drop, W: Write + Drop>(
     alloc: Global,
-    world: &World<'_, MemBank>,
+    world: &World<'_, B>,
     form: Form,
     output: &mut Output<W>,
 ) -> Result<(), RunFault>
@@ -150,7 +150,7 @@ pub(crate) fn begin_apart<F: Files, V: Watch>(
 }
 
 /// The first device whose link has failed.
-fn lost_device<L: Link>(world: &World<'_, MemBank>, links: &[L]) -> Option<u8>
+fn lost_device<B: Bank + Drop, L: Link>(world: &World<'_, B>, links: &[L]) -> Option<u8>
     ensures lost { IfSome result (λ device. IsLost world.now (map (λ l. (L.tally l).failures) links.now) device) }
     ensures none { result ≡ None → length links.now ≡ length world.now.sites → AllByRecursion (λ n. n ≡ 0) (map (λ l. (L.tally l).failures) links.now) }
 {
@@ -166,7 +166,7 @@ fn lost_device<L: Link>(world: &World<'_, MemBank>, links: &[L]) -> Option<u8>
 }
 
 /// Tells what looks on of the first device whose link has failed, if one has.
-fn lose_failed<L: Link, V: Watch>(world: &World<'_, MemBank>, links: &[L], watch: &mut V)
+fn lose_failed<B: Bank + Drop, L: Link, V: Watch>(world: &World<'_, B>, links: &[L], watch: &mut V)
     ensures seen { (V.watched watch.new).seen ≡ (V.watched watch.old).seen }
     ensures lost { length links.now ≡ length world.now.sites → AllByRecursion (λ n. n ≡ 0) (map (λ l. (L.tally l).failures) links.now) ⊎ NamesLost world.now (V.watched watch.new).lost }
     ensures fault { (V.watched watch.new).fault ≡ (V.watched watch.old).fault }
@@ -183,9 +183,9 @@ fn lose_failed<L: Link, V: Watch>(world: &World<'_, MemBank>, links: &[L], watch
 ///
 /// # Errors
 /// That of the update, and else what ends the watch.
-fn update_told<L: Link, V: Watch>(
+fn update_told<B: Bank + Drop, L: Link, V: Watch>(
     alloc: Global,
-    world: &mut World<'_, MemBank>,
+    world: &mut World<'_, B>,
     number: usize,
     links: &mut [L],
     watch: &mut V,
@@ -216,9 +216,9 @@ fn update_told<L: Link, V: Watch>(
 }
 
 /// Updates each device of a new world with the package of this number over a link of its own, and writes the report of what that leaves.
-fn update_over<L: Link + Drop, S: Wires<L>, V: Watch, W: Write + Drop>(
+fn update_over<B: Bank + Drop, L: Link + Drop, S: Wires<L>, V: Watch, W: Write + Drop>(
     alloc: Global,
-    world: &mut World<'_, MemBank>,
+    world: &mut World<'_, B>,
     number: usize,
     folder: &str,
     roughness: Roughness,

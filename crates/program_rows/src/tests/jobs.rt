@@ -3,7 +3,7 @@
 ghost use Rattle.std.specs.Prelude.{◌≡◌, Err, IfErr, IfSome, None, OnOk, Some, is_some, true};
 ghost use Rattle.fwupd_jobs.specs.Setups.{any_file};
 
-use fd_core::MemBank;
+use fd_core::Bank;
 use fw_edge::{Link, MemLink, Roughness, StreamLink};
 use fw_world::{Step, World};
 use fwupd_base::Form;
@@ -203,7 +203,7 @@ impl Watch for Counter {
         self.outcome()
     }
 
-    fn see(&mut self, _world: &World<'_, MemBank>) -> Result<(), WatchFault> {
+    fn see<B: Bank + Drop>(&mut self, _world: &World<'_, B>) -> Result<(), WatchFault> {
         self.turns = self.turns.saturating_add(1);
         if self.turns == self.broken && self.fault.is_none() {
             self.fault = Some(WatchFault::Unwritten);
@@ -215,7 +215,7 @@ impl Watch for Counter {
         self.lost = Some(device);
     }
 
-    fn end(&mut self, _world: &World<'_, MemBank>) -> Result<(), WatchFault> {
+    fn end<B: Bank + Drop>(&mut self, _world: &World<'_, B>) -> Result<(), WatchFault> {
         self.has_ended = true;
         self.outcome()
     }
