@@ -20,6 +20,7 @@ recorded() {
         compare "a recording into $name" 'fwupd: record' "$(cd "$folder" && fwupd run --record "$name" one.config . 2>&1)"
     done
     compare 'a recording into the trace' 'fwupd: record' "$(cd "$folder" && fwupd run --trace kept --record ./kept one.config . 2>&1)"
+    compare 'a recording into the log' 'fwupd: record' "$(cd "$folder" && fwupd run --sel kept --record ./kept one.config . 2>&1)"
     compare 'what was read stays' "$before" "$(cd "$folder" && cksum one.config data/one.fwpkg)"
     for name in '--loss 101' '--duplicate 101' '--delay 9' '--loss -1' '--seed x'; do
         holds "cd '$folder' && fwupd run $name one.config . 2>&1" 2 'error: '

@@ -52,8 +52,8 @@ runs() {
     row '' "1||fwupd: $work/none: unreadable" run "$work/none" "$work/folder"
 }
 
-# Traces that would be written over a file which is read, by whatever name: each is refused, makes no socket and empties nothing. No
-# trace is made of a run whose files aren't there.
+# Traces and logs that would be written over a file which is read, by whatever name, and logs over the trace: each is refused, makes no
+# socket and empties nothing. No trace is made of a run whose files aren't there.
 traces() {
     local name before folder=$work/traced
     mkdir -p "$folder/data"
@@ -77,6 +77,10 @@ traces() {
         compare "a replay's log into $name" 'fwupd: sel' "$(cd "$folder" && fwupd replay --sel "$name" one.config steps 2>&1)"
         compare "the files beside them" "$before tick" "$(cd "$folder" && cksum one.config data/one.fwpkg) $(< "$folder/steps")"
     done
+    echo kept > "$folder/both"
+    compare "a log into the trace" 'fwupd: sel kept' "$(cd "$folder" && fwupd run --trace both --sel ./both one.config . 2>&1) $(< "$folder/both")"
+    compare "a replay's log into its trace" 'fwupd: sel kept' \
+        "$(cd "$folder" && fwupd replay --trace both --sel ./both one.config steps 2>&1) $(< "$folder/both")"
     row '' '1||fwupd: package: none' run --trace "$work/early" "$work/bare" "$work/folder"
     row '' "1||fwupd: $work/none: unreadable" run --trace "$work/early" "$work/none" "$work/folder"
     compare 'no trace is made' '' "$(ls "$work/early" 2> "$work/err")"

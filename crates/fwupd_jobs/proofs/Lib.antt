@@ -12,3 +12,4 @@ mod Seen
 mod Started
 mod Told
 mod Traced
+mod Turns

@@ -164,23 +164,27 @@ pub record WatchOf : Type 0 where
   pub lost : Option ℕ
   pub recording : Option RecordingOf
 
--- A file that is written, if one is, is over one of these, or over another that is written; and it is over none.
-abbrev pub IsOverUsed : (files : List ℕ → FileOf) (path other : Option (List ℕ)) (paths : List (List ℕ)) → Type 0
-IsOverUsed files path other paths = IsSomeAnd path (λ p. IsOverOne files p paths ⊎ IsSomeAnd other (IsOver files p))
+-- A file that is written, if one is, is over one of these, or over one of two others that are written; and it is over none.
+abbrev pub IsOverUsed : (files : List ℕ → FileOf) (path first second : Option (List ℕ)) (paths : List (List ℕ)) → Type 0
+IsOverUsed files path first second paths =
+    IsSomeAnd path (λ p. IsOverOne files p paths ⊎ (IsSomeAnd first (IsOver files p) ⊎ IsSomeAnd second (IsOver files p)))
 
-abbrev pub IsApartFromUsed : (files : List ℕ → FileOf) (path other : Option (List ℕ)) (paths : List (List ℕ)) → Type 0
-IsApartFromUsed files path other paths = IfSome path (λ p. AllByRecursion (IsApartFrom files p) paths × IfSome other (IsApartFrom files p))
+abbrev pub IsApartFromUsed : (files : List ℕ → FileOf) (path first second : Option (List ℕ)) (paths : List (List ℕ)) → Type 0
+IsApartFromUsed files path first second paths =
+    IfSome path (λ p. AllByRecursion (IsApartFrom files p) paths × (IfSome first (IsApartFrom files p) × IfSome second (IsApartFrom files p)))
 
--- Nothing is written over the files of these paths, and the steps not over the packets.
+-- Nothing is written over the files of these paths; the log's records not over the packets, and the steps over neither.
 abbrev pub IsApart : (files : List ℕ → FileOf) → ShowOf → List (List ℕ) → Type 0
 IsApart files show paths =
-    IsApartFromUsed files show.trace None paths × (IsApartFromUsed files show.log None paths × IsApartFromUsed files show.record_path show.trace paths)
+    IsApartFromUsed files show.trace None None paths
+    × (IsApartFromUsed files show.log show.trace None paths × IsApartFromUsed files show.record_path show.trace show.log paths)
 
--- The file that what looks on can't write, where that is told, would be written over one of these, or the steps over the packets.
+-- The file that what looks on can't write, where that is told, would be written over one of these; or the log's records over the
+-- packets, or the steps over one of both.
 abbrev pub IsOverRead : (files : List ℕ → FileOf) → ShowOf → List (List ℕ) → RunFault → Type 0
-IsOverRead files show paths faults.Trace = IsOverUsed files show.trace None paths
-IsOverRead files show paths faults.Log = IsOverUsed files show.log None paths
-IsOverRead files show paths faults.Record = IsOverUsed files show.record_path show.trace paths
+IsOverRead files show paths faults.Trace = IsOverUsed files show.trace None None paths
+IsOverRead files show paths faults.Log = IsOverUsed files show.log show.trace None paths
+IsOverRead files show paths faults.Record = IsOverUsed files show.record_path show.trace show.log paths
 IsOverRead files show paths told = ⊥
 
 -- Or that file may be refused.

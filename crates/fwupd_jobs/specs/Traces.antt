@@ -1,9 +1,11 @@
 -- What a trace says of the packets of a world.
-use Rattle.std.specs.Prelude.{ℕ, zero, suc, ◌+◌, ◌==◌, not, Bool, false, if◌then◌else◌, List, [], ◌∷◌, ◌++◌, Option, None, Some, codes, drop, length, map, slice_get}
+use Rattle.std.specs.Prelude.{ℕ, zero, suc, ◌≡◌, ◌<◌, ◌+◌, ◌==◌, not, Bool, false, if◌then◌else◌, List, [], ◌∷◌, ◌++◌, Option, None, Some, codes, drop, length, map, slice_get, take}
+use Rattle.std.specs.Io.KnownBytes.{Appends}
 use Rattle.exch_lane.specs.Lanes.{Sent}
+use Rattle.fw_edge.specs.Ledgers.{packet_counts}
 use Rattle.fw_text.specs.Printing.{numbered}
 use Rattle.fw_trace.specs.Captures.{CapturedOf, capture_header, capture_record}
-use Rattle.fw_trace.specs.Lines.{ReaderOf, new_reader, packet_line, reader_after}
+use Rattle.fw_trace.specs.Lines.{ReaderOf, SentOf, lines_of, new_reader, packet_line, reader_after}
 use Rattle.fw_world.specs.Worlds.{SiteOf, WorldOf}
 use Rattle.fwupd_words.specs.declared.asked.TraceForm.{TraceForm}
 use Rattle.fwupd_words.specs.declared.asked.TraceForm.TheVariants as forms
@@ -60,6 +62,7 @@ abbrev pub pair_text : TraceForm → Option ReaderOf → Option SiteOf → (writ
 pair_text form (Some reader) (Some x) written = trace_text form reader x.node.endpoint.eid (written + 1) (drop written x.packets)
 pair_text form reader site written = []
 
+-- and the reader that has read those too
 abbrev pub reader_of_pair : TraceForm → ReaderOf → Option SiteOf → (written : ℕ) → ReaderOf
 reader_of_pair form reader None written = reader
 reader_of_pair form reader (Some x) written = reader_past form reader (drop written x.packets)
@@ -83,3 +86,83 @@ written_at written place = or_none (slice_get written place)
 abbrev pub pairs_text : TraceForm → List ReaderOf → (written : List ℕ) → List SiteOf → ℕ → List ℕ
 pairs_text form readers written sites zero = []
 pairs_text form readers written sites (suc n) = pairs_text form readers written sites n ++ pair_text form (slice_get readers n) (slice_get sites n) (written_at written n)
+
+-- The readers of the first so many pairs have read the packets behind those that are written.
+pub record ReadOn (form : TraceForm) (written : List ℕ) (sites : List SiteOf) (count : ℕ) (old new : List ReaderOf) : Type 0 where
+  pub size : length new ≡ length old
+  pub each : (place : ℕ) (r : ReaderOf) → place < count → slice_get old place ≡ Some r → slice_get new place ≡ Some (reader_of_pair form r (slice_get sites place) (written_at written place))
+
+-- a new reader that has read the first so many packets of a pair, each once and in order
+abbrev pub reader_behind : TraceForm → WorldOf → SiteOf → (read : ℕ) → ReaderOf
+reader_behind form w x read = reader_past form (reader_for w x) (take read x.packets)
+
+-- Each pair has such a reader, which has read the packets that are written.
+pub record AreReaders (form : TraceForm) (w : WorldOf) (written : List ℕ) (readers : List ReaderOf) : Type 0 where
+  pub size : length readers ≡ length w.sites
+  pub each : (place : ℕ) (x : SiteOf) → slice_get w.sites place ≡ Some x → slice_get readers place ≡ Some (reader_behind form w x (written_at written place))
+
+-- the lines of a pair's packets behind so many: each has its number among all of the pair, and tells what it says behind all of them
+abbrev pub pair_news : TraceForm → WorldOf → Option SiteOf → (written : ℕ) → List ℕ
+pair_news form w None written = []
+pair_news form w (Some x) written = trace_text form (reader_behind form w x written) x.node.endpoint.eid (written + 1) (drop written x.packets)
+
+-- those of the first so many pairs, in configured order
+abbrev pub news_text : TraceForm → WorldOf → (written : List ℕ) → ℕ → List ℕ
+news_text form w written zero = []
+news_text form w written (suc n) = news_text form w written n ++ pair_news form w (slice_get w.sites n) (written_at written n)
+
+-- how many packets of each pair the last of these worlds has, which stands first
+abbrev pub counts_of : List WorldOf → List ℕ
+counts_of [] = []
+counts_of (w ∷ ws) = packet_counts w.sites
+
+-- What a trace is that has seen these worlds, the last one first: its head, and then for each world in its turn the lines of the
+-- packets that the one before it didn't have.
+abbrev pub trace_of : TraceForm → List WorldOf → List ℕ
+trace_of form [] = head_of form
+trace_of form (w ∷ ws) = trace_of form ws ++ news_text form w (counts_of ws) (length w.sites)
+
+-- A pair goes on from what it was: its ends are the same, and its packets stand first.
+pub record PairGoesOn (x y : SiteOf) : Type 0 where
+  pub unit : y.node.half.unit ≡ x.node.half.unit
+  pub eid : y.node.endpoint.eid ≡ x.node.endpoint.eid
+  pub packets : take (length x.packets) y.packets ≡ x.packets
+
+-- So does each pair of a world.
+pub record GoesOn (v w : WorldOf) : Type 0 where
+  pub agent : w.agent.endpoint.eid ≡ v.agent.endpoint.eid
+  pub size : length w.sites ≡ length v.sites
+  pub each : (place : ℕ) (x y : SiteOf) → slice_get v.sites place ≡ Some x → slice_get w.sites place ≡ Some y → PairGoesOn x y
+
+abbrev pub GoesOnFrom : List WorldOf → WorldOf → Type 0
+GoesOnFrom [] w = Prim.Unit {0}
+GoesOnFrom (v ∷ vs) w = GoesOn v w
+
+-- the readers of a trace that has seen these worlds
+abbrev pub AreReadersOf : TraceForm → List WorldOf → List ReaderOf → Type 0
+AreReadersOf form [] readers = readers ≡ []
+AreReadersOf form (w ∷ ws) readers = AreReaders form w (packet_counts w.sites) readers
+
+-- A trace has seen these worlds, the last one first: so many packets of each pair are written, and its reader has read them.
+pub record HasRead (form : TraceForm) (seen : List WorldOf) (written : List ℕ) (readers : List ReaderOf) : Type 0 where
+  pub counts : written ≡ counts_of seen
+  pub readers_are : AreReadersOf form seen readers
+
+-- And what it has written is the lines of the packets that were sent so far.
+pub record HasTraced (form : TraceForm) (seen : List WorldOf) (written : List ℕ) (readers : List ReaderOf) (before now : Option (List ℕ)) : Type 0 where
+  pub read : HasRead form seen written readers
+  pub text : Appends before now (trace_of form seen)
+
+-- each of these worlds goes on from the one before it, which stands behind it
+abbrev pub GoOn : List WorldOf → Type 0
+GoOn [] = Prim.Unit {0}
+GoOn (w ∷ ws) = GoesOnFrom ws w × GoOn ws
+
+-- a packet as a reader is given it
+abbrev pub read_as : Sent → SentOf
+read_as p = record { turn = p.date; bytes = p.bytes }
+
+-- A text trace that has seen a world of one device is the lines of all its packets, from the first on.
+abbrev pub TextsAreLines : Type 0
+TextsAreLines = (w : WorldOf) (before : List WorldOf) (x : SiteOf) → w.sites ≡ x ∷ [] → GoOn (w ∷ before)
+    → trace_of forms.Text (w ∷ before) ≡ lines_of (reader_for w x) 1 (map read_as x.packets)

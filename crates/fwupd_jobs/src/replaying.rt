@@ -120,7 +120,7 @@ pub fn replayed<'a, V: Watch>(
     })
 }
 
-/// Lets what looks on begin, where what it shows isn't written over a file that was read.
+/// Lets what looks on begin, where what it shows isn't written over a file that was read, nor over another that it writes.
 fn begin_replay<F: Files, V: Watch>(
     files: &F,
     config: &str,
@@ -156,7 +156,8 @@ fn begin_replay<F: Files, V: Watch>(
 ///
 /// # Errors
 /// The first fault, in this order: of the configuration's file, of the packages that it names, one after the other, and of the
-/// schedule's file; `Trace`, `Log` or `Record` where what looks on can't begin, or would write over one of these files. `Step` where a step isn't
+/// schedule's file; `Trace`, `Log` or `Record` where what looks on can't begin, or would write over one of these files or over
+/// another of its own. `Step` where a step isn't
 /// taken, whose number counts from 1: the report is then of the world before it. `Trace`, `Log` or `Record` where what looked on couldn't write:
 /// the report is written all the same. `Output` where the report isn't written whole: a beginning of it may be. `Memory` where memory
 /// is refused: nothing is written then, unless it was what looked on that lacked it.

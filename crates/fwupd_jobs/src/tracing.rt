@@ -1,12 +1,13 @@
 //! The packets of a run, written as they go out.
 
-ghost use Rattle.std.specs.Prelude.{◌≡◌, ◌<◌, ◌≤◌, ◌⊎◌, ◌+◌, ◌^◌, [], Some, IfErr, IfOk, IfSome, OnOk, length, slice_get};
+ghost use Rattle.std.specs.Prelude.{◌≡◌, ◌<◌, ◌≤◌, ◌⊎◌, ◌+◌, ◌^◌, ◌∷◌, [], List, Option, Some, IfErr, IfOk, IfSome, OnOk, length, slice_get, ℕ};
 ghost use Rattle.std.specs.Io.Buffered.{writer_buffer, writer_contents};
 ghost use Rattle.std.specs.Io.KnownBytes.{Appends, Keeps};
 ghost use Rattle.fw_edge.specs.Ledgers.{packet_counts};
 ghost use Rattle.fw_text.specs.Printing.{Adds};
 ghost use Rattle.fw_world.specs.Packets.{sent_of};
-ghost use Rattle.fwupd_jobs.specs.Traces.{head_of, is_to_agent, packet_text, pair_text, pairs_text, reader_next, reader_of_pair, reader_past, readers_for, trace_line, trace_text, way_of, written_at as written_of};
+ghost use Rattle.fw_world.specs.Worlds.{WorldOf};
+ghost use Rattle.fwupd_jobs.specs.Traces.{GoesOnFrom, HasRead, HasTraced, ReadOn, head_of, is_to_agent, packet_text, pair_text, pairs_text, reader_next, reader_of_pair, reader_past, readers_for, trace_line, trace_text, way_of, written_at as written_of};
 
 use crate::running::WatchFault;
 use arrayvec::ArrayVec;
@@ -179,7 +180,8 @@ fn written_at(written: &[usize], place: usize) -> usize
     }
 }
 
-/// Writes the packets of each pair behind those that are written, and gives how many there are of each.
+/// Writes the packets of each pair behind those that are written, and gives how many there are of each. Each reader reads its pair's.
+#[tactic(auto, using(crate::proofs::Turns::reading))]
 fn write_pairs<B: Bank + Drop, W: Write>(
     alloc: Global,
     form: TraceForm,
@@ -191,6 +193,7 @@ fn write_pairs<B: Bank + Drop, W: Write>(
     requires { length world.now.sites ≤ length readers.old }
     ensures lines { OnOk result (Appends (W.contents writer.old) (W.contents writer.new) (pairs_text form readers.old written.now world.now.sites (length world.now.sites))) }
     ensures counts { IfOk result (λ counts. counts.items ≡ packet_counts world.now.sites) }
+    ensures read { OnOk result (ReadOn form written.now world.now.sites (length world.now.sites) readers.old readers.new) }
 {
     let mut counts = ArrayVec::new();
     for place in 0..world.device_count() {
@@ -237,6 +240,7 @@ impl<W: Write + Drop> Trace<W> {
         ensures unread { IfOk result (λ t. t.readers.items ≡ []) }
         ensures form { IfOk result (λ t. t.form ≡ form) }
         ensures head { IfOk result (λ t. Appends (W.contents writer) (writer_contents W.contents t.writer) (head_of form)) }
+        ensures traced { IfOk result (λ t. HasTraced form [] t.written.items t.readers.items (W.contents writer) (writer_contents W.contents t.writer)) }
         ensures fault { IfErr result (λ e. (e ≡ WatchFault.Memory) ⊎ (e ≡ WatchFault.Unwritten)) }
     {
         let Ok(mut writer) = BufWriter::new(alloc, writer) else {
@@ -255,7 +259,8 @@ impl<W: Write + Drop> Trace<W> {
         })
     }
 
-    /// Writes the packets that a turn sent: those of each pair that aren't written yet.
+    /// Writes the packets that a turn sent: those of each pair that aren't written yet. What is written then is the lines of the
+    /// packets that were sent so far, if each world that it is given goes on from the one before.
     ///
     /// # Errors
     /// They can't be written, or memory for their lines is refused.
@@ -263,6 +268,11 @@ impl<W: Write + Drop> Trace<W> {
         ensures lines { OnOk result (Appends (writer_contents W.contents self.old.writer) (writer_contents W.contents self.new.writer)
             (pairs_text self.old.form (readers_for self.old.readers.items world.now) self.old.written.items world.now.sites (length world.now.sites))) }
         ensures counts { OnOk result (self.new.written.items ≡ packet_counts world.now.sites) }
+        ensures read { OnOk result ((seen : List WorldOf) → HasRead self.old.form seen self.old.written.items self.old.readers.items → GoesOnFrom seen world.now
+            → HasRead self.old.form (world.now ∷ seen) self.new.written.items self.new.readers.items) }
+        ensures traced { OnOk result ((seen : List WorldOf) (before : Option (List ℕ))
+            → HasTraced self.old.form seen self.old.written.items self.old.readers.items before (writer_contents W.contents self.old.writer) → GoesOnFrom seen world.now
+            → HasTraced self.old.form (world.now ∷ seen) self.new.written.items self.new.readers.items before (writer_contents W.contents self.new.writer)) }
         ensures form { self.new.form ≡ self.old.form }
     {
         if add_readers(world, &mut self.readers).is_err() {

@@ -1,10 +1,11 @@
 //! Updating the devices of a configuration.
 
-ghost use Rattle.std.specs.Prelude.{◌≡◌, ◌∷◌, ◌⊎◌, Bool, false, IfErr, IfOk, IfSome, List, None, OnOk, length, map, option_map, string_bytes, true, ℕ};
+ghost use Rattle.std.specs.Prelude.{◌≡◌, ◌∷◌, ◌⊎◌, Bool, false, IfErr, IfOk, IfSome, IsSomeAnd, List, None, OnOk, length, map, option_map, string_bytes, true, ℕ};
 ghost use Rattle.std.specs.List.{AllByRecursion};
 ghost use Rattle.fw_json.specs.Forms.{report_in};
 ghost use Rattle.fwupd_jobs.specs.Outputs.{FailsToPrint, Prints};
 ghost use Rattle.fwupd_jobs.specs.Sessions.{undone_in};
+ghost use Rattle.fwupd_jobs.specs.Setups.{IsApartFrom, IsOver};
 ghost use Rattle.fwupd_jobs.specs.Recordings.{IsNew, IsRecorded};
 ghost use Rattle.fwupd_jobs.specs.Running.{AreLinked, AreToldOf, DrivingEnds, IsApart, IsApartFromUsed, IsBarred, IsCaused, IsLost, IsOverUsed, IsUnlinked, IsUnwritten, IsUpdated, NamesLost, ReportsUpdate, StepsLead, StepsSeen, UpdateEnds, Updates, show_of, shown_of};
 
@@ -95,16 +96,28 @@ fn write_report<B: Bank + Drop, W: Write + Drop>(
     }
 }
 
-/// Whether a file that is to be written, if one is, is one of those that a run reads, or another that it writes.
+/// Whether the file of a path is another that a run writes, if it writes that.
+fn is_written<F: Files>(files: &F, path: &str, other: Option<&str>) -> bool
+    ensures over { result ≡ true → IsSomeAnd (option_map (λ p. p.now) other.entry) (IsOver (F.holds files.now) path.now) }
+    ensures apart { result ≡ false → IfSome (option_map (λ p. p.now) other.entry) (IsApartFrom (F.holds files.now) path.now) }
+{
+    match other {
+        Some(other) => is_same_file(files, other, path),
+        None => false,
+    }
+}
+
+/// Whether a file that is to be written, if one is, is one of those that a run reads, or one of two others that it writes.
 fn is_over<F: Files>(
     files: &F,
     path: Option<&str>,
-    other: Option<&str>,
+    first: Option<&str>,
+    second: Option<&str>,
     config: &str,
     packages: &[String],
 ) -> bool
-    ensures over { result ≡ true → IsOverUsed (F.holds files.now) (option_map (λ p. p.now) path.entry) (option_map (λ p. p.now) other.entry) (config.now ∷ map (λ p. string_bytes p) packages.now) }
-    ensures apart { result ≡ false → IsApartFromUsed (F.holds files.now) (option_map (λ p. p.now) path.entry) (option_map (λ p. p.now) other.entry) (config.now ∷ map (λ p. string_bytes p) packages.now) }
+    ensures over { result ≡ true → IsOverUsed (F.holds files.now) (option_map (λ p. p.now) path.entry) (option_map (λ p. p.now) first.entry) (option_map (λ p. p.now) second.entry) (config.now ∷ map (λ p. string_bytes p) packages.now) }
+    ensures apart { result ≡ false → IsApartFromUsed (F.holds files.now) (option_map (λ p. p.now) path.entry) (option_map (λ p. p.now) first.entry) (option_map (λ p. p.now) second.entry) (config.now ∷ map (λ p. string_bytes p) packages.now) }
 {
     let Some(path) = path else {
         return false;
@@ -112,13 +125,14 @@ fn is_over<F: Files>(
     if is_read(files, path, config, packages) {
         return true;
     }
-    match other {
-        Some(other) => is_same_file(files, other, path),
-        None => false,
+    if is_written(files, path, first) {
+        return true;
     }
+    is_written(files, path, second)
 }
 
-/// Lets what looks on begin, where what it shows isn't written over a file that was read, nor the steps over the packets.
+/// Lets what looks on begin, where what it shows isn't written over a file that was read; nor the log's records over the packets, nor
+/// the steps over one of both.
 pub(crate) fn begin_apart<F: Files, V: Watch>(
     files: &F,
     config: &str,
@@ -134,13 +148,13 @@ pub(crate) fn begin_apart<F: Files, V: Watch>(
     ensures fault { IfErr result (λ e. (e ≡ RunFault.Memory)
         ⊎ IsBarred (F.holds files.now) (V.refuses watch.old) (show_of show.entry) (config.now ∷ map (λ p. string_bytes p) packages.now) e (V.watched watch.new)) }
 {
-    if is_over(files, show.trace, None, config, packages) {
+    if is_over(files, show.trace, None, None, config, packages) {
         return Err(RunFault::Trace);
     }
-    if is_over(files, show.log, None, config, packages) {
+    if is_over(files, show.log, show.trace, None, config, packages) {
         return Err(RunFault::Log);
     }
-    if is_over(files, show.record, show.trace, config, packages) {
+    if is_over(files, show.record, show.trace, show.log, config, packages) {
         return Err(RunFault::Record);
     }
     match watch.begin(show) {
@@ -268,10 +282,10 @@ fn update_over<B: Bank + Drop, L: Link + Drop, S: Wires<L>, V: Watch, W: Write +
 ///
 /// # Errors
 /// The first fault, in this order: of the configuration's file; `NoPackage` where it names no package of this number; of the packages that it
-/// names, one after the other; `Trace`, `Log` or `Record` where what looks on can't begin, or would write over one of these files; `Socket` where a link isn't opened. `Edge` where a link
-/// failed or the clock stands at its end, and `Trace`, `Log` or `Record` where what looks on can't write: the report is then of the world that was
-/// reached. `Output` where the report isn't written whole: a beginning of it may be. `Memory` where memory is refused: nothing is
-/// written then.
+/// names, one after the other; `Trace`, `Log` or `Record` where what looks on can't begin, or would write over one of these files or another
+/// of its own; `Socket` where a link isn't opened. `Edge` where a link failed or the clock stands at its end, and `Trace`, `Log` or `Record`
+/// where what looks on can't write: the report is then of the world that was reached. `Output` where the report isn't written whole: a
+/// beginning of it may be. `Memory` where memory is refused: nothing is written then.
 pub fn update_files<F: Files, L: Link + Drop, S: Wires<L>, V: Watch, W: Write + Drop>(
     alloc: Global,
     files: &F,

@@ -3,6 +3,7 @@ use Rattle.std.specs.Prelude.{slice_get}
 use Rattle.std.proofs.lemmas.List.{length-set}
 use Rattle.std.proofs.lemmas.Option.{slice_get_read}
 use Rattle.fwupd_jobs.proofs.Traced.{counts_more, others_kept, pairs_more, reader_kept}
+use Rattle.fwupd_jobs.proofs.Turns.{read_more}
 use Rattle.fwupd_jobs.proofs.tracing.write_pairs.Goals as goal
 
 pub loop-place-preserved : goal.loop-place-preserved
@@ -21,4 +22,7 @@ loop-place-preserved g c =
       few = search rules;
       readers = others_kept c.loop-place.place c.loop-place.readers c.args.readers.now c.write_pair.new.reader c.loop-place.invariant.readers;
       size = length-set c.loop-place.readers c.loop-place.place c.write_pair.new.reader ∙ c.loop-place.invariant.size;
+      read =
+          read_more c.args.form c.args.written.now c.args.world.now.sites c.loop-place.place c.args.readers.now c.loop-place.readers x c.write_pair.new.reader c.loop-place.invariant.read reader
+          (rw (sym c.written_at.ensures) c.in-Ok.ensures.read) lt;
     }
