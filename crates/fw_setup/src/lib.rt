@@ -1,14 +1,16 @@
 //! What a configuration comes to: the world that it opens, and what an update of its devices would do.
 #![tactic(auto)]
 
+mod banks;
 mod forecast_laws;
 mod forecast_text;
 mod foretold;
 mod nodes;
 
+pub use banks::{Banks, BanksFault, MemBanks, mem_bank};
 pub use forecast_laws::foretells_sessions;
 pub use forecast_text::{forecast, known};
 pub use foretold::{
     component_word, first_lacked, key, passed, plan_word, running, sent_stamp, update_word,
 };
-pub use nodes::opening_world;
+pub use nodes::{opening_world, opening_world_over};

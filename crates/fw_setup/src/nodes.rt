@@ -1,42 +1,24 @@
 //! Builds the nodes that a configuration describes.
 
-ghost use Rattle.std.specs.Prelude.{◌≡◌, ◌≤◌, [], IfOk, length, map};
+ghost use Rattle.std.specs.Prelude.{◌≡◌, ◌≤◌, IfOk, length, map};
 ghost use Rattle.std.specs.List.{AllByRecursion};
-ghost use Rattle.fd_core.specs.Banks.{AreApart};
 ghost use Rattle.fd_core.specs.Components.{HasComponents};
-ghost use Rattle.fd_core.specs.Images.{key_of};
 ghost use Rattle.fw_script.specs.Seen.{component_of, device_of};
-ghost use Rattle.fw_script.specs.Whole.{AreNew, AreWhole, IsDevice, keys_of};
+ghost use Rattle.fw_script.specs.Whole.{AreWhole, IsDevice};
 ghost use Rattle.fw_world.specs.Headline.{AreNewNodes, IsNewNode, IsOpeningWorld, new_world};
-ghost use Rattle.fw_setup.specs.Nodes.{device_made, node_made, nodes_made, row_made};
+ghost use Rattle.fw_setup.specs.Nodes.{device_made, node_made, nodes_made};
 
+use crate::banks::{Banks, BanksFault, MemBanks};
 use arrayvec::ArrayVec;
-use fd_core::{Component, Device, MAX_COMPONENTS, MemBank};
+use fd_core::{Bank, Component, Device, MAX_COMPONENTS, MemBank};
 use fw_node::DeviceNode;
 use fw_package::Package;
 use fw_script::{ComponentConfig, DeviceConfig};
 use fw_world::World;
+use fwup_wire::DescriptorList;
 use mctp_ctl::Endpoint;
 use mctp_wire::Unit;
 use std::alloc::{AllocError, Global};
-
-/// A bank of these components, each with the image that runs.
-fn bank(alloc: Global, components: Vec<ComponentConfig>) -> Result<MemBank, AllocError>
-    requires { AreNew [] (keys_of (map component_of components.items)) }
-    ensures rows { IfOk result (λ b. b.rows ≡ map row_made (map component_of components.items)) }
-    ensures apart { IfOk result (λ b. AreApart (map key_of b.rows)) }
-    ensures faults { IfOk result (λ b. b.faults ≡ 0) }
-{
-    let mut components = components;
-    let mut bank = MemBank::new(alloc);
-    while !components.is_empty() {
-        let config = components.remove(0);
-        let Ok(()) = bank.add(config.component.key, &config.label, &config.image) else {
-            return Err(AllocError);
-        };
-    }
-    Ok(bank)
-}
 
 /// The list of these components.
 fn component_list(components: &[ComponentConfig]) -> ArrayVec<Component, MAX_COMPONENTS>
@@ -50,52 +32,70 @@ fn component_list(components: &[ComponentConfig]) -> ArrayVec<Component, MAX_COM
     list
 }
 
+/// The same descriptors.
+fn same_descriptors(descriptors: &DescriptorList) -> DescriptorList
+    ensures { result ≡ descriptors.now }
+{
+    let _room = descriptors.room();
+    let mut same = DescriptorList::new();
+    for descriptor in descriptors.lent() {
+        same.push(&descriptor);
+    }
+    same
+}
+
 /// A device as it is configured, in a network with this transmission unit, before its first command.
 #[tactic(auto, using(crate::proofs::Making::keys_made))]
-fn device(alloc: Global, unit: Unit, config: DeviceConfig) -> Result<Device<MemBank>, AllocError>
-    requires { IsDevice (device_of config) }
-    ensures is { IfOk result (λ d. d ≡ device_made unit (device_of config)) }
+fn device<B: Bank + Drop, M: Banks<B>>(
+    alloc: Global,
+    unit: Unit,
+    config: &DeviceConfig,
+    banks: &mut M,
+) -> Result<Device<B>, BanksFault>
+    requires { IsDevice (device_of config.now) }
+    ensures is { IfOk result (λ d. d ≡ device_made unit (device_of config.now)) }
     ensures components { IfOk result (λ d. HasComponents d.device) }
 {
     let components = component_list(config.components.as_slice());
-    let bank = bank(alloc, config.components)?;
-    Ok(Device::new(unit, config.descriptors, components, bank))
+    let descriptors = same_descriptors(&config.descriptors);
+    let bank = banks.make(alloc, config.endpoint.eid, config.components.as_slice())?;
+    Ok(Device::new(unit, descriptors, components, bank))
 }
 
 /// The node of a device as it is configured, before its first packet.
 #[tactic(auto, using(crate::proofs::Making::new_made))]
-fn node(
+fn node<B: Bank + Drop, M: Banks<B>>(
     alloc: Global,
     unit: Unit,
     agent: u8,
-    config: DeviceConfig,
-) -> Result<DeviceNode<MemBank>, AllocError>
-    requires { IsDevice (device_of config) }
-    ensures is { IfOk result (λ n. n ≡ node_made unit agent (device_of config)) }
+    config: &DeviceConfig,
+    banks: &mut M,
+) -> Result<DeviceNode<B>, BanksFault>
+    requires { IsDevice (device_of config.now) }
+    ensures is { IfOk result (λ n. n ≡ node_made unit agent (device_of config.now)) }
     ensures new { IfOk result (IsNewNode unit agent) }
 {
-    let endpoint = config.endpoint;
-    let device = device(alloc, unit, config)?;
-    Ok(DeviceNode::new(endpoint, agent, device))
+    let device = device(alloc, unit, config, banks)?;
+    Ok(DeviceNode::new(config.endpoint, agent, device))
 }
 
-/// Puts the nodes of these devices behind others, in their order.
-fn node_all(
+/// The nodes of these devices, in their order.
+fn node_all<B: Bank + Drop, M: Banks<B>>(
     alloc: Global,
     unit: Unit,
     agent: u8,
-    devices: Vec<DeviceConfig>,
-) -> Result<Vec<DeviceNode<MemBank>>, AllocError>
-    requires { AllByRecursion IsDevice (map device_of devices.items) }
-    ensures is { IfOk result (λ ns. ns.items ≡ nodes_made unit agent (map device_of devices.items)) }
+    devices: &[DeviceConfig],
+    banks: &mut M,
+) -> Result<Vec<DeviceNode<B>>, BanksFault>
+    requires { AllByRecursion IsDevice (map device_of devices.now) }
+    ensures is { IfOk result (λ ns. ns.items ≡ nodes_made unit agent (map device_of devices.now)) }
     ensures new { IfOk result (λ ns. AllByRecursion (IsNewNode unit agent) ns.items) }
 {
-    let mut devices = devices;
     let mut nodes = Vec::new(alloc);
-    while !devices.is_empty() {
-        let node = node(alloc, unit, agent, devices.remove(0))?;
+    for config in devices {
+        let node = node(alloc, unit, agent, config, banks)?;
         let Ok(()) = nodes.push(node) else {
-            return Err(AllocError);
+            return Err(BanksFault::Memory);
         };
     }
     Ok(nodes)
@@ -104,25 +104,50 @@ fn node_all(
 /// The nodes of a configuration's devices, in their order, before their first packet.
 ///
 /// # Errors
-/// `AllocError` where memory for them or for their images is refused.
+/// A device's bank isn't made, or memory for the nodes is refused.
 #[tactic(auto, using(crate::proofs::Making::nodes_new))]
-fn nodes(
+fn nodes<B: Bank + Drop, M: Banks<B>>(
     alloc: Global,
     unit: Unit,
     agent: u8,
-    devices: Vec<DeviceConfig>,
-) -> Result<Vec<DeviceNode<MemBank>>, AllocError>
-    requires { AreWhole agent (map device_of devices.items) }
-    ensures is { IfOk result (λ ns. ns.items ≡ nodes_made unit agent (map device_of devices.items)) }
+    devices: &[DeviceConfig],
+    banks: &mut M,
+) -> Result<Vec<DeviceNode<B>>, BanksFault>
+    requires { AreWhole agent (map device_of devices.now) }
+    ensures is { IfOk result (λ ns. ns.items ≡ nodes_made unit agent (map device_of devices.now)) }
     ensures new { IfOk result (λ ns. AreNewNodes agent ns.items) }
 {
-    match node_all(alloc, unit, agent, devices) {
+    match node_all(alloc, unit, agent, devices, banks) {
         Ok(nodes) => Ok(nodes),
-        Err(error) => Err(error),
+        Err(fault) => Err(fault),
     }
 }
 
-/// The world of a configuration's nodes, in a network with its transmission unit, before its first step.
+/// The world of a configuration's nodes, in a network with its transmission unit, before its first step. Each device's bank is one of
+/// these.
+///
+/// # Errors
+/// A device's bank isn't made, or memory for the world is refused.
+pub fn opening_world_over<'a, B: Bank + Drop, M: Banks<B>>(
+    alloc: Global,
+    unit: Unit,
+    agent: Endpoint,
+    devices: &[DeviceConfig],
+    packages: &'a [Package<'a>],
+    banks: &mut M,
+) -> Result<World<'a, B>, BanksFault>
+    requires { AreWhole agent.eid (map device_of devices.now) }
+    ensures made { IfOk result (λ w. w ≡ new_world agent (nodes_made unit agent.eid (map device_of devices.now)) packages.now) }
+    ensures opens { IfOk result (λ w. IsOpeningWorld w) }
+{
+    let nodes = nodes(alloc, unit, agent.eid, devices, banks)?;
+    match World::new(alloc, agent, nodes, packages) {
+        Ok(world) => Ok(world),
+        Err(_) => Err(BanksFault::Memory),
+    }
+}
+
+/// The same over banks in memory.
 ///
 /// # Errors
 /// `AllocError` where memory for it is refused.
@@ -137,6 +162,8 @@ pub fn opening_world<'a>(
     ensures made { IfOk result (λ w. w ≡ new_world agent (nodes_made unit agent.eid (map device_of devices.items)) packages.now) }
     ensures opens { IfOk result (λ w. IsOpeningWorld w) }
 {
-    let nodes = nodes(alloc, unit, agent.eid, devices)?;
-    World::new(alloc, agent, nodes, packages)
+    match opening_world_over(alloc, unit, agent, &devices, packages, &mut MemBanks) {
+        Ok(world) => Ok(world),
+        Err(_) => Err(AllocError),
+    }
 }

@@ -8,6 +8,6 @@ use Rattle.fw_setup.proofs.Making.{new_made}
 use Rattle.fw_setup.proofs.nodes.node.Goals as goal
 
 pub returns-clause-new : goal.returns-clause-new
-returns-clause-new c =
-    let made = new_made c.args.unit c.args.agent (device_of c.args.config) c.requires (subst (λ (d : DeviceOf). HasComponents d.device) c.in_ok-device.ensures.is c.in_ok-device.ensures.components) in
-    subst (IsNewNode c.args.unit c.args.agent) (ap (new_device_node c.args.config.endpoint c.args.agent) (sym c.in_ok-device.ensures.is) ∙ sym c.new.ensures) made
+returns-clause-new g c =
+    let made = new_made c.args.unit c.args.agent (device_of c.args.config.now) c.requires (subst (λ (d : DeviceOf). HasComponents d.device) c.in_ok-device.ensures.is c.in_ok-device.ensures.components) in
+    subst (IsNewNode c.args.unit c.args.agent) (ap (new_device_node c.args.config.now.endpoint c.args.agent) (sym c.in_ok-device.ensures.is) ∙ sym c.new.ensures) made
