@@ -1,2 +1,3 @@
 mod Leading
-mod Making
+pub mod Making
+mod Rooms

@@ -1,9 +1,9 @@
 -- The nodes that are made of a configuration.
 use Rattle.mctp_wire.specs.declared.unit.Unit.{«Unit»}
-use Rattle.std.proofs.Common.{◌≡◌, ◌≤◌, ◌<◌, ◌∙◌, ◌++◌, ℕ, List, [], ◌∷◌, length, map, append_assoc, arith, ap, sym, subst, refl}
-use Rattle.std.specs.List.{AllByRecursion, remove, slice_index_or}
+use Rattle.std.proofs.Common.{◌≡◌, ◌≤◌, ◌<◌, ◌+◌, ◌∙◌, ◌++◌, ℕ, List, [], ◌∷◌, drop, get_or, length, map, take, append_assoc, arith, ap, sym, subst, refl}
+use Rattle.std.specs.List.{AllByRecursion}
 use Rattle.std.proofs.lemmas.List.Elements.{All-from_recursion}
-use Rattle.std.proofs.lemmas.List.{length-map, map-append}
+use Rattle.std.proofs.lemmas.List.{drop_more, length-map, map-append, take_more}
 use Rattle.fd_core.proofs.Rows.{apart_more}
 use Rattle.fd_core.specs.Banks.{AreApart}
 use Rattle.fd_core.specs.Components.{HasComponents}
@@ -13,8 +13,9 @@ use Rattle.fw_message.specs.Laws.{IsUnapplied}
 use Rattle.fw_node.specs.Nodes.{DeviceNodeOf}
 use Rattle.fw_script.specs.Configs.{ComponentConfigOf, DeviceConfigOf}
 use Rattle.fw_script.specs.Whole.{AreNew, AreWhole, IsDevice, eids_of, keys_of}
-use Rattle.fw_script.specs.Seen.{component_of}
+use Rattle.fw_script.specs.Seen.{component_of, device_of}
 use Rattle.fw_script.specs.declared.config.ComponentConfig.{ComponentConfig}
+use Rattle.fw_script.specs.declared.config.DeviceConfig.{DeviceConfig}
 use Rattle.fw_world.specs.Headline.{AreDifferent, AreNewNodes, IsNewNode, unit_of}
 use Rattle.fw_setup.specs.Nodes.{device_made, node_made, nodes_made, row_made}
 
@@ -61,11 +62,6 @@ nodes_new u agent xs ns h is new = record {
 pub rest_new : (rows : List RowOf) (row : RowOf) (keys : List Key) → AreNew (map key_of rows) (row.key ∷ keys) → AreNew (map key_of (rows ++ row ∷ [])) keys
 rest_new rows row keys h = subst (λ ks. AreNew ks keys) (sym (map-append key_of rows (row ∷ []))) h.1
 
--- the first of a list, and the rest
-headed : {X : Type 0} (xs : List X) (x : X) → 0 < length xs → x ≡ slice_index_or xs 0 x → xs ≡ x ∷ remove xs 0
-headed [] x some is = absurd (omega (arith, some))
-headed (y ∷ ys) x some is = ap (λ z. z ∷ ys) (sym is)
-
 -- One component moves from those that are left to the bank.
 pub record Filled (total : List RowOf) (rows : List RowOf) (left : List ComponentConfigOf) : Type 0 where
   pub all : rows ++ map row_made left ≡ total
@@ -79,10 +75,31 @@ moved total rows x left h = record {
   apart = apart_more rows (row_made x) h.apart h.new.0;
 }
 
-pub filled : (total rows after : List RowOf) (cs rest : List ComponentConfig) (c : ComponentConfig) → 0 < length cs → c ≡ slice_index_or cs 0 c → rest ≡ remove cs 0
-    → after ≡ rows ++ row_made (component_of c) ∷ [] → Filled total rows (map component_of cs) → Filled total after (map component_of rest)
-filled total rows after cs rest c some is left e h =
-    subst (λ a. Filled total a (map component_of rest)) (sym e)
-    (subst (λ r. Filled total (rows ++ row_made (component_of c) ∷ []) (map component_of r)) (sym left)
-    (moved total rows (component_of c) (map component_of (remove cs 0))
-    (subst (λ xs. Filled total rows (map component_of xs)) (headed cs c some is) h)))
+pub filled_at : (total rows after : List RowOf) (cs : List ComponentConfig) (i : ℕ) (c : ComponentConfig) → i < length cs → c ≡ get_or cs i c
+    → after ≡ rows ++ row_made (component_of c) ∷ [] → Filled total rows (map component_of (drop i cs)) → Filled total after (map component_of (drop (i + 1) cs))
+filled_at total rows after cs i c lt is e h =
+    subst (λ a. Filled total a (map component_of (drop (i + 1) cs))) (sym e)
+    (moved total rows (component_of c) (map component_of (drop (i + 1) cs))
+    (subst (λ xs. Filled total rows (map component_of xs)) (drop_more cs i c lt ∙ ap (λ x. x ∷ drop (i + 1) cs) (sym is)) h))
+
+-- Each of the devices is one.
+pub device_at : (ds : List DeviceConfig) (i : ℕ) (d : DeviceConfig) → i < length ds → d ≡ get_or ds i d → AllByRecursion IsDevice (map device_of (drop i ds))
+    → IsDevice (device_of d) × AllByRecursion IsDevice (map device_of (drop (i + 1) ds))
+device_at ds i d lt is h = subst (λ xs. AllByRecursion IsDevice (map device_of xs)) (drop_more ds i d lt ∙ ap (λ x. x ∷ drop (i + 1) ds) (sym is)) h
+
+-- A node more is made.
+pub nodes_next : (u : «Unit») (agent : ℕ) (ds : List DeviceConfig) (i : ℕ) (d : DeviceConfig) → i < length ds → d ≡ get_or ds i d
+    → nodes_made u agent (map device_of (take i ds)) ++ node_made u agent (device_of d) ∷ [] ≡ nodes_made u agent (map device_of (take (i + 1) ds))
+nodes_next u agent ds i d lt is =
+    let more : take (i + 1) ds ≡ take i ds ++ d ∷ [] = take_more ds i d lt ∙ ap (λ x. take i ds ++ x ∷ []) (sym is) in
+    sym (ap (λ xs. nodes_made u agent (map device_of xs)) more ∙ ap (nodes_made u agent) (map-append device_of (take i ds) (d ∷ []))
+    ∙ map-append (node_made u agent) (map device_of (take i ds)) (device_of d ∷ []))
+
+all_more : (u : «Unit») (agent : ℕ) (ns : List DeviceNodeOf) (n : DeviceNodeOf) → AllByRecursion (IsNewNode u agent) ns → IsNewNode u agent n
+    → AllByRecursion (IsNewNode u agent) (ns ++ n ∷ [])
+all_more u agent [] n all new = (new, tt)
+all_more u agent (m ∷ ms) n all new = (all.0, all_more u agent ms n all.1 new)
+
+pub new_more : (u : «Unit») (agent : ℕ) (ns after : List DeviceNodeOf) (n : DeviceNodeOf) → after ≡ ns ++ n ∷ [] → AllByRecursion (IsNewNode u agent) ns → IsNewNode u agent n
+    → AllByRecursion (IsNewNode u agent) after
+new_more u agent ns after n is all new = subst (AllByRecursion (IsNewNode u agent)) (sym is) (all_more u agent ns n all new)

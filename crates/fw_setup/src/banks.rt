@@ -34,6 +34,7 @@ pub trait Banks<B: Bank + Drop> {
     ) -> Result<B, BanksFault>
         requires new { AreNew [] (keys_of (map component_of components.now)) }
         ensures rows { IfOk result (λ b. B.rows b ≡ map row_made (map component_of components.now)) }
+        ensures apart { IfOk result (λ b. AreApart (map key_of (B.rows b))) }
         ensures faults { IfOk result (λ b. B.faults b ≡ 0) };
 }
 
@@ -48,7 +49,9 @@ impl Banks<MemBank> for MemBanks {
         _device: u8,
         components: &[ComponentConfig],
     ) -> Result<MemBank, BanksFault>
+        requires new { AreNew [] (keys_of (map component_of components.now)) }
         ensures rows { IfOk result (λ b. b.rows ≡ map row_made (map component_of components.now)) }
+        ensures apart { IfOk result (λ b. AreApart (map key_of b.rows)) }
         ensures faults { IfOk result (λ b. b.faults ≡ 0) }
         ensures memory { IfErr result (λ e. e ≡ BanksFault.Memory) }
     {
