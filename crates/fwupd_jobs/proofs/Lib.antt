@@ -1,4 +1,5 @@
 mod Answering
+mod Barred
 mod Builds
 mod Checks
 mod Ended

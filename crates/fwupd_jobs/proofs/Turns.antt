@@ -4,6 +4,7 @@ use Rattle.std.specs.Prelude.{slice_get}
 use Rattle.std.specs.Io.KnownBytes.{Appends}
 use Rattle.std.proofs.KnownBytes.{Appends-trans}
 use Rattle.std.proofs.Math.ListN.{set}
+use Rattle.std.proofs.Math.Seq.{take-append_seam}
 use Rattle.std.proofs.lemmas.Bool.{cases_lt}
 use Rattle.std.proofs.lemmas.List.{length-map, length-set, take-append-drop, take_all}
 use Rattle.std.proofs.lemmas.Option.{slice_get_within}
@@ -221,5 +222,14 @@ told_alone w (v ∷ vs) x one go =
 
 pub texts_are_lines : TextsAreLines
 texts_are_lines w before x one go = told_alone w before x one go ∙ text_lines (reader_for w x) x.node.endpoint.eid 1 x.packets
+
+-- what was lent is given back
+pub lent_back : {A : Type 0} (len : ℕ) (lent new items : List A) → length new ≡ length lent → length lent ≡ len → take len (new ++ drop (length new) items) ≡ new
+lent_back len lent new items size is = subst (λ n. take n (new ++ drop (length new) items) ≡ new) (size ∙ is) (take-append_seam new (drop (length new) items))
+
+pub read_from : (form : TraceForm) (told written : List ℕ) (sites : List SiteOf) (count : ℕ) (lent items all new : List ReaderOf) → ReadOn form told sites count lent new → told ≡ written → lent ≡ items → items ≡ all
+    → ReadOn form written sites count all new
+read_from form told written sites count lent items all new on same is are =
+    subst (λ rs. ReadOn form written sites count rs new) (is ∙ are) (subst (λ ns. ReadOn form ns sites count lent new) same on)
 
 pub ruleset reading = (read_none)

@@ -1,0 +1,22 @@
+-- What would be written over is told of more files too.
+use Rattle.std.proofs.Common.{ℕ, Bool, List, ◌∷◌, Option, None, Some, inl, inr}
+use Rattle.fwupd_jobs.specs.Running.{IsBarred, IsOverRead, IsOverUsed, ShowOf, WatchOf}
+use Rattle.fwupd_jobs.specs.Setups.{FileOf}
+use Rattle.fwupd_jobs.specs.declared.faults.RunFault.{RunFault}
+use Rattle.fwupd_jobs.specs.declared.faults.RunFault.TheVariants as faults
+
+over_used : (files : List ℕ → FileOf) (path first second : Option (List ℕ)) (q : List ℕ) (paths : List (List ℕ)) → IsOverUsed files path first second paths → IsOverUsed files path first second (q ∷ paths)
+over_used files None first second q paths h = h
+over_used files (Some p) first second q paths (inl h) = inl (inr h)
+over_used files (Some p) first second q paths (inr h) = inr h
+
+over_read : (files : List ℕ → FileOf) (show : ShowOf) (q : List ℕ) (paths : List (List ℕ)) (told : RunFault) → IsOverRead files show paths told → IsOverRead files show (q ∷ paths) told
+over_read files show q paths faults.Trace h = over_used files show.trace None None q paths h
+over_read files show q paths faults.Log h = over_used files show.log show.trace None q paths h
+over_read files show q paths faults.Record h = over_used files show.record_path show.trace show.log q paths h
+over_read files show q paths told h = h
+
+pub barred_more : (files : List ℕ → FileOf) (refuses : List ℕ → Bool) (show : ShowOf) (q : List ℕ) (paths : List (List ℕ)) (told : RunFault) (watched : WatchOf) → IsBarred files refuses show paths told watched
+    → IsBarred files refuses show (q ∷ paths) told watched
+barred_more files refuses show q paths told watched (inl h) = inl (over_read files show q paths told h)
+barred_more files refuses show q paths told watched (inr h) = inr h

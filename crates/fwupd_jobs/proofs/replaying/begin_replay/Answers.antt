@@ -1,0 +1,14 @@
+use Rattle.std.proofs.Common.{◌∷◌, inl, inr, map}
+use Rattle.std.specs.Prelude.{string_bytes}
+use Rattle.fwupd_jobs.specs.Running.{show_of}
+use Rattle.fwupd_jobs.proofs.Barred.{barred_more}
+use Rattle.fwupd_jobs.proofs.replaying.begin_replay.Goals as goal
+
+pub returns-in-Err-clause-fault : goal.returns-in-Err-clause-fault
+returns-in-Err-clause-fault g c = elim c.in-Err.ensures.fault [
+  | inl e ↦ inl e
+  | inr b ↦
+      inr
+      (barred_more (g.F.Files.holds c.args.files.now) (g.V.Watch.refuses c.args.watch.now) (show_of c.args.show) c.args.schedule.now (c.args.config.now ∷ map (λ p. string_bytes p) c.args.packages.now) c.in-Err.fault
+      (g.V.Watch.watched c.begin_apart.new.watch) b)
+]
