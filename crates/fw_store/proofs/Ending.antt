@@ -77,3 +77,5 @@ pub through : (known : Bool) (n : ℕ) (f : Files) (images : List KeptOf) (es ne
     → Settled known true n f es → known ≡ true → Passes (MayHaveCome n images new f) past now → Passes (IsBeforeOrAfter images f) past now
 through known n f images es new past now small is are settled k passes =
     passes_wider (λ g may. moment_found n f images es small (settled.when k refl) (rw is at are) g (rw is at may)) passes
+
+pub ruleset ending = (ends_ok, found_ok, ends_same, found_same, ends_unsure, through, passes_none)

@@ -1,6 +1,7 @@
 -- The states that a folder passes.
-use Rattle.std.proofs.Common.{◌≡◌, ◌≢◌, ◌∙◌, ◌+◌, ◌<◌, ◌^◌, ◌==◌, ◌||◌, ◌++◌, ◌⊎◌, inl, inr, ℕ, Bool, true, false, List, [], ◌∷◌, Option, Some, None, map, ap, refl, sym, arith}
+use Rattle.std.proofs.Common.{◌≡◌, ◌≢◌, ◌∙◌, ◌+◌, ◌<◌, ◌^◌, ◌==◌, ◌||◌, ◌++◌, ◌⊎◌, inl, inr, ℕ, Bool, true, false, List, [], ◌∷◌, Option, Some, None, drop, take, get_or, length, subst, map, ap, refl, sym, arith}
 use Rattle.std.specs.List.{AllByRecursion}
+use Rattle.std.proofs.lemmas.List.{drop_more, take-append-drop, take_more}
 use Rattle.std.proofs.lemmas.Bool.{eq-eqb, or_parts}
 use Rattle.fd_core.specs.Banks.{AreApart, has_key}
 use Rattle.fd_core.specs.Images.{same_key}
@@ -126,3 +127,24 @@ pub unput_first : (f g : Files) (past before : List Files) → OnlyThere f g new
 unput_first f g past before only first = record { between = g; only = but_new f g only; same = record { all = λ name. refl }; moments = inl first }
 
 pub ruleset putting = (put_both, unput_second, unput_first)
+
+pub came_or_not : (n : ℕ) (images : List KeptOf) (es : List EntryOf) (e f h : Files) (past before now : List Files) → n < 2 ^ 32 → IsWriting n images e f past before
+    → IsUnput f h before now ⊎ IsPut (active_text es) f h before now → MayHaveCome n images es e h
+came_or_not n images es e f h past before now small writing (inl is) = inl (unput_apart n e f h past before now small writing.stopped is)
+came_or_not n images es e f h past before now small writing (inr is) = inr (came n images es e f h past before now small writing is)
+
+pub through_either : (n : ℕ) (images : List KeptOf) (es : List EntryOf) (e f h : Files) (past before now : List Files) → n < 2 ^ 32 → IsWriting n images e f past before
+    → IsUnput f h before now ⊎ IsPut (active_text es) f h before now → Passes (MayHaveCome n images es e) past now
+through_either n images es e f h past before now small writing (inl is) = unput_through n images es e f h past before now small writing.stopped is
+through_either n images es e f h past before now small writing (inr is) = came_through n images es e f h past before now small writing is
+
+-- one image more, by its place
+pub writing_at : (n : ℕ) (e f g : Files) (past before now : List Files) (images : List KeptOf) (i : ℕ) (d : KeptOf) → i < length images → n < 2 ^ 32 → IsKey (get_or images i d).key
+    → AreApart (map (λ (x : KeptOf). x.key) images) → IsWriting n (take i images) e f past before
+    → Wrote f g (image_name (get_or images i d).key n) (get_or images i d).image.bytes → now ≡ g ∷ before → IsWriting n (take (i + 1) images) e g past now
+writing_at n e f g past before now images i d below small known apart h wrote is =
+    let whole : images ≡ take i images ++ get_or images i d ∷ drop (i + 1) images = sym (take-append-drop i images) ∙ ap (λ ks. take i images ++ ks) (drop_more images i d below) in
+    rw (take_more images i d below)
+    (writing_more n e f g past before now (take i images) (get_or images i d) (drop (i + 1) images) small known (subst (λ (ks : List KeptOf). AreApart (map (λ (x : KeptOf). x.key) ks)) whole apart) h wrote is)
+
+pub ruleset coming = (apart_self, passes_none, came, came_or_not, came_through, through_either, unput_apart, unput_through, stays)

@@ -79,6 +79,7 @@ impl<F: Folder + Drop> FolderStore<F> {
     /// # Errors
     /// The folder fails, memory is refused, a component stands twice among these images, or the store isn't sure any more.
     /// What was kept is kept.
+    #[tactic(auto, using(crate::proofs::Ending::ending))]
     pub fn put(&mut self, images: &[Kept<'_>]) -> Result<(), StoreFault>
         ensures ok { OnOk result (self.new.memory.images.items ≡ kept_after self.old.memory.images.items images.now) }
         ensures err { OnErr result (self.new.memory.images.items ≡ self.old.memory.images.items) }

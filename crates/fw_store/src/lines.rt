@@ -1,6 +1,6 @@
 //! The lines of images that come to a folder.
 
-ghost use Rattle.std.specs.Prelude.{◌≡◌, ◌++◌, IfOk, IfSome, None, OnOk, map, true};
+ghost use Rattle.std.specs.Prelude.{◌≡◌, ◌++◌, ◌<◌, ◌^◌, ℕ, get_or, IfOk, IfSome, None, OnOk, map, true};
 ghost use Rattle.std.specs.List.{AllByRecursion};
 ghost use Rattle.fd_core.specs.Banks.{AreApart};
 ghost use Rattle.fw_store.specs.Active.{IsEntry};
@@ -10,6 +10,7 @@ use crate::entry::Entry;
 use crate::memory::find;
 use crate::store::{Kept, StoreFault};
 use fw_package::crc32;
+use fwup_wire::Key;
 use std::alloc::{AllocError, Global};
 
 /// Whether no component stands twice among these.
@@ -90,11 +91,38 @@ fn push_left(
     Ok(())
 }
 
-/// A line's numbers have their widths.
+/// Numbers have their widths.
+fn number_widths(key: Key, stamp: u32, kind: u8, number: u32, size: u32, checksum: u32)
+    ensures class { key.classification < 2 ^ 16 }
+    ensures ident { key.identifier < 2 ^ 16 }
+    ensures stamp { stamp < 2 ^ 32 }
+    ensures kind { kind < 2 ^ 8 }
+    ensures number { number < 2 ^ 32 }
+    ensures size { size < 2 ^ 32 }
+    ensures checksum { checksum < 2 ^ 32 }
+{
+}
+
+/// Bytes have theirs.
+fn byte_widths(bytes: &[u8])
+    ensures { (i : ℕ) → get_or bytes.now i 0 < 256 }
+{
+}
+
+/// So have those of a line.
 fn width(entry: &Entry)
     ensures { IsEntry entry.now }
 {
-    let _ = copied(entry);
+    let version = entry.label.version();
+    byte_widths(version.text.bytes);
+    number_widths(
+        entry.key,
+        version.stamp,
+        version.text.text_type,
+        entry.number,
+        entry.size,
+        entry.checksum,
+    );
 }
 
 /// So have those of each line.

@@ -70,6 +70,7 @@ fn put_text<F: Folder>(folder: &mut F, text: &[u8]) -> Result<(), RenameFault>
 ///
 /// # Errors
 /// `Unchanged`: what ran runs. `Unsure`: it runs, or these images do.
+#[tactic(auto, using(crate::proofs::Moments::coming))]
 pub(crate) fn put_images<F: Folder>(
     alloc: Global,
     folder: &mut F,
@@ -87,8 +88,12 @@ pub(crate) fn put_images<F: Folder>(
     let Ok(text) = active_text(alloc, entries) else {
         return Err(RenameFault::Unchanged);
     };
-    match write_images(alloc, folder, number, images) {
-        Ok(()) => put_text(folder, &text),
-        Err(_) => Err(RenameFault::Unchanged),
+    let Ok(()) = write_images(alloc, folder, number, images) else {
+        return Err(RenameFault::Unchanged);
+    };
+    match put_text(folder, &text) {
+        Ok(()) => Ok(()),
+        Err(RenameFault::Unchanged) => Err(RenameFault::Unchanged),
+        Err(RenameFault::Unsure) => Err(RenameFault::Unsure),
     }
 }
