@@ -222,7 +222,7 @@ front_back lines =
     let front : length (lines ++ end) - 9 ≡ length lines = omega (arith, length-append lines end) in
     ap lines_in whole ∙ ap (λ n. take n (lines ++ end)) front ∙ take-append_seam lines end
 
-bytes_same : (xs : List ℕ) → bytes_eq xs xs ≡ true
+pub bytes_same : (xs : List ℕ) → bytes_eq xs xs ≡ true
 bytes_same [] = refl
 bytes_same (x ∷ xs) = rw (eq-eqb x x refl, bytes_same xs) refl
 

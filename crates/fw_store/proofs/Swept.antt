@@ -1,12 +1,14 @@
 -- What is left where files that no line names are removed.
-use Rattle.std.proofs.Common.{◌≡◌, ◌≢◌, ◌∙◌, ◌+◌, ◌<◌, ◌++◌, ℕ, Bool, true, false, List, [], ◌∷◌, Option, Some, None, drop, take, get_or, is_some, length, option_and_then, ap, refl, sym, arith}
+use Rattle.std.proofs.Common.{◌≡◌, ◌≢◌, ◌∙◌, ◌+◌, ◌<◌, ◌++◌, ℕ, Bool, true, false, List, [], ◌∷◌, Option, Some, None, drop, take, get_or, is_some, length, option_and_then, ap, refl, sym, subst, arith}
 use Rattle.std.specs.List.{AllByRecursion}
+use Rattle.std.specs.Str.{bytes_eq}
 use Rattle.std.proofs.lemmas.List.{take_more}
 use Rattle.fw_store.specs.Active.{EntryOf, IsEntry, image_name}
 use Rattle.fw_store.specs.Folders.{Files, IsBefore, OnlyThere, Passes, active_name, image_by, images_of, lines_by, stored_in, with_image}
 use Rattle.fw_store.specs.Keeping.{IsSettled, Settled}
 use Rattle.fw_store.specs.Kept.{KeptOf}
 use Rattle.fw_store.specs.Opening.{IsStray, IsUntouched, is_ours}
+use Rattle.fw_store.proofs.ReadBack.{bytes_same}
 use Rattle.fw_store.proofs.Moments.{passes_more, passes_none, passes_wider}
 
 all_push : (P : EntryOf → Type 0) (es : List EntryOf) (e : EntryOf) → AllByRecursion P es → P e → AllByRecursion P (es ++ e ∷ [])
@@ -16,6 +18,13 @@ all_push P (x ∷ es) e all here = (all.0, all_push P es e all.1 here)
 pub unnamed_more : (name : List ℕ) (es : List EntryOf) (i : ℕ) (d : EntryOf) → i < length es → AllByRecursion (λ e. image_name e.key e.number ≢ name) (take i es)
     → image_name (get_or es i d).key (get_or es i d).number ≢ name → AllByRecursion (λ e. image_name e.key e.number ≢ name) (take (i + 1) es)
 unnamed_more name es i d below all here = rw (take_more es i d below) (all_push (λ e. image_name e.key e.number ≢ name) (take i es) (get_or es i d) all here)
+
+unequal : (xs ys : List ℕ) → bytes_eq xs ys ≡ false → xs ≢ ys
+unequal xs ys differ e = let same : bytes_eq xs ys ≡ true = subst (λ (zs : List ℕ). bytes_eq xs zs ≡ true) e (bytes_same xs) in absurd (cc)
+
+pub unnamed_next : (name : List ℕ) (es : List EntryOf) (i : ℕ) (d : EntryOf) → i < length es → AllByRecursion (λ e. image_name e.key e.number ≢ name) (take i es)
+    → bytes_eq (image_name (get_or es i d).key (get_or es i d).number) name ≡ false → AllByRecursion (λ e. image_name e.key e.number ≢ name) (take (i + 1) es)
+unnamed_next name es i d below all differ = unnamed_more name es i d below all (unequal (image_name (get_or es i d).key (get_or es i d).number) name differ)
 
 named_same : (f : Files) (es : List EntryOf) → AllByRecursion (λ e. f (image_name e.key e.number) ≡ f (image_name e.key e.number)) es
 named_same f [] = tt
@@ -79,3 +88,7 @@ all_up n m (e ∷ es) more below = let low = below.0 in (omega arith, all_up n m
 pub below_more : (es : List EntryOf) (i : ℕ) (d : EntryOf) (n m : ℕ) → i < length es → AllByRecursion (λ e. e.number < n) (take i es) → n < m + 1 → (get_or es i d).number < m
     → AllByRecursion (λ e. e.number < m) (take (i + 1) es)
 below_more es i d n m below all more here = rw (take_more es i d below) (all_push (λ e. e.number < m) (take i es) (get_or es i d) (all_up n m (take i es) more all) here)
+
+pub ruleset opening = (settled_swept, before_swept, passes_before, untouched_self)
+
+pub ruleset sweeping = (untouched_self, untouched_more, swept_more, passes_none)

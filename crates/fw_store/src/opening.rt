@@ -34,6 +34,7 @@ fn next_after(entries: &[Entry]) -> u64
 /// # Errors
 /// `Damaged` and `Foreign` as `found_in` says them: then nothing is touched. `Unreadable` where the folder can't be read, and
 /// `Memory`.
+#[tactic(auto, using(crate::proofs::Swept::opening))]
 pub fn open_store<F: Folder + Drop>(
     alloc: Global,
     folder: F,

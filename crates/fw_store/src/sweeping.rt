@@ -29,7 +29,6 @@ fn is_ours(alloc: Global, name: &[u8]) -> Result<bool, AllocError>
 }
 
 /// Whether a line names a file.
-#[tactic(auto, using(crate::proofs::Swept::unnamed_more))]
 fn is_named(alloc: Global, entries: &[Entry], name: &[u8]) -> Result<bool, AllocError>
     ensures { IfOk result (λ b. b ≡ false → AllByRecursion (λ e. name_of e.key e.number ≢ name.now) entries.now) }
 {
@@ -53,6 +52,7 @@ fn is_stray(alloc: Global, entries: &[Entry], name: &[u8]) -> Result<bool, Alloc
 }
 
 /// Removes the files that no line names, among those of these names. One that can't be removed stays.
+#[tactic(auto, using(crate::proofs::Swept::sweeping))]
 pub(crate) fn sweep<F: Folder>(
     alloc: Global,
     folder: &mut F,
