@@ -196,6 +196,7 @@ put_stored n f g h images es small settled apart written are put =
     all_written : (n : ℕ) (g h : Files) (images : List KeptOf) (es : List EntryOf) → n < 2 ^ 32 → AllByRecursion IsEntry (map (entry_for n) images ++ es)
         → {all : List EntryOf} → Put all g h → AllByRecursion (λ k. g (image_name k.key n) ≡ Some k.image.bytes) images → AllByRecursion (λ k. h (image_name k.key n) ≡ Some k.image.bytes) images
     all_written n g h [] es small are put written = tt
-    all_written n g h (k ∷ ks) es small are put written =
-        (put.others (image_name k.key n) (λ e. no_active k.key n (entry_key (entry_for n k) are.0) small (sym e)) (no_new k.key n (entry_key (entry_for n k) are.0) small) ∙ written.0,
-         all_written n g h ks es small are.1 put written.1)
+    all_written n g h (k ∷ ks) es small are put written = (
+      put.others (image_name k.key n) (λ e. no_active k.key n (entry_key (entry_for n k) are.0) small (sym e)) (no_new k.key n (entry_key (entry_for n k) are.0) small) ∙ written.0,
+      all_written n g h ks es small are.1 put written.1,
+    )

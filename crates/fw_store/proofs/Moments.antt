@@ -50,9 +50,10 @@ has_later (x ∷ front) k rest key none = has_later front k rest key (or_parts (
 written_more : (n : ℕ) (f g : Files) (front : List KeptOf) (k : KeptOf) (rest : List KeptOf) → n < 2 ^ 32 → IsKey k.key → AreApart (map (λ (x : KeptOf). x.key) (front ++ k ∷ rest))
     → AllByRecursion (λ x. IsKey x.key) front → Wrote f g (image_name k.key n) k.image.bytes → AreWritten n front f → AreWritten n (front ++ k ∷ []) g
 written_more n f g [] k rest small known apart keys wrote written = (wrote.here, tt)
-written_more n f g (x ∷ front) k rest small known apart keys wrote written =
-    (wrote.others (image_name x.key n) (keys_apart k.key x.key n known keys.0 small (not_same k x (has_later front k rest x.key apart.0))) ∙ written.0,
-     written_more n f g front k rest small known apart.1 keys.1 wrote written.1)
+written_more n f g (x ∷ front) k rest small known apart keys wrote written = (
+  wrote.others (image_name x.key n) (keys_apart k.key x.key n known keys.0 small (not_same k x (has_later front k rest x.key apart.0))) ∙ written.0,
+  written_more n f g front k rest small known apart.1 keys.1 wrote written.1,
+)
 
 keys_more : (front : List KeptOf) (k : KeptOf) → AllByRecursion (λ x. IsKey x.key) front → IsKey k.key → AllByRecursion (λ x. IsKey x.key) (front ++ k ∷ [])
 keys_more [] k keys known = (known, tt)

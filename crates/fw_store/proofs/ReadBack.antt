@@ -62,8 +62,10 @@ unfolding key_at
 key_back first second key rest low lower h =
     let class = h.class in
     let ident = h.ident in
-    rw (number_back first 0xFFFF key.classification (decimal key.identifier ++ second ∷ rest) low (omega arith) (omega arith),
-        number_back second 0xFFFF key.identifier rest lower (omega arith) (omega arith)) refl
+    rw (
+      number_back first 0xFFFF key.classification (decimal key.identifier ++ second ∷ rest) low (omega arith) (omega arith),
+      number_back second 0xFFFF key.identifier rest lower (omega arith) (omega arith),
+    ) refl
 
 pub name_back : (key : Key) (n : ℕ) (rest : List ℕ) → IsKey key → n < 2 ^ 32
     → name_at (decimal key.classification ++ 45 ∷ (decimal key.identifier ++ 46 ∷ (decimal n ++ 46 ∷ rest))) ≡ Some ((key, n), rest)
@@ -111,9 +113,12 @@ label_back : (label : LabelOf) (rest : List ℕ) → label.stamp < 2 ^ 32 → la
     → label_at (decimal label.stamp ++ 32 ∷ (decimal label.text_type ++ 32 ∷ (data_text label.text ++ 32 ∷ rest))) ≡ Some (label, rest)
 unfolding label_at
 label_back label rest stamp kind bytes short =
-    rw (number_back 32 0xFFFFFFFF label.stamp (decimal label.text_type ++ 32 ∷ (data_text label.text ++ 32 ∷ rest)) (omega arith) (omega arith) (omega arith),
-        number_back 32 0xFF label.text_type (data_text label.text ++ 32 ∷ rest) (omega arith) (omega arith) (omega arith),
-        field_back 32 (data_text label.text) rest (none_in_data label.text bytes), data_back label.text bytes short) refl
+    rw (
+      number_back 32 0xFFFFFFFF label.stamp (decimal label.text_type ++ 32 ∷ (data_text label.text ++ 32 ∷ rest)) (omega arith) (omega arith) (omega arith),
+      number_back 32 0xFF label.text_type (data_text label.text ++ 32 ∷ rest) (omega arith) (omega arith) (omega arith),
+      field_back 32 (data_text label.text) rest (none_in_data label.text bytes),
+      data_back label.text bytes short,
+    ) refl
 
 -- the bytes of a number of four, the high one first
 abbrev four : ℕ → List ℕ
@@ -171,9 +176,9 @@ line_apart : (e : EntryOf) (rest : List ℕ) → line_of e ++ rest ≡ apart e r
 unfolding line_of numbered in_eight
 line_apart e rest =
     eight_apart (decimal e.key.classification) (32 ∷ decimal e.key.identifier) (label_text e.label) (codes " ") (image_name e.key e.number) (32 ∷ decimal e.size)
-      (32 ∷ encode_upper (four e.checksum)) (codes "\n") rest
+    (32 ∷ encode_upper (four e.checksum)) (codes "\n") rest
     ∙ ap (λ t. decimal e.key.classification ++ 32 ∷ (decimal e.key.identifier ++ (label_text e.label ++ 32 ∷ t)))
-        (name_apart e.key e.number (32 ∷ (decimal e.size ++ 32 ∷ (encode_upper (four e.checksum) ++ 10 ∷ rest))))
+    (name_apart e.key e.number (32 ∷ (decimal e.size ++ 32 ∷ (encode_upper (four e.checksum) ++ 10 ∷ rest))))
     ∙ ap (λ t. decimal e.key.classification ++ 32 ∷ (decimal e.key.identifier ++ t)) (label_apart e.label (32 ∷ behind_label e rest))
 
 apart_back : (e : EntryOf) (rest : List ℕ) → IsEntry e → entry_at (apart e rest) ≡ Some (e, rest)
@@ -181,12 +186,14 @@ unfolding entry_at
 apart_back e rest h =
     let key : IsKey e.key = record { class = h.class; ident = h.ident } in
     let size = h.size in
-    rw (key_back 32 32 e.key (behind_key e rest) (omega arith) (omega arith) key,
-        label_back e.label (behind_label e rest) h.stamp h.kind h.text h.short,
-        name_back e.key e.number (behind_name e rest) key h.number,
-        field_back 32 (codes "image") (decimal e.size ++ 32 ∷ (encode_upper (four e.checksum) ++ 10 ∷ rest)) (refl, (refl, (refl, (refl, (refl, tt))))),
-        number_back 32 0xFFFFFFFF e.size (encode_upper (four e.checksum) ++ 10 ∷ rest) (omega arith) (omega arith) (omega arith),
-        checksum_back e.checksum rest h.checksum) refl
+    rw (
+      key_back 32 32 e.key (behind_key e rest) (omega arith) (omega arith) key,
+      label_back e.label (behind_label e rest) h.stamp h.kind h.text h.short,
+      name_back e.key e.number (behind_name e rest) key h.number,
+      field_back 32 (codes "image") (decimal e.size ++ 32 ∷ (encode_upper (four e.checksum) ++ 10 ∷ rest)) (refl, (refl, (refl, (refl, (refl, tt))))),
+      number_back 32 0xFFFFFFFF e.size (encode_upper (four e.checksum) ++ 10 ∷ rest) (omega arith) (omega arith) (omega arith),
+      checksum_back e.checksum rest h.checksum,
+    ) refl
 
 pub entry_back : (e : EntryOf) (rest : List ℕ) → IsEntry e → entry_at (line_of e ++ rest) ≡ Some (e, rest)
 entry_back e rest h = ap entry_at (line_apart e rest) ∙ apart_back e rest h

@@ -83,11 +83,11 @@ data_in word = if bytes_eq word (codes "-") then Some [] else if nat_le (length 
 unfoldable pub label_at : List ℕ → Option (LabelOf × List ℕ)
 label_at text =
     option_and_then (λ stamp.
-      option_and_then (λ kind.
-        option_and_then (λ f.
-          option_map (λ bytes. (record { stamp = stamp.0; text_type = kind.0; text = bytes }, f.1)) (data_in f.0))
-        (field_at 32 kind.1))
-      (number_at 32 0xFF stamp.1))
+    option_and_then (λ kind.
+    option_and_then (λ f.
+    option_map (λ bytes. (record { stamp = stamp.0; text_type = kind.0; text = bytes }, f.1)) (data_in f.0))
+    (field_at 32 kind.1))
+    (number_at 32 0xFF stamp.1))
     (number_at 32 0xFFFFFFFF text)
 
 abbrev pub four_bytes : Result (List ℕ) FromHexError → Option ℕ
@@ -105,15 +105,15 @@ checksum_at text = option_and_then (λ f. option_map (λ n. (n, f.1)) (checksum_
 unfoldable pub entry_at : List ℕ → Option (EntryOf × List ℕ)
 entry_at text =
     option_and_then (λ key.
-      option_and_then (λ label.
-        option_and_then (λ name.
-          option_and_then (λ word.
-            option_and_then (λ size.
-              option_map (λ sum. (record { key = key.0; label = label.0; number = name.0.1; size = size.0; checksum = sum.0 }, sum.1)) (checksum_at size.1))
-            (number_at 32 0xFFFFFFFF word.1))
-          (field_at 32 name.1))
-        (name_at label.1))
-      (label_at key.1))
+    option_and_then (λ label.
+    option_and_then (λ name.
+    option_and_then (λ word.
+    option_and_then (λ size.
+    option_map (λ sum. (record { key = key.0; label = label.0; number = name.0.1; size = size.0; checksum = sum.0 }, sum.1)) (checksum_at size.1))
+    (number_at 32 0xFFFFFFFF word.1))
+    (field_at 32 name.1))
+    (name_at label.1))
+    (label_at key.1))
     (key_at 32 32 text)
 
 abbrev pub entries_behind : (List ℕ → Option (List EntryOf)) → Option (EntryOf × List ℕ) → Option (List EntryOf)

@@ -28,7 +28,6 @@ found_by base files (Some es) = if has_foreign base es then Err faults.Foreign e
 abbrev pub found_in : (base : List KeptOf) → Files → Result (List KeptOf) OpenFault
 found_in base files = found_by base files (lines_by (files active_name))
 
-
 abbrev pub is_image_at : List ℕ → Option ((Key × ℕ) × List ℕ) → Bool
 is_image_at name None = false
 is_image_at name (Some found) = bytes_eq (image_name found.0.0 found.0.1) name

@@ -41,11 +41,7 @@ fn line_of(number: u32, image: &Kept<'_>) -> Option<Entry>
 }
 
 /// Appends the lines of images that are new.
-fn push_new(
-    entries: &mut Vec<Entry>,
-    number: u32,
-    images: &[Kept<'_>],
-) -> Result<(), StoreFault>
+fn push_new(entries: &mut Vec<Entry>, number: u32, images: &[Kept<'_>]) -> Result<(), StoreFault>
     ensures { OnOk result (entries.new.items ≡ entries.old.items ++ map (line_for number) images.now) }
 {
     for image in images {
@@ -74,11 +70,7 @@ fn copied(entry: &Entry) -> Entry
 
 /// Appends the lines of other components than these.
 #[tactic(auto, using(crate::proofs::Left::leaving))]
-fn push_left(
-    entries: &mut Vec<Entry>,
-    images: &[Kept<'_>],
-    old: &[Entry],
-) -> Result<(), StoreFault>
+fn push_left(entries: &mut Vec<Entry>, images: &[Kept<'_>], old: &[Entry]) -> Result<(), StoreFault>
     ensures { OnOk result (entries.new.items ≡ entries.old.items ++ lines_left images.now old.now) }
 {
     for entry in old {
@@ -100,14 +92,12 @@ fn number_widths(key: Key, stamp: u32, kind: u8, number: u32, size: u32, checksu
     ensures number { number < 2 ^ 32 }
     ensures size { size < 2 ^ 32 }
     ensures checksum { checksum < 2 ^ 32 }
-{
-}
+{}
 
 /// Bytes have theirs.
 fn byte_widths(bytes: &[u8])
     ensures { (i : ℕ) → get_or bytes.now i 0 < 256 }
-{
-}
+{}
 
 /// So have those of a line.
 fn width(entry: &Entry)

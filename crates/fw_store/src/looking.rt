@@ -47,11 +47,7 @@ fn checked(entry: &Entry, bytes: Vec<u8>) -> Option<Stored>
 }
 
 /// The image of a line, where it is there.
-fn image<F: Folder>(
-    alloc: Global,
-    folder: &F,
-    entry: &Entry,
-) -> Result<Option<Stored>, OpenFault>
+fn image<F: Folder>(alloc: Global, folder: &F, entry: &Entry) -> Result<Option<Stored>, OpenFault>
     ensures ok { IfOk result (λ r. F.is_known folder.now ≡ true → r ≡ image_by entry.now (F.files folder.now (name_of entry.now.key entry.now.number))) }
     ensures err { IfErr result (λ e. (e ≡ OpenFault.Unreadable) ⊎ (e ≡ OpenFault.Memory)) }
 {

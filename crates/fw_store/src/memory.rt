@@ -35,7 +35,12 @@ pub struct MemStore {
 }
 
 /// A copy of an image.
-pub(crate) fn copied(alloc: Global, key: Key, label: &Label, bytes: &[u8]) -> Result<Stored, AllocError>
+pub(crate) fn copied(
+    alloc: Global,
+    key: Key,
+    label: &Label,
+    bytes: &[u8],
+) -> Result<Stored, AllocError>
     ensures { IfOk result (λ s. s ≡ record { key = key; image = record { label = label.now; bytes = bytes.now } }) }
 {
     let mut held = Vec::new(alloc);

@@ -78,7 +78,10 @@ impl TestFolder {
 
     /// Removes a file.
     pub fn unset(&mut self, name: &[u8]) {
-        let place = self.files.iter().position(|file| file.name.as_slice() == name);
+        let place = self
+            .files
+            .iter()
+            .position(|file| file.name.as_slice() == name);
         if let Some(place) = place
             && place < self.files.len()
         {

@@ -22,7 +22,8 @@ const SECOND: Key = Key {
 };
 
 /// The text of two images, written by hand, with CRC-32s of another program.
-const WORKED: &[u8] = b"10 1 305419896 1 76312E32 10-1.3.image 3 55BC801D\n65535 0 0 0 - 65535-0.12.image 0 00000000\n03E0AFF7\n";
+const WORKED: &[u8] =
+    b"10 1 305419896 1 76312E32 10-1.3.image 3 55BC801D\n65535 0 0 0 - 65535-0.12.image 0 00000000\n03E0AFF7\n";
 
 /// A stamp, a text type and a text.
 fn label(stamp: u32, text_type: u8, bytes: &[u8]) -> Label {
@@ -85,7 +86,13 @@ fn lasts(alloc: Global, call: u32, failing: Failing) -> Result<bool, Fail> {
     let again = open(alloc, store.folder().copied()?)?;
     let found = are(again.images(), &[3, 3, 3], &[4, 4, 4, 4]);
     let before = are(again.images(), &[1], &[2, 2]);
-    Ok(begun && kept == after && (found || before) && (found || !kept) && again.folder().count() == 3)
+    Ok(
+        begun
+            && kept == after
+            && (found || before)
+            && (found || !kept)
+            && again.folder().count() == 3,
+    )
 }
 
 #[test]
@@ -131,7 +138,9 @@ fn a_text_written_by_hand_is_read(rt: HostRuntime) -> Result<(), Fail> {
     let [first, second] = entries.as_slice() else {
         return Err(Fail::new("two images"));
     };
-    assert!(rt; first.key == FIRST && first.label.stamp == 0x12345678 && first.label.text_type == 1);
+    assert!(rt;
+        first.key == FIRST && first.label.stamp == 0x12345678 && first.label.text_type == 1
+    );
     assert!(rt; first.label.text.as_slice() == b"v1.2".as_slice());
     assert!(rt; first.number == 3 && first.size == 3 && first.checksum == 0x55BC_801D);
     assert!(rt; second.key == SECOND && second.label.stamp == 0 && second.label.text_type == 0);
@@ -189,7 +198,13 @@ fn an_image_that_is_cut_or_turned_is_told(rt: HostRuntime) -> Result<(), Fail> {
 fn what_active_does_not_name_is_removed(rt: HostRuntime) -> Result<(), Fail> {
     let alloc = rt.alloc();
     let mut folder = TestFolder::new(alloc, 0, Failing::Before);
-    for name in [b"10-1.7.image".as_slice(), b"active.new", b"history", b"010-1.7.image", b"10-1.7.image.txt"] {
+    for name in [
+        b"10-1.7.image".as_slice(),
+        b"active.new",
+        b"history",
+        b"010-1.7.image",
+        b"10-1.7.image.txt",
+    ] {
         folder.set(name, b"x")?;
     }
     let store = open(alloc, folder)?;
