@@ -1,1 +1,12 @@
+mod Decimals
+mod EachLine
+mod Ending
+mod Fields
+mod Folders
+mod Found
+mod FoundImages
 mod Keeping
+mod Left
+mod Moments
+mod ReadBack
+mod Swept

@@ -1,1 +1,5 @@
+pub mod Active
+pub mod Folders
+pub mod Keeping
 pub mod Kept
+pub mod Opening

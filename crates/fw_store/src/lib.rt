@@ -2,9 +2,32 @@
 #![tactic(auto)]
 
 mod bank;
+mod entry;
+mod faults;
+mod folder;
+mod folder_store;
+mod laws;
+mod lines;
+mod looking;
 mod memory;
+mod opening;
+mod putting;
+mod reading;
 mod store;
+mod sweeping;
+mod system;
+mod writing;
 
 pub use bank::KeptBank;
-pub use memory::MemStore;
+pub use entry::Entry;
+pub use faults::OpenFault;
+pub use folder::{Folder, FolderFault, RenameFault};
+pub use folder_store::FolderStore;
+pub use laws::{active_reads_back, nothing_else_reads, what_is_kept_is_found};
+pub use looking::read_store;
+pub use memory::{MemStore, Stored};
+pub use opening::open_store;
+pub use reading::read_active;
 pub use store::{Kept, Store, StoreFault};
+pub use system::SystemFolder;
+pub use writing::{active_text, image_name};

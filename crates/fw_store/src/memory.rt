@@ -11,9 +11,9 @@ use fwup_wire::Key;
 use std::alloc::{AllocError, Global};
 use std::marker::Model;
 
-/// An image that is kept.
+/// An image that is kept: the component that it is of, its label and its bytes.
 #[derive(Drop)]
-struct Stored {
+pub struct Stored {
     key: Key,
     label: Label,
     bytes: Vec<u8>,
@@ -35,7 +35,12 @@ pub struct MemStore {
 }
 
 /// A copy of an image.
-fn copied(alloc: Global, key: Key, label: &Label, bytes: &[u8]) -> Result<Stored, AllocError>
+pub(crate) fn copied(
+    alloc: Global,
+    key: Key,
+    label: &Label,
+    bytes: &[u8],
+) -> Result<Stored, AllocError>
     ensures { IfOk result (λ s. s ≡ record { key = key; image = record { label = label.now; bytes = bytes.now } }) }
 {
     let mut held = Vec::new(alloc);
@@ -56,7 +61,7 @@ fn is_same(one: Key, other: Key) -> bool
 
 /// The image of a component among these, if it is there.
 #[tactic(auto, using(crate::proofs::Keeping::finding))]
-fn find<'a, 'b>(images: &'a [Kept<'b>], key: Key) -> Option<&'a Kept<'b>>
+pub(crate) fn find<'a, 'b>(images: &'a [Kept<'b>], key: Key) -> Option<&'a Kept<'b>>
     ensures { option_map (λ k. k.now.image) result ≡ image_for images.now key }
 {
     for image in images {
@@ -92,6 +97,26 @@ fn replaced_all(
     Ok(new)
 }
 
+impl Stored {
+    /// An image of a component.
+    pub(crate) fn new(key: Key, label: Label, bytes: Vec<u8>) -> Stored
+        ensures { result ≡ record { key = key; image = record { label = label; bytes = bytes.items } } }
+    {
+        Stored { key, label, bytes }
+    }
+
+    /// The image, lent.
+    pub fn image(&self) -> Kept<'_>
+        ensures { result ≡ self.now }
+    {
+        Kept {
+            key: self.key,
+            label: &self.label,
+            bytes: &self.bytes,
+        }
+    }
+}
+
 impl MemStore {
     /// A store that keeps what runs of a bank with components of these keys.
     ///
@@ -112,6 +137,33 @@ impl MemStore {
         Ok(MemStore { alloc, images })
     }
 
+    /// A store that keeps these images.
+    pub(crate) fn with_all(alloc: Global, images: Vec<Stored>) -> MemStore
+        ensures { result.images.items ≡ images.items }
+    {
+        MemStore { alloc, images }
+    }
+
+    /// What this store keeps with these images in their places.
+    ///
+    /// # Errors
+    /// `AllocError` where memory is refused.
+    pub(crate) fn with(&self, images: &[Kept<'_>]) -> Result<MemStore, AllocError>
+        ensures { IfOk result (λ s. s.images.items ≡ kept_after self.now.images.items images.now) }
+    {
+        Ok(MemStore {
+            alloc: self.alloc,
+            images: replaced_all(self.alloc, self.images.as_slice(), images)?,
+        })
+    }
+
+    /// The images that are kept.
+    pub fn images(&self) -> &[Stored]
+        ensures { result.now ≡ self.now.images.items }
+    {
+        self.images.as_slice()
+    }
+
     /// The bytes that are kept for a component, if it is there.
     #[tactic(auto, using(crate::proofs::Keeping::finding))]
     pub fn bytes(&self, key: Key) -> Option<&[u8]>
@@ -130,10 +182,10 @@ impl Store for MemStore {
     ghost kept = { λ s. s.images.items };
 
     fn keep(&mut self, images: &[Kept<'_>]) -> Result<(), StoreFault> {
-        let Ok(new) = replaced_all(self.alloc, self.images.as_slice(), images) else {
+        let Ok(new) = self.with(images) else {
             return Err(StoreFault);
         };
-        self.images = new;
+        self.images = new.images;
         Ok(())
     }
 }

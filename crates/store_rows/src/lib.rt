@@ -1,7 +1,11 @@
-//! Tests of banks over a store.
+//! Tests of banks over a store, and of stores.
 #![tactic(auto)]
 
 #[cfg(test)]
 mod banks;
 #[cfg(test)]
 mod failing;
+#[cfg(test)]
+mod folders;
+#[cfg(test)]
+mod lasting;

@@ -1,0 +1,13 @@
+use Rattle.std.proofs.Common.{◌≡◌, true}
+use Rattle.fw_store.specs.Folders.{Passes}
+use Rattle.fw_store.specs.Opening.{IsUntouched}
+use Rattle.fw_store.proofs.sweeping.sweep.Given as goal
+
+-- what the lines name is as before, and was at each moment
+abbrev pub invariant-loop-name : goal.invariant-loop-name
+invariant-loop-name g l = record {
+  known : g.F.Folder.is_known l.folder ≡ g.F.Folder.is_known l.fn.folder;
+  untouched : g.F.Folder.is_known l.fn.folder ≡ true → IsUntouched l.entries (g.F.Folder.files l.fn.folder) (g.F.Folder.files l.folder);
+  passes : g.F.Folder.is_known l.fn.folder ≡ true
+      → Passes (IsUntouched l.entries (g.F.Folder.files l.fn.folder)) (g.F.Folder.moments l.fn.folder) (g.F.Folder.moments l.folder);
+}

@@ -1,0 +1,28 @@
+//! An image that is kept in a file.
+
+use fd_core::Label;
+use fwup_wire::Key;
+use std::marker::Model;
+
+/// An image that is kept in a file: what a line of `active` says of it.
+#[derive(Drop)]
+pub struct Entry {
+    /// The component that it is of.
+    pub key: Key,
+    /// What it calls itself.
+    pub label: Label,
+    /// The number in its file's name.
+    pub number: u32,
+    /// How many bytes it has.
+    pub size: u32,
+    /// Their CRC-32.
+    pub checksum: u32,
+}
+
+impl Model for Entry {
+    ghost use Rattle.fw_store.specs.Active.{EntryOf};
+
+    ghost Value = { EntryOf };
+
+    ghost view = { λ e. record { key = e.key; label = e.label; number = e.number; size = e.size; checksum = e.checksum } };
+}

@@ -1,0 +1,137 @@
+//! A store in a folder.
+
+ghost use Rattle.std.specs.Prelude.{◌≡◌, OnErr, OnOk, true};
+ghost use Rattle.fw_store.specs.Folders.{IsAfter, IsBefore, IsBeforeOrAfter, Passes};
+ghost use Rattle.fw_store.specs.Keeping.{Settled};
+ghost use Rattle.fw_store.specs.Kept.{kept_after};
+
+use crate::entry::Entry;
+use crate::folder::{Folder, RenameFault};
+use crate::lines::{are_apart, entries_after};
+use crate::memory::{MemStore, Stored};
+use crate::putting::put_images;
+use crate::store::{Kept, Store, StoreFault};
+use std::alloc::Global;
+
+/// A store over the files of a folder, and in memory what it keeps.
+///
+/// It is settled where the folder's `active` has its lines and no file has a number as high as its next one. A number is used
+/// once, also where the call fails. It is sure until the folder can't say whether a text came to its place: then it keeps
+/// nothing more, and whoever opens the folder next finds what was kept or what was to be kept.
+#[derive(Drop)]
+pub struct FolderStore<F: Folder + Drop> {
+    alloc: Global,
+    folder: F,
+    memory: MemStore,
+    entries: Vec<Entry>,
+    next: u64,
+    is_sure: bool,
+}
+
+impl<F: Folder + Drop> FolderStore<F> {
+    /// A store that is sure of what the folder keeps.
+    pub(crate) fn of(
+        alloc: Global,
+        folder: F,
+        memory: MemStore,
+        entries: Vec<Entry>,
+        next: u64,
+    ) -> FolderStore<F>
+        ensures folder { result.folder ≡ folder }
+        ensures kept { result.memory.images.items ≡ memory.images.items }
+        ensures lines { result.entries.items ≡ entries.items }
+        ensures next { result.next ≡ next }
+        ensures sure { result.is_sure ≡ true }
+    {
+        FolderStore {
+            alloc,
+            folder,
+            memory,
+            entries,
+            next,
+            is_sure: true,
+        }
+    }
+
+    /// The folder, after the store.
+    pub fn into_folder(self) -> F
+        ensures { result ≡ self.folder }
+    {
+        self.folder
+    }
+
+    /// The folder.
+    pub fn folder(&self) -> &F
+        ensures { result.now ≡ self.now.folder }
+    {
+        &self.folder
+    }
+
+    /// The images that are kept.
+    pub fn images(&self) -> &[Stored]
+        ensures { result.now ≡ self.now.memory.images.items }
+    {
+        self.memory.images()
+    }
+
+    /// Keeps images: their files first, and then the text that names them.
+    ///
+    /// # Errors
+    /// The folder fails, memory is refused, a component stands twice among these images, or the store isn't sure any more.
+    /// What was kept is kept.
+    #[tactic(auto, using(crate::proofs::Ending::ending))]
+    pub fn put(&mut self, images: &[Kept<'_>]) -> Result<(), StoreFault>
+        ensures ok { OnOk result (self.new.memory.images.items ≡ kept_after self.old.memory.images.items images.now) }
+        ensures err { OnErr result (self.new.memory.images.items ≡ self.old.memory.images.items) }
+        ensures known { F.is_known self.new.folder ≡ F.is_known self.old.folder }
+        ensures sure { OnOk result (self.new.is_sure ≡ true) }
+        ensures settled { Settled (F.is_known self.old.folder) self.old.is_sure self.old.next (F.files self.old.folder) self.old.entries.items
+            → Settled (F.is_known self.new.folder) self.new.is_sure self.new.next (F.files self.new.folder) self.new.entries.items }
+        ensures found { OnOk result (Settled (F.is_known self.old.folder) self.old.is_sure self.old.next (F.files self.old.folder) self.old.entries.items
+            → F.is_known self.old.folder ≡ true → IsAfter images.now (F.files self.old.folder) (F.files self.new.folder)) }
+        ensures stays { OnErr result (Settled (F.is_known self.old.folder) self.old.is_sure self.old.next (F.files self.old.folder) self.old.entries.items
+            → F.is_known self.old.folder ≡ true → self.new.is_sure ≡ true → IsBefore (F.files self.old.folder) (F.files self.new.folder)) }
+        ensures moments { Settled (F.is_known self.old.folder) self.old.is_sure self.old.next (F.files self.old.folder) self.old.entries.items
+            → F.is_known self.old.folder ≡ true → Passes (IsBeforeOrAfter images.now (F.files self.old.folder)) (F.moments self.old.folder) (F.moments self.new.folder) }
+    {
+        if !self.is_sure || !are_apart(images) {
+            return Err(StoreFault);
+        }
+        let Ok(number) = u32::try_from(self.next) else {
+            return Err(StoreFault);
+        };
+        self.next += 1;
+        let Ok(memory) = self.memory.with(images) else {
+            return Err(StoreFault);
+        };
+        let Ok(entries) = entries_after(self.alloc, number, images, self.entries.as_slice()) else {
+            return Err(StoreFault);
+        };
+        match put_images(
+            self.alloc,
+            &mut self.folder,
+            number,
+            images,
+            entries.as_slice(),
+        ) {
+            Ok(()) => {
+                self.memory = memory;
+                self.entries = entries;
+                Ok(())
+            }
+            Err(RenameFault::Unchanged) => Err(StoreFault),
+            Err(RenameFault::Unsure) => {
+                self.is_sure = false;
+                Err(StoreFault)
+            }
+        }
+    }
+}
+
+impl<F: Folder + Drop> Store for FolderStore<F> {
+    ghost kept = { λ s. s.memory.images.items };
+
+    fn keep(&mut self, images: &[Kept<'_>]) -> Result<(), StoreFault> {
+        self.put(images)
+    }
+}

@@ -1,0 +1,143 @@
+//! The lines of images that come to a folder.
+
+ghost use Rattle.std.specs.Prelude.{◌≡◌, ◌++◌, ◌<◌, ◌^◌, ℕ, get_or, IfOk, IfSome, None, OnOk, map, true};
+ghost use Rattle.std.specs.List.{AllByRecursion};
+ghost use Rattle.fd_core.specs.Banks.{AreApart};
+ghost use Rattle.fw_store.specs.Active.{IsEntry};
+ghost use Rattle.fw_store.specs.Keeping.{entries_after as lines_after, entry_for as line_for, lines_left};
+
+use crate::entry::Entry;
+use crate::memory::find;
+use crate::store::{Kept, StoreFault};
+use fw_package::crc32;
+use fwup_wire::Key;
+use std::alloc::{AllocError, Global};
+
+/// Whether no component stands twice among these.
+#[tactic(auto, using(crate::proofs::Left::has_none))]
+pub(crate) fn are_apart(images: &[Kept<'_>]) -> bool
+    ensures { result ≡ true → AreApart (map (λ k. k.key) images.now) }
+{
+    match images {
+        [] => true,
+        [first, rest @ ..] => find(rest, first.key).is_none() && are_apart(rest),
+    }
+}
+
+/// The line of an image in a file of this number, where its size has four bytes.
+fn line_of(number: u32, image: &Kept<'_>) -> Option<Entry>
+    ensures { IfSome result (λ e. e ≡ line_for number image.now) }
+{
+    match u32::try_from(image.bytes.len()) {
+        Ok(size) => Some(Entry {
+            key: image.key,
+            label: image.label.copied(),
+            number,
+            size,
+            checksum: crc32(image.bytes),
+        }),
+        Err(_) => None,
+    }
+}
+
+/// Appends the lines of images that are new.
+fn push_new(entries: &mut Vec<Entry>, number: u32, images: &[Kept<'_>]) -> Result<(), StoreFault>
+    ensures { OnOk result (entries.new.items ≡ entries.old.items ++ map (line_for number) images.now) }
+{
+    for image in images {
+        let Some(entry) = line_of(number, image) else {
+            return Err(StoreFault);
+        };
+        let Ok(()) = entries.push(entry) else {
+            return Err(StoreFault);
+        };
+    }
+    Ok(())
+}
+
+/// The same line again.
+fn copied(entry: &Entry) -> Entry
+    ensures { result ≡ entry.now }
+{
+    Entry {
+        key: entry.key,
+        label: entry.label.copied(),
+        number: entry.number,
+        size: entry.size,
+        checksum: entry.checksum,
+    }
+}
+
+/// Appends the lines of other components than these.
+#[tactic(auto, using(crate::proofs::Left::leaving))]
+fn push_left(entries: &mut Vec<Entry>, images: &[Kept<'_>], old: &[Entry]) -> Result<(), StoreFault>
+    ensures { OnOk result (entries.new.items ≡ entries.old.items ++ lines_left images.now old.now) }
+{
+    for entry in old {
+        if find(images, entry.key).is_none() {
+            let Ok(()) = entries.push(copied(entry)) else {
+                return Err(StoreFault);
+            };
+        }
+    }
+    Ok(())
+}
+
+/// Numbers have their widths.
+fn number_widths(key: Key, stamp: u32, kind: u8, number: u32, size: u32, checksum: u32)
+    ensures class { key.classification < 2 ^ 16 }
+    ensures ident { key.identifier < 2 ^ 16 }
+    ensures stamp { stamp < 2 ^ 32 }
+    ensures kind { kind < 2 ^ 8 }
+    ensures number { number < 2 ^ 32 }
+    ensures size { size < 2 ^ 32 }
+    ensures checksum { checksum < 2 ^ 32 }
+{}
+
+/// Bytes have theirs.
+fn byte_widths(bytes: &[u8])
+    ensures { (i : ℕ) → get_or bytes.now i 0 < 256 }
+{}
+
+/// So have those of a line.
+fn width(entry: &Entry)
+    ensures { IsEntry entry.now }
+{
+    let version = entry.label.version();
+    byte_widths(version.text.bytes);
+    number_widths(
+        entry.key,
+        version.stamp,
+        version.text.text_type,
+        entry.number,
+        entry.size,
+        entry.checksum,
+    );
+}
+
+/// So have those of each line.
+#[tactic(auto, using(crate::proofs::Left::all_more))]
+pub(crate) fn widths(entries: &[Entry])
+    ensures { AllByRecursion IsEntry entries.now }
+{
+    for entry in entries {
+        width(entry);
+    }
+}
+
+/// The lines after these images came to files of this number.
+pub(crate) fn entries_after(
+    alloc: Global,
+    number: u32,
+    images: &[Kept<'_>],
+    old: &[Entry],
+) -> Result<Vec<Entry>, StoreFault>
+    ensures lines { IfOk result (λ v. v.items ≡ lines_after number images.now old.now) }
+    ensures widths { IfOk result (λ v. AllByRecursion IsEntry v.items) }
+{
+    let mut entries = Vec::new(alloc);
+    push_new(&mut entries, number, images)?;
+    push_left(&mut entries, images, old)?;
+    widths(entries.as_slice());
+    Ok(entries)
+}

@@ -1,0 +1,186 @@
+//! What a folder keeps.
+
+ghost use Rattle.std.specs.Prelude.{◌≡◌, ◌⊎◌, Err, IfErr, IfOk, Ok, Some, is_some, option_map, true};
+ghost use Rattle.fw_store.specs.Active.{image_name as name_of};
+ghost use Rattle.fw_store.specs.Folders.{active_name, image_by, images_of as images_by, lines_by};
+ghost use Rattle.fw_store.specs.Kept.{kept_after};
+ghost use Rattle.fw_store.specs.Opening.{found_in, has_foreign as names_foreign};
+
+use crate::entry::Entry;
+use crate::faults::OpenFault;
+use crate::folder::Folder;
+use crate::memory::{MemStore, Stored, copied, find};
+use crate::putting::ACTIVE;
+use crate::reading::read_active;
+use crate::store::Kept;
+use crate::writing::image_name;
+use fw_package::crc32;
+use std::alloc::{AllocError, Global};
+
+/// The lines of a folder's `active`, if it is their text: none where there is no such file.
+fn lines<F: Folder>(alloc: Global, folder: &F) -> Result<Option<Vec<Entry>>, OpenFault>
+    ensures ok { IfOk result (λ r. F.is_known folder.now ≡ true → option_map (λ v. v.items) r ≡ lines_by (F.files folder.now active_name)) }
+    ensures err { IfErr result (λ e. (e ≡ OpenFault.Unreadable) ⊎ (e ≡ OpenFault.Memory)) }
+{
+    let found = match folder.read(alloc, ACTIVE) {
+        Ok(found) => found,
+        Err(_) => return Err(OpenFault::Unreadable),
+    };
+    let Some(text) = found else {
+        return Ok(Some(Vec::new(alloc)));
+    };
+    match read_active(alloc, &text) {
+        Ok(entries) => Ok(entries),
+        Err(_) => Err(OpenFault::Memory),
+    }
+}
+
+/// The image of a line, where its bytes have its size and its checksum.
+fn checked(entry: &Entry, bytes: Vec<u8>) -> Option<Stored>
+    ensures { result ≡ image_by entry.now (Some bytes.items) }
+{
+    if bytes.len() as u64 == u64::from(entry.size) && crc32(&bytes) == entry.checksum {
+        Some(Stored::new(entry.key, entry.label.copied(), bytes))
+    } else {
+        None
+    }
+}
+
+/// The image of a line, where it is there.
+fn image<F: Folder>(alloc: Global, folder: &F, entry: &Entry) -> Result<Option<Stored>, OpenFault>
+    ensures ok { IfOk result (λ r. F.is_known folder.now ≡ true → r ≡ image_by entry.now (F.files folder.now (name_of entry.now.key entry.now.number))) }
+    ensures err { IfErr result (λ e. (e ≡ OpenFault.Unreadable) ⊎ (e ≡ OpenFault.Memory)) }
+{
+    let Ok(name) = image_name(alloc, entry.key, entry.number) else {
+        return Err(OpenFault::Memory);
+    };
+    match folder.read(alloc, &name) {
+        Ok(Some(bytes)) => Ok(checked(entry, bytes)),
+        Ok(None) => Ok(None),
+        Err(_) => Err(OpenFault::Unreadable),
+    }
+}
+
+/// The images of lines, where each is there.
+#[tactic(auto, using(crate::proofs::FoundImages::looking))]
+fn images<F: Folder>(
+    alloc: Global,
+    folder: &F,
+    entries: &[Entry],
+) -> Result<Option<Vec<Stored>>, OpenFault>
+    ensures ok { IfOk result (λ r. F.is_known folder.now ≡ true → option_map (λ v. v.items) r ≡ images_by (F.files folder.now) entries.now) }
+    ensures err { IfErr result (λ e. (e ≡ OpenFault.Unreadable) ⊎ (e ≡ OpenFault.Memory)) }
+{
+    let mut images = Vec::new(alloc);
+    for entry in entries {
+        match image(alloc, folder, entry) {
+            Ok(Some(image)) => {
+                let Ok(()) = images.push(image) else {
+                    return Err(OpenFault::Memory);
+                };
+            }
+            Ok(None) => return Ok(None),
+            Err(fault) => return Err(fault),
+        }
+    }
+    Ok(Some(images))
+}
+
+/// Whether a line is of a component that isn't among these.
+#[tactic(auto, using(crate::proofs::FoundImages::foreign))]
+fn has_foreign(components: &[Kept<'_>], entries: &[Entry]) -> bool
+    ensures { result ≡ names_foreign components.now entries.now }
+{
+    for entry in entries {
+        if find(components, entry.key).is_none() {
+            return true;
+        }
+    }
+    false
+}
+
+/// The images, lent.
+fn lent(alloc: Global, images: &[Stored]) -> Result<Vec<Kept<'_>>, AllocError>
+    ensures { IfOk result (λ v. v.items ≡ images.now) }
+{
+    let mut lent = Vec::new(alloc);
+    for image in images {
+        lent.push(image.image())?;
+    }
+    Ok(lent)
+}
+
+/// Copies of images.
+fn copies(alloc: Global, images: &[Kept<'_>]) -> Result<Vec<Stored>, AllocError>
+    ensures { IfOk result (λ v. v.items ≡ images.now) }
+{
+    let mut copies = Vec::new(alloc);
+    for image in images {
+        copies.push(copied(alloc, image.key, image.label, image.bytes)?)?;
+    }
+    Ok(copies)
+}
+
+/// A store of these images, with others in their places.
+fn store_over(
+    alloc: Global,
+    components: &[Kept<'_>],
+    stored: &[Stored],
+) -> Result<MemStore, AllocError>
+    ensures { IfOk result (λ s. s.images.items ≡ kept_after components.now stored.now) }
+{
+    let base = MemStore::with_all(alloc, copies(alloc, components)?);
+    let stored = lent(alloc, stored)?;
+    base.with(stored.as_slice())
+}
+
+/// The lines of a folder, and what it keeps over a configuration's images.
+pub(crate) fn look<F: Folder>(
+    alloc: Global,
+    folder: &F,
+    components: &[Kept<'_>],
+) -> Result<(Vec<Entry>, MemStore), OpenFault>
+    ensures ok { IfOk result (λ r. F.is_known folder.now ≡ true → found_in components.now (F.files folder.now) ≡ Ok r.1.images.items) }
+    ensures lines { IfOk result (λ r. F.is_known folder.now ≡ true → lines_by (F.files folder.now active_name) ≡ Some r.0.items) }
+    ensures there { IfOk result (λ r. F.is_known folder.now ≡ true → is_some (images_by (F.files folder.now) r.0.items) ≡ true) }
+    ensures damaged { IfErr result (λ e. e ≡ OpenFault.Damaged → F.is_known folder.now ≡ true → found_in components.now (F.files folder.now) ≡ Err OpenFault.Damaged) }
+    ensures foreign { IfErr result (λ e. e ≡ OpenFault.Foreign → F.is_known folder.now ≡ true → found_in components.now (F.files folder.now) ≡ Err OpenFault.Foreign) }
+{
+    let entries = match lines(alloc, folder) {
+        Ok(Some(entries)) => entries,
+        Ok(None) => return Err(OpenFault::Damaged),
+        Err(fault) => return Err(fault),
+    };
+    if has_foreign(components, entries.as_slice()) {
+        return Err(OpenFault::Foreign);
+    }
+    let stored = match images(alloc, folder, entries.as_slice()) {
+        Ok(Some(stored)) => stored,
+        Ok(None) => return Err(OpenFault::Damaged),
+        Err(fault) => return Err(fault),
+    };
+    match store_over(alloc, components, stored.as_slice()) {
+        Ok(store) => Ok((entries, store)),
+        Err(_) => Err(OpenFault::Memory),
+    }
+}
+
+/// What a folder keeps over a configuration's images, which stand in their components' places where it keeps none. The folder
+/// is only read, and the store that comes from it lasts as long as the program.
+///
+/// # Errors
+/// `Damaged` and `Foreign` as `found_in` says them; `Unreadable` where the folder can't be read, and `Memory`.
+pub fn read_store<F: Folder>(
+    alloc: Global,
+    folder: &F,
+    components: &[Kept<'_>],
+) -> Result<MemStore, OpenFault>
+    ensures ok { IfOk result (λ s. F.is_known folder.now ≡ true → found_in components.now (F.files folder.now) ≡ Ok s.images.items) }
+    ensures damaged { IfErr result (λ e. e ≡ OpenFault.Damaged → F.is_known folder.now ≡ true → found_in components.now (F.files folder.now) ≡ Err OpenFault.Damaged) }
+    ensures foreign { IfErr result (λ e. e ≡ OpenFault.Foreign → F.is_known folder.now ≡ true → found_in components.now (F.files folder.now) ≡ Err OpenFault.Foreign) }
+{
+    match look(alloc, folder, components) {
+        Ok((_, store)) => Ok(store),
+        Err(fault) => Err(fault),
+    }
+}

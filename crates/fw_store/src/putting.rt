@@ -1,0 +1,99 @@
+//! How images come to a folder: their files first, and then the text that names them.
+
+ghost use Rattle.std.specs.Prelude.{◌≡◌, ◌⊎◌, ◌^◌, ◌<◌, IfErr, IfOk, OnErr, OnOk, map, true};
+ghost use Rattle.fd_core.specs.Banks.{AreApart};
+ghost use Rattle.fw_store.specs.Active.{image_name as name_of};
+ghost use Rattle.fw_store.specs.Folders.{Passes};
+ghost use Rattle.fw_store.specs.Keeping.{Apart, Came, IsKey, IsPut, IsStopped, IsUnput, IsWriting, MayHaveCome};
+
+use crate::entry::Entry;
+use crate::folder::{Folder, FolderFault, RenameFault};
+use crate::store::Kept;
+use crate::writing::{active_text, image_name};
+use fwup_wire::Key;
+use std::alloc::{AllocError, Global};
+
+/// The name of the text that says what runs.
+pub(crate) const ACTIVE: &[u8] = b"active";
+
+/// The name under which it is written before it comes to its place.
+pub(crate) const ACTIVE_NEW: &[u8] = b"active.new";
+
+/// The name of an image's file of this number.
+fn file_name(alloc: Global, key: Key, number: u32) -> Result<Vec<u8>, AllocError>
+    ensures name { IfOk result (λ name. name.items ≡ name_of key number) }
+    ensures key { IsKey key }
+    ensures number { number < 2 ^ 32 }
+{
+    image_name(alloc, key, number)
+}
+
+/// Writes images to files of this number.
+fn write_images<F: Folder>(
+    alloc: Global,
+    folder: &mut F,
+    number: u32,
+    images: &[Kept<'_>],
+) -> Result<(), FolderFault>
+    requires apart { AreApart (map (λ k. k.key) images.now) }
+    ensures known { F.is_known folder.new ≡ F.is_known folder.old }
+    ensures ok { OnOk result (F.is_known folder.old ≡ true → IsWriting number images.now (F.files folder.old) (F.files folder.new) (F.moments folder.old) (F.moments folder.new)) }
+    ensures err { OnErr result (F.is_known folder.old ≡ true → IsStopped number (F.files folder.old) (F.files folder.new) (F.moments folder.old) (F.moments folder.new)) }
+{
+    for image in images {
+        let Ok(name) = file_name(alloc, image.key, number) else {
+            return Err(FolderFault);
+        };
+        match folder.write(&name, image.bytes) {
+            Ok(()) => {}
+            Err(fault) => return Err(fault),
+        }
+    }
+    Ok(())
+}
+
+/// Puts the text of these lines in its place.
+#[tactic(auto, using(crate::proofs::Moments::putting))]
+fn put_text<F: Folder>(folder: &mut F, text: &[u8]) -> Result<(), RenameFault>
+    ensures known { F.is_known folder.new ≡ F.is_known folder.old }
+    ensures ok { OnOk result (F.is_known folder.old ≡ true → IsPut text.now (F.files folder.old) (F.files folder.new) (F.moments folder.old) (F.moments folder.new)) }
+    ensures unchanged { IfErr result (λ e. e ≡ RenameFault.Unchanged → F.is_known folder.old ≡ true → IsUnput (F.files folder.old) (F.files folder.new) (F.moments folder.old) (F.moments folder.new)) }
+    ensures unsure { IfErr result (λ e. e ≡ RenameFault.Unsure → F.is_known folder.old ≡ true → IsUnput (F.files folder.old) (F.files folder.new) (F.moments folder.old) (F.moments folder.new) ⊎ IsPut text.now (F.files folder.old) (F.files folder.new) (F.moments folder.old) (F.moments folder.new)) }
+{
+    match folder.write(ACTIVE_NEW, text) {
+        Ok(()) => folder.rename(ACTIVE_NEW, ACTIVE),
+        Err(_) => Err(RenameFault::Unchanged),
+    }
+}
+
+/// Writes images to files of this number, and then puts the text of these lines in its place: the moment from which they run.
+///
+/// # Errors
+/// `Unchanged`: what ran runs. `Unsure`: it runs, or these images do.
+#[tactic(auto, using(crate::proofs::Moments::coming))]
+pub(crate) fn put_images<F: Folder>(
+    alloc: Global,
+    folder: &mut F,
+    number: u32,
+    images: &[Kept<'_>],
+    entries: &[Entry],
+) -> Result<(), RenameFault>
+    requires apart { AreApart (map (λ k. k.key) images.now) }
+    ensures known { F.is_known folder.new ≡ F.is_known folder.old }
+    ensures ok { OnOk result (F.is_known folder.old ≡ true → Came number images.now entries.now (F.files folder.old) (F.files folder.new)) }
+    ensures unchanged { IfErr result (λ e. e ≡ RenameFault.Unchanged → F.is_known folder.old ≡ true → Apart number (F.files folder.old) (F.files folder.new)) }
+    ensures unsure { IfErr result (λ e. e ≡ RenameFault.Unsure → F.is_known folder.old ≡ true → MayHaveCome number images.now entries.now (F.files folder.old) (F.files folder.new)) }
+    ensures moments { F.is_known folder.old ≡ true → Passes (MayHaveCome number images.now entries.now (F.files folder.old)) (F.moments folder.old) (F.moments folder.new) }
+{
+    let Ok(text) = active_text(alloc, entries) else {
+        return Err(RenameFault::Unchanged);
+    };
+    let Ok(()) = write_images(alloc, folder, number, images) else {
+        return Err(RenameFault::Unchanged);
+    };
+    match put_text(folder, &text) {
+        Ok(()) => Ok(()),
+        Err(RenameFault::Unchanged) => Err(RenameFault::Unchanged),
+        Err(RenameFault::Unsure) => Err(RenameFault::Unsure),
+    }
+}

@@ -1,0 +1,76 @@
+//! Files that were left in a store's folder.
+
+ghost use Rattle.std.specs.Prelude.{◌≡◌, ◌≢◌, IfOk, false, true};
+ghost use Rattle.std.specs.List.{AllByRecursion};
+ghost use Rattle.fw_store.specs.Active.{image_name as name_of};
+ghost use Rattle.fw_store.specs.Folders.{Passes};
+ghost use Rattle.fw_store.specs.Opening.{IsStray, IsUntouched, is_ours as has_our_name};
+
+use crate::entry::Entry;
+use crate::folder::Folder;
+use crate::putting::{ACTIVE, ACTIVE_NEW};
+use crate::reading::name as name_at;
+use crate::writing::image_name;
+use std::alloc::{AllocError, Global};
+
+/// Whether a name is one that a store gives its files, but for `active` itself.
+#[tactic(auto, unfolding(crate::specs::Opening::is_ours))]
+fn is_ours(alloc: Global, name: &[u8]) -> Result<bool, AllocError>
+    ensures { IfOk result (λ b. b ≡ has_our_name name.now) }
+{
+    if name == ACTIVE_NEW {
+        return Ok(true);
+    }
+    let Some(((key, number), _)) = name_at(name) else {
+        return Ok(false);
+    };
+    let written = image_name(alloc, key, number)?;
+    Ok(written.as_slice() == name)
+}
+
+/// Whether a line names a file.
+fn is_named(alloc: Global, entries: &[Entry], name: &[u8]) -> Result<bool, AllocError>
+    ensures { IfOk result (λ b. b ≡ false → AllByRecursion (λ e. name_of e.key e.number ≢ name.now) entries.now) }
+{
+    for entry in entries {
+        let written = image_name(alloc, entry.key, entry.number)?;
+        if written.as_slice() == name {
+            return Ok(true);
+        }
+    }
+    Ok(false)
+}
+
+/// Whether a file is one of this store that no line names.
+fn is_stray(alloc: Global, entries: &[Entry], name: &[u8]) -> Result<bool, AllocError>
+    ensures { IfOk result (λ b. b ≡ true → IsStray entries.now name.now) }
+{
+    if name == ACTIVE || !is_ours(alloc, name)? {
+        return Ok(false);
+    }
+    Ok(!is_named(alloc, entries, name)?)
+}
+
+/// Removes the files that no line names, among those of these names. One that can't be removed stays.
+#[tactic(auto, using(crate::proofs::Swept::sweeping))]
+pub(crate) fn sweep<F: Folder>(
+    alloc: Global,
+    folder: &mut F,
+    entries: &[Entry],
+    names: &[Vec<u8>],
+) -> Result<(), AllocError>
+    ensures known { F.is_known folder.new ≡ F.is_known folder.old }
+    ensures untouched { F.is_known folder.old ≡ true → IsUntouched entries.now (F.files folder.old) (F.files folder.new) }
+    ensures moments { F.is_known folder.old ≡ true → Passes (IsUntouched entries.now (F.files folder.old)) (F.moments folder.old) (F.moments folder.new) }
+{
+    for name in names {
+        match is_stray(alloc, entries, name) {
+            Ok(true) => {
+                let _ = folder.remove(name);
+            }
+            Ok(false) => {}
+            Err(error) => return Err(error),
+        }
+    }
+    Ok(())
+}

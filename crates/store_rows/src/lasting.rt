@@ -1,0 +1,232 @@
+//! What a store in a folder keeps, whatever fails.
+
+use crate::folders::{Failing, TestFolder};
+use fd_core::{Key, Label};
+use fw_store::{
+    Entry, FolderStore, Kept, OpenFault, Store, Stored, active_text, open_store, read_active,
+};
+use fwup_wire::{Text, Version};
+use std::alloc::Global;
+use std::test::Fail;
+
+/// The first component.
+const FIRST: Key = Key {
+    classification: 10,
+    identifier: 1,
+};
+
+/// The second.
+const SECOND: Key = Key {
+    classification: 65535,
+    identifier: 0,
+};
+
+/// The text of two images, written by hand, with CRC-32s of another program.
+const WORKED: &[u8] =
+    b"10 1 305419896 1 76312E32 10-1.3.image 3 55BC801D\n65535 0 0 0 - 65535-0.12.image 0 00000000\n03E0AFF7\n";
+
+/// A stamp, a text type and a text.
+fn label(stamp: u32, text_type: u8, bytes: &[u8]) -> Label {
+    Label::new(&Version {
+        stamp,
+        text: Text { text_type, bytes },
+    })
+}
+
+/// Whether these are the bytes of both components.
+fn are(images: &[Stored], first: &[u8], second: &[u8]) -> bool {
+    match images {
+        [one, other] => one.image().bytes == first && other.image().bytes == second,
+        _ => false,
+    }
+}
+
+/// Opens a store over AA and BB BB.
+fn open(alloc: Global, folder: TestFolder) -> Result<FolderStore<TestFolder>, OpenFault> {
+    let label = label(1, 1, b"a");
+    let components = [
+        Kept {
+            key: FIRST,
+            label: &label,
+            bytes: &[0xAA],
+        },
+        Kept {
+            key: SECOND,
+            label: &label,
+            bytes: &[0xBB, 0xBB],
+        },
+    ];
+    open_store(alloc, folder, &components)
+}
+
+/// Keeps these bytes of both components.
+fn keep(store: &mut FolderStore<TestFolder>, first: &[u8], second: &[u8]) -> bool {
+    let label = label(2, 1, b"b");
+    let images = [
+        Kept {
+            key: FIRST,
+            label: &label,
+            bytes: first,
+        },
+        Kept {
+            key: SECOND,
+            label: &label,
+            bytes: second,
+        },
+    ];
+    store.keep(&images).is_ok()
+}
+
+/// Whether one failing call leaves what was kept before or what is kept after, and what is kept after where no failure is told.
+fn lasts(alloc: Global, call: u32, failing: Failing) -> Result<bool, Fail> {
+    let mut store = open(alloc, TestFolder::new(alloc, 4 + call, failing))?;
+    let begun = keep(&mut store, &[1], &[2, 2]);
+    let kept = keep(&mut store, &[3, 3, 3], &[4, 4, 4, 4]);
+    let after = are(store.images(), &[3, 3, 3], &[4, 4, 4, 4]);
+    let again = open(alloc, store.folder().copied()?)?;
+    let found = are(again.images(), &[3, 3, 3], &[4, 4, 4, 4]);
+    let before = are(again.images(), &[1], &[2, 2]);
+    Ok(
+        begun
+            && kept == after
+            && (found || before)
+            && (found || !kept)
+            && again.folder().count() == 3,
+    )
+}
+
+#[test]
+fn a_call_that_fails_leaves_the_images_before_or_after(rt: HostRuntime) -> Result<(), Fail> {
+    for call in 1..6 {
+        for failing in [Failing::Before, Failing::Half, Failing::After] {
+            assert!(rt; lasts(rt.alloc(), call, failing)?);
+        }
+    }
+    Ok(())
+}
+
+#[test]
+fn what_fails_once_can_be_kept_again(rt: HostRuntime) -> Result<(), Fail> {
+    let alloc = rt.alloc();
+    let mut store = open(alloc, TestFolder::new(alloc, 2, Failing::Half))?;
+    assert!(rt; !keep(&mut store, &[1], &[2]));
+    assert!(rt; are(store.images(), &[0xAA], &[0xBB, 0xBB]));
+    assert!(rt; keep(&mut store, &[1], &[2]));
+    let again = open(alloc, store.into_folder())?;
+    assert!(rt; are(again.images(), &[1], &[2]));
+    assert!(rt; again.folder().bytes(b"10-1.2.image") == Some([1].as_slice()));
+    Ok(())
+}
+
+#[test]
+fn a_store_that_is_unsure_keeps_nothing_more(rt: HostRuntime) -> Result<(), Fail> {
+    let alloc = rt.alloc();
+    let mut store = open(alloc, TestFolder::new(alloc, 4, Failing::After))?;
+    assert!(rt; !keep(&mut store, &[1], &[2]));
+    assert!(rt; !keep(&mut store, &[3], &[4]));
+    assert!(rt; are(store.images(), &[0xAA], &[0xBB, 0xBB]));
+    let again = open(alloc, store.into_folder())?;
+    assert!(rt; are(again.images(), &[1], &[2]));
+    Ok(())
+}
+
+#[test]
+fn a_text_written_by_hand_is_read(rt: HostRuntime) -> Result<(), Fail> {
+    let Some(entries) = read_active(rt.alloc(), WORKED)? else {
+        return Err(Fail::new("refused"));
+    };
+    let [first, second] = entries.as_slice() else {
+        return Err(Fail::new("two images"));
+    };
+    assert!(rt;
+        first.key == FIRST && first.label.stamp == 0x12345678 && first.label.text_type == 1
+    );
+    assert!(rt; first.label.text.as_slice() == b"v1.2".as_slice());
+    assert!(rt; first.number == 3 && first.size == 3 && first.checksum == 0x55BC_801D);
+    assert!(rt; second.key == SECOND && second.label.stamp == 0 && second.label.text_type == 0);
+    assert!(rt; second.label.text.is_empty());
+    assert!(rt; second.number == 12 && second.size == 0 && second.checksum == 0);
+    let written = active_text(rt.alloc(), entries.as_slice())?;
+    assert!(rt; written.as_slice() == WORKED);
+    Ok(())
+}
+
+/// A copy of bytes in which one is turned.
+fn turned(alloc: Global, bytes: &[u8], place: usize, by: u8) -> Result<Vec<u8>, Fail> {
+    let mut turned = Vec::new(alloc);
+    for (i, byte) in bytes.iter().enumerate() {
+        turned.push(if i == place { *byte ^ by } else { *byte })?;
+    }
+    Ok(turned)
+}
+
+#[test]
+fn each_byte_that_is_turned_is_told(rt: HostRuntime) -> Result<(), Fail> {
+    let alloc = rt.alloc();
+    for place in 0..WORKED.len() {
+        for by in [1, 2, 4, 0x20, 0x80] {
+            let text = turned(alloc, WORKED, place, by)?;
+            assert!(rt; read_active(alloc, text.as_slice())?.is_none());
+        }
+    }
+    Ok(())
+}
+
+/// Whether a store whose file has these bytes is damaged, and nothing of it is touched.
+fn is_damaged(alloc: Global, folder: &TestFolder, name: &[u8], bytes: &[u8]) -> Result<bool, Fail> {
+    let mut folder = folder.copied()?;
+    folder.set(name, bytes)?;
+    folder.set(b"active.new", b"half")?;
+    Ok(matches!(open(alloc, folder), Err(OpenFault::Damaged)))
+}
+
+#[test]
+fn an_image_that_is_cut_or_turned_is_told(rt: HostRuntime) -> Result<(), Fail> {
+    let alloc = rt.alloc();
+    let mut store = open(alloc, TestFolder::new(alloc, 0, Failing::Before))?;
+    assert!(rt; keep(&mut store, &[1, 2, 3], &[4]));
+    let folder = store.into_folder();
+    assert!(rt; is_damaged(alloc, &folder, b"10-1.1.image", &[1, 2])?);
+    assert!(rt; is_damaged(alloc, &folder, b"10-1.1.image", &[1, 2, 2])?);
+    assert!(rt; is_damaged(alloc, &folder, b"10-1.1.image", &[1, 2, 3, 0])?);
+    assert!(rt; is_damaged(alloc, &folder, b"active", b"")?);
+    assert!(rt; !is_damaged(alloc, &folder, b"10-1.1.image", &[1, 2, 3])?);
+    Ok(())
+}
+
+#[test]
+fn what_active_does_not_name_is_removed(rt: HostRuntime) -> Result<(), Fail> {
+    let alloc = rt.alloc();
+    let mut folder = TestFolder::new(alloc, 0, Failing::Before);
+    for name in [
+        b"10-1.7.image".as_slice(),
+        b"active.new",
+        b"history",
+        b"010-1.7.image",
+        b"10-1.7.image.txt",
+    ] {
+        folder.set(name, b"x")?;
+    }
+    let store = open(alloc, folder)?;
+    assert!(rt; are(store.images(), &[0xAA], &[0xBB, 0xBB]));
+    assert!(rt; store.folder().count() == 3);
+    assert!(rt; store.folder().bytes(b"history").is_some());
+    assert!(rt; store.folder().bytes(b"010-1.7.image").is_some());
+    Ok(())
+}
+
+#[test]
+fn a_store_of_another_configuration_is_foreign(rt: HostRuntime) -> Result<(), Fail> {
+    let alloc = rt.alloc();
+    let mut store = open(alloc, TestFolder::new(alloc, 0, Failing::Before))?;
+    assert!(rt; keep(&mut store, &[1], &[2]));
+    let label = label(1, 1, b"a");
+    let components = [Kept {
+        key: FIRST,
+        label: &label,
+        bytes: &[0xAA],
+    }];
+    let opened = open_store(alloc, store.into_folder(), &components);
+    assert!(rt; matches!(opened, Err(OpenFault::Foreign)));
+    Ok(())
+}
