@@ -1,2 +1,2 @@
 mod Leading
-mod Making
+pub mod Making

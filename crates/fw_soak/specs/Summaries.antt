@@ -1,0 +1,41 @@
+-- What is said of many runs.
+use Rattle.std.specs.Prelude.{ℕ, ◌≡◌, ◌+◌, ◌-◌, ◌^◌, Bool, true, false, if◌then◌else◌, List, [], ◌∷◌, Option, Some, None, length, map, min, not}
+use Rattle.std.specs.List.{AllByRecursion, sum_by}
+use Rattle.fw_world.specs.declared.step.Step.{Step}
+use Rattle.fw_soak.specs.Checking.{is_clean}
+use Rattle.fw_soak.specs.Counts.{activations_in, greatest, longest_in, losses_in, restarts_in}
+use Rattle.fw_soak.specs.Courses.{CourseOf, IsCourse, SetupOf}
+use Rattle.fw_soak.specs.declared.summary.Summary.{Summary}
+
+-- a count stops at its last value
+abbrev pub counted : ℕ → ℕ
+counted n = min n (2 ^ 64 - 1)
+
+-- the checker finds nothing wrong where a run ended
+abbrev pub ends_clean : SetupOf → CourseOf → Bool
+ends_clean s c = is_clean s.packages s.devices c.world
+
+abbrev pub violates : SetupOf → CourseOf → ℕ
+violates s c = if ends_clean s c then 0 else 1
+
+-- the steps of the first run that doesn't end so
+abbrev pub first_violation : SetupOf → List CourseOf → Option (List Step)
+first_violation s [] = None
+first_violation s (c ∷ cs) = if ends_clean s c then first_violation s cs else Some c.steps
+
+-- These runs were made, each from the world before the first step, and this is what is counted of them.
+pub record AreSummed (s : SetupOf) (cs : List CourseOf) (sum : Summary) : Type 0 where
+  pub each : AllByRecursion (IsCourse s) cs
+  pub runs : sum.runs ≡ length cs
+  pub activations : sum.activations ≡ counted (sum_by (λ c. activations_in c.world.history) cs)
+  pub losses : sum.losses ≡ counted (sum_by losses_in cs)
+  pub restarts : sum.restarts ≡ counted (sum_by (λ c. restarts_in c.steps) cs)
+  pub longest : sum.longest ≡ greatest (map longest_in cs)
+  pub violations : sum.violations ≡ sum_by (violates s) cs
+
+-- So many runs were made, and this is what is said of them, and kept of the first violation.
+pub record IsSoaked (s : SetupOf) (runs : ℕ) (sum : Summary) (kept : Option (List Step)) : Type 0 where
+  pub courses : List CourseOf
+  pub made : length courses ≡ runs
+  pub summed : AreSummed s courses sum
+  pub first : kept ≡ first_violation s courses
