@@ -10,8 +10,8 @@ use Rattle.fw_json.specs.Inspections.{inspection_value}
 use Rattle.fw_json.specs.Plans.{plan_value}
 use Rattle.fw_json.specs.Reports.{report_value}
 use Rattle.fw_json.specs.Values.{line_of}
-use Rattle.fw_json.specs.declared.forms.Form.{Form}
-use Rattle.fw_json.specs.declared.forms.Form.TheVariants as forms
+use Rattle.fwupd_base.specs.declared.forms.Form.{Form}
+use Rattle.fwupd_base.specs.declared.forms.Form.TheVariants as forms
 
 -- the inspection of a package
 abbrev pub inspection_in : Form → PackageText → List ℕ

@@ -1,4 +1,4 @@
-//! The form in which something is written.
+//! What is written in a form.
 
 ghost use Rattle.std.specs.Prelude.{◌≡◌, ◌≢◌, Err, IfErr, IfOk, IsOk, Ok, map};
 ghost use Rattle.std.specs.Result.{result_map_both};
@@ -14,17 +14,8 @@ use fw_package::Package;
 use fw_script::{DeviceConfig, report};
 use fw_setup::forecast;
 use fw_world::World;
-use fwupd_base::{InspectFault, inspect};
+use fwupd_base::{Form, InspectFault, inspect};
 use std::alloc::{AllocError, Global};
-
-/// The form in which something is written.
-#[derive(Clone, Copy, PartialEq, Eq)]
-pub enum Form {
-    /// Lines of text, for a reader.
-    Text,
-    /// One line of JSON, for a program.
-    Json,
-}
 
 /// Inspects a firmware package, in a form.
 ///

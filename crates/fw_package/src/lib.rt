@@ -22,6 +22,7 @@ mod writing;
 
 pub use asked::{AskedComponent, AskedFault, AskedPackage, AskedRecord};
 pub use components::{Component, Components};
+pub use crc::crc32;
 pub use descriptors::Descriptors;
 pub use fault::{PackageFault, PlanFault};
 pub use laws::{chooses_first, one_package, plans_named_images};

@@ -2,6 +2,7 @@
 #![tactic(auto)]
 
 mod drops;
+mod forms;
 mod inspection;
 mod responder;
 mod retries;
@@ -9,6 +10,7 @@ mod stream;
 mod text;
 
 pub use drops::DropCause;
+pub use forms::Form;
 pub use inspection::{InspectFault, inspect};
 pub use retries::{read_some, write_whole};
 pub use stream::{AnswerFault, answer_stream};

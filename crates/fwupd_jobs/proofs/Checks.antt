@@ -5,7 +5,7 @@ use Rattle.fwupd_jobs.specs.Checked.{ReportsChecked}
 use Rattle.fwupd_jobs.specs.Outputs.{OutputOf}
 use Rattle.fwupd_jobs.specs.Running.{ReportsUpdate, ShowOf, WatchOf}
 use Rattle.fwupd_jobs.specs.Setups.{FileOf}
-use Rattle.fwupd_jobs.specs.declared.command_line.Order.{Order}
+use Rattle.fwupd_words.specs.declared.asked.Order.{Order}
 use Rattle.fwupd_jobs.specs.declared.sessions.Undone.{Undone}
 use Rattle.fwupd_jobs.proofs.Ended.{all_done}
 

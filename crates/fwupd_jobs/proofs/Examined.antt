@@ -6,7 +6,7 @@ use Rattle.fw_package.specs.Reading.{package_of}
 use Rattle.fw_package.specs.declared.fault.PackageFault.{PackageFault}
 use Rattle.fwupd_jobs.specs.Inspected.{BreaksInspection, Inspects, told_as}
 use Rattle.fw_json.specs.Forms.{inspection_in}
-use Rattle.fw_json.specs.declared.forms.Form.{Form}
+use Rattle.fwupd_base.specs.declared.forms.Form.{Form}
 use Rattle.fwupd_jobs.specs.Outputs.{FailsToPrint, OutputOf, Prints}
 use Rattle.fwupd_jobs.specs.Setups.{FileOf, IsNone, MayHold, PackageFails}
 use Rattle.fwupd_jobs.specs.declared.faults.RunFault.{RunFault}

@@ -9,7 +9,7 @@ use Rattle.fw_script.specs.declared.config.Config.{Config}
 use Rattle.fw_script.specs.declared.config.DeviceConfig.{DeviceConfig}
 use Rattle.ua_core.specs.Lent.{package_at}
 use Rattle.fw_json.specs.Forms.{plan_in}
-use Rattle.fw_json.specs.declared.forms.Form.{Form}
+use Rattle.fwupd_base.specs.declared.forms.Form.{Form}
 use Rattle.fwupd_jobs.specs.Outputs.{FailsToPrint, OutputOf}
 use Rattle.fwupd_jobs.specs.Planned.{Forecasts, PlanEnds}
 use Rattle.fwupd_jobs.specs.Setups.{ArePacked, FileOf, Says}

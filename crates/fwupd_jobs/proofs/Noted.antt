@@ -8,7 +8,7 @@ use Rattle.fw_edge.specs.Drives.{Drives}
 use Rattle.fw_edge.specs.Links.{LinksOf}
 use Rattle.fw_edge.specs.Turns.{Drove, Turns}
 use Rattle.fw_json.specs.Forms.{report_in}
-use Rattle.fw_json.specs.declared.forms.Form.{Form}
+use Rattle.fwupd_base.specs.declared.forms.Form.{Form}
 use Rattle.fw_script.specs.ScheduleTexts.{AreSayable, PortionsAreTheWhole, SchedulesReadBack, idle_at, schedule_text, text_of_steps, ticks_text}
 use Rattle.fw_script.specs.Schedules.{script_of}
 use Rattle.fw_world.specs.Headline.{Leads, Run, faults_before, world_after}

@@ -1,7 +1,7 @@
 -- What is told of a job on a world.
 use Rattle.std.proofs.Common.{◌++◌, ◌∷◌, take, true, ◌≡◌, ◌⊎◌, ◌<◌, ◌+◌, ℕ, Bool, List, Option, None, Some, inl, inr, length, refl, ap, subst}
 use Rattle.fw_json.specs.Forms.{report_in}
-use Rattle.fw_json.specs.declared.forms.Form.{Form}
+use Rattle.fwupd_base.specs.declared.forms.Form.{Form}
 use Rattle.fw_script.specs.Configs.{ConfigOf, config_of}
 use Rattle.fw_script.specs.Schedules.{script_of}
 use Rattle.fw_world.specs.Headline.{IsOpeningWorld, IsSafeWorld, PacketsAreSafe}

@@ -4,7 +4,7 @@ use Rattle.fwupd_jobs.specs.Outputs.{OutputOf}
 use Rattle.fwupd_jobs.specs.Running.{ReportsUpdate, ShowOf, UpdateEnds, WatchOf}
 use Rattle.fwupd_jobs.specs.Sessions.{AllDone, TellsUndone}
 use Rattle.fwupd_jobs.specs.Setups.{FileOf}
-use Rattle.fwupd_jobs.specs.declared.command_line.Order.{Order}
+use Rattle.fwupd_words.specs.declared.asked.Order.{Order}
 use Rattle.fwupd_jobs.specs.declared.faults.RunFault.{RunFault}
 use Rattle.fwupd_jobs.specs.declared.sessions.Undone.{Undone}
 

@@ -2,7 +2,7 @@
 use Rattle.std.specs.Prelude.{ℕ, ◌≡◌, ◌⊎◌, List}
 use Rattle.fw_package.specs.Package.{PackageText}
 use Rattle.fw_json.specs.Forms.{inspection_in}
-use Rattle.fw_json.specs.declared.forms.Form.{Form}
+use Rattle.fwupd_base.specs.declared.forms.Form.{Form}
 use Rattle.fwupd_jobs.specs.Outputs.{FailsToPrint, OutputOf, Prints}
 use Rattle.fwupd_jobs.specs.Setups.{FileOf, IsPackageFile, PackageFails}
 use Rattle.fwupd_jobs.specs.declared.faults.RunFault.{RunFault}

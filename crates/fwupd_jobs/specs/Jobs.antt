@@ -10,8 +10,8 @@ use Rattle.fwupd_jobs.specs.Planned.{PlanEnds, Plans}
 use Rattle.fwupd_jobs.specs.Replayed.{ReplayEnds, ReportsReplay}
 use Rattle.fwupd_jobs.specs.Running.{WatchOf, show_of}
 use Rattle.fwupd_jobs.specs.Setups.{FileOf, any_file}
-use Rattle.fwupd_jobs.specs.declared.command_line.Job.{Job}
-use Rattle.fwupd_jobs.specs.declared.command_line.Job.TheVariants as jobs
+use Rattle.fwupd_words.specs.declared.asked.Job.{Job}
+use Rattle.fwupd_words.specs.declared.asked.Job.TheVariants as jobs
 use Rattle.fwupd_jobs.specs.declared.faults.RunFault.{RunFault}
 
 -- A job is done: what it was asked for is written.

@@ -15,4 +15,3 @@ pub mod Sessions
 pub mod Setups
 pub mod Traces
 pub mod Watching
-pub mod Words

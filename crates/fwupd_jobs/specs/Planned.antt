@@ -4,7 +4,7 @@ use Rattle.fw_package.specs.Package.{PackageText}
 use Rattle.fw_script.specs.Configs.{ConfigOf, config_of}
 use Rattle.ua_core.specs.Lent.{package_at}
 use Rattle.fw_json.specs.Forms.{plan_in}
-use Rattle.fw_json.specs.declared.forms.Form.{Form}
+use Rattle.fwupd_base.specs.declared.forms.Form.{Form}
 use Rattle.fwupd_jobs.specs.Outputs.{FailsToPrint, OutputOf, Prints}
 use Rattle.fwupd_jobs.specs.Setups.{ArePackages, FileOf, LacksPackage, Says, SetupFails}
 use Rattle.fwupd_jobs.specs.declared.faults.RunFault.{RunFault}

@@ -3,7 +3,7 @@ use Rattle.std.specs.Prelude.{ℕ, ◌≡◌, ◌<◌, ◌+◌, ◌⊎◌, Bool,
 use Rattle.fw_script.specs.Configs.{ConfigOf, config_of}
 use Rattle.fw_script.specs.Schedules.{script_of}
 use Rattle.fw_json.specs.Forms.{report_in}
-use Rattle.fw_json.specs.declared.forms.Form.{Form}
+use Rattle.fwupd_base.specs.declared.forms.Form.{Form}
 use Rattle.fw_world.specs.Headline.{Run}
 use Rattle.fw_world.specs.Replays.{Refuses}
 use Rattle.fw_world.specs.Worlds.{WorldOf}

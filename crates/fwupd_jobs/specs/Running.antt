@@ -6,7 +6,7 @@ use Rattle.fw_edge.specs.Ledgers.{OneFailed}
 use Rattle.fw_edge.specs.declared.driving.EdgeFault.{EdgeFault}
 use Rattle.fw_edge.specs.declared.driving.EdgeFault.TheVariants as edges
 use Rattle.fw_json.specs.Forms.{report_in}
-use Rattle.fw_json.specs.declared.forms.Form.{Form}
+use Rattle.fwupd_base.specs.declared.forms.Form.{Form}
 use Rattle.fw_world.specs.Headline.{Run, may_step}
 use Rattle.fw_world.specs.Worlds.{SiteOf, WorldOf}
 use Rattle.mctp_wire.specs.declared.unit.Unit.{«Unit»}
@@ -18,8 +18,8 @@ use Rattle.fwupd_jobs.specs.Promises.{IsSafeSince}
 use Rattle.fwupd_jobs.specs.Recordings.{IsRecorded, RecordingOf}
 use Rattle.fwupd_jobs.specs.Sessions.{undone_in}
 use Rattle.fwupd_jobs.specs.Setups.{FileOf, IsApartFrom, IsOver, IsOverOne, IsSetup, LacksPackage, SetupFails}
-use Rattle.fwupd_jobs.specs.declared.command_line.Show.{Show}
-use Rattle.fwupd_jobs.specs.declared.command_line.TraceForm.{TraceForm}
+use Rattle.fwupd_words.specs.declared.asked.Show.{Show}
+use Rattle.fwupd_words.specs.declared.asked.TraceForm.{TraceForm}
 use Rattle.fwupd_jobs.specs.declared.faults.RunFault.{RunFault}
 use Rattle.fwupd_jobs.specs.declared.faults.RunFault.TheVariants as faults
 use Rattle.fwupd_jobs.specs.declared.running.WatchFault.{WatchFault}

@@ -5,8 +5,8 @@ use Rattle.fw_text.specs.Printing.{numbered}
 use Rattle.fw_trace.specs.Captures.{CapturedOf, capture_header, capture_record}
 use Rattle.fw_trace.specs.Lines.{ReaderOf, new_reader, packet_line, reader_after}
 use Rattle.fw_world.specs.Worlds.{SiteOf, WorldOf}
-use Rattle.fwupd_jobs.specs.declared.command_line.TraceForm.{TraceForm}
-use Rattle.fwupd_jobs.specs.declared.command_line.TraceForm.TheVariants as forms
+use Rattle.fwupd_words.specs.declared.asked.TraceForm.{TraceForm}
+use Rattle.fwupd_words.specs.declared.asked.TraceForm.TheVariants as forms
 use Rattle.hex.specs.Hex.{encode_upper}
 
 -- a packet goes to the agent: its third byte names who sent it

@@ -4,7 +4,6 @@ ghost use Rattle.std.specs.Prelude.{◌≡◌, ◌⊎◌, IfErr, OnOk};
 ghost use Rattle.fwupd_jobs.specs.Checked.{CheckedEnds, ReportsChecked};
 ghost use Rattle.fwupd_jobs.specs.Running.{IsUnwritten, show_of};
 
-use crate::command_line::{Order, Show};
 use crate::faults::RunFault;
 use crate::files::Files;
 use crate::output::Output;
@@ -12,6 +11,7 @@ use crate::running::Watch;
 use crate::sessions::undone_fault;
 use crate::updating::{Wires, update_files};
 use fw_edge::Link;
+use fwupd_words::{Order, Show};
 use std::alloc::Global;
 use std::io::Write;
 

@@ -1,9 +1,9 @@
 //! What helps to find why a job failed, beneath the line that says so. It is said on a terminal alone.
 
-use crate::command_line::Job;
 use crate::faults::RunFault;
 use crate::files::SystemFiles;
 use fw_package::Package;
+use fwupd_words::Job;
 use std::io::{self, IsTerminal};
 use std::str;
 

@@ -7,7 +7,8 @@ use crate::faults::{RunFault, inspection_fault};
 use crate::files::Files;
 use crate::output::Output;
 use crate::setups::read_fault;
-use fw_json::{Form, inspect_in};
+use fw_json::inspect_in;
+use fwupd_base::Form;
 use std::alloc::Global;
 use std::io::Write;
 

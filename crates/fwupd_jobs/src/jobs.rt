@@ -6,7 +6,6 @@ ghost use Rattle.fwupd_jobs.specs.Running.{IsUnwritten};
 
 use crate::building::build_file;
 use crate::checking::update_checked;
-use crate::command_line::Job;
 use crate::faults::RunFault;
 use crate::files::Files;
 use crate::inspecting::inspect_file;
@@ -18,6 +17,7 @@ use crate::replaying::replay_files;
 use crate::running::Watch;
 use crate::updating::Wires;
 use fw_edge::Link;
+use fwupd_words::Job;
 use std::alloc::Global;
 use std::io::{Read, Write};
 

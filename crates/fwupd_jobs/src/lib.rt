@@ -3,7 +3,6 @@
 
 mod building;
 mod checking;
-mod command_line;
 mod explaining;
 mod faults;
 mod files;
@@ -31,9 +30,9 @@ mod words;
 
 pub use building::build_file;
 pub use checking::update_checked;
-pub use command_line::{Job, Order, Show, TraceForm, parse};
 pub use faults::{RunFault, inspection_fault};
 pub use files::{FileFault, FileIdentity, Files};
+pub use fwupd_words::{Job, Order, Show, TraceForm, parse};
 pub use inspecting::inspect_file;
 pub use jobs::perform_job;
 pub use logging::{names_causes, sel_file};

@@ -8,9 +8,10 @@ use crate::files::Files;
 use crate::numbering::{is_numbered, numbered};
 use crate::output::Output;
 use crate::setups::{configuration, package_files, packages_in};
-use fw_json::{Form, plan_in};
+use fw_json::plan_in;
 use fw_script::Config;
 use fw_setup::forecast;
+use fwupd_base::Form;
 use std::alloc::Global;
 use std::io::Write;
 

@@ -5,7 +5,6 @@ ghost use Rattle.std.specs.Process.{exit_status};
 ghost use Rattle.clap.specs.Values.{kind_of};
 ghost use Rattle.fwupd_jobs.specs.Jobs.{StatusSays, SystemSays};
 
-use crate::command_line::{self, Job};
 use crate::explaining::explain;
 use crate::faults::RunFault;
 use crate::files::{Files, SystemFiles};
@@ -19,6 +18,7 @@ use crate::watching::Onlookers;
 use crate::words::words;
 use clap::error::ErrorKind;
 use fw_edge::Link;
+use fwupd_words::{Job, parse};
 use std::io::{self, Read, Write};
 use std::process::ExitCode;
 
@@ -120,7 +120,7 @@ pub fn perform(rt: &HostRuntime) -> ExitCode
         Ok(words) => words,
         Err(status) => return status,
     };
-    let job = match command_line::parse(rt.alloc(), words.as_slice()) {
+    let job = match parse(rt.alloc(), words.as_slice()) {
         Ok(job) => job,
         Err(error) => return no_job(rt, &error),
     };

@@ -6,12 +6,12 @@ ghost use Rattle.fw_edge.specs.Links.{Rises};
 ghost use Rattle.fwupd_jobs.specs.Recordings.{Closes, IsNew, IsRecorded, Notes, NotesRun};
 ghost use Rattle.fwupd_jobs.specs.Running.{AreToldOf, IsCaused, IsRefusedStart, IsUnwritten, IsUpdated, MayEnd, MayRefuse, Starts, StepsLead, StepsSeen, Updates, show_of, shown_of, starts_of, told_by, told_of, watch_of};
 
-use crate::command_line::Show;
 use crate::faults::{RunFault, edge_fault};
 use fd_core::MemBank;
 use fw_edge::{EdgeFault, Link, drive};
 use fw_script::schedules_read_back;
 use fw_world::{Step, StepFault, World};
+use fwupd_words::Show;
 use std::alloc::Global;
 
 /// How many turns a run has at most: three images of the largest size take about 66,000.

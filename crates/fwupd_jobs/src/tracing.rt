@@ -8,13 +8,13 @@ ghost use Rattle.fw_text.specs.Printing.{Adds};
 ghost use Rattle.fw_world.specs.Packets.{sent_of};
 ghost use Rattle.fwupd_jobs.specs.Traces.{head_of, is_to_agent, packet_text, pair_text, pairs_text, reader_next, reader_of_pair, reader_past, readers_for, trace_line, trace_text, way_of, written_at as written_of};
 
-use crate::command_line::TraceForm;
 use crate::running::WatchFault;
 use arrayvec::ArrayVec;
 use fd_core::MemBank;
 use fw_text::{push_number, push_words};
 use fw_trace::{PacketReader, capture_header, push_capture};
 use fw_world::{SentPacket, SentPackets, World};
+use fwupd_words::TraceForm;
 use std::alloc::{AllocError, Global};
 use std::io::{BufWriter, Write};
 

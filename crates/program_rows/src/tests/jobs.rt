@@ -5,8 +5,8 @@ ghost use Rattle.fwupd_jobs.specs.Setups.{any_file};
 
 use fd_core::MemBank;
 use fw_edge::{Link, MemLink, Roughness, StreamLink};
-use fw_json::Form;
 use fw_world::{Step, World};
+use fwupd_base::Form;
 use fwupd_jobs::{
     FileFault, FileIdentity, Files, Order, Output, RunFault, Show, TraceForm, Watch, WatchFault,
     Wires, plan_file, update_checked,

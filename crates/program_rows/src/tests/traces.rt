@@ -1,8 +1,8 @@
 //! Captures, the lines of an event log, and replays that are looked on.
 
 use crate::tests::jobs::{Counter, MemFiles, WHOLE, outcome, package};
-use fw_json::Form;
 use fw_trace::{RecordsFault, capture_header, push_capture, records_text};
+use fwupd_base::Form;
 use fwupd_jobs::{Output, Show, TraceForm, replay_files, sel_file};
 use std::test::Fail;
 

@@ -4,16 +4,16 @@ use Rattle.std.specs.Str.Parse.{IsNumeral, digits_value, without_leading_plus}
 use Rattle.clap.specs.Words.{first_value, one_text}
 use Rattle.clap.specs.declared.parser.matches.Found.{Found}
 use Rattle.fw_edge.specs.declared.fates.Roughness.{Roughness}
-use Rattle.fw_json.specs.declared.forms.Form.{Form}
-use Rattle.fw_json.specs.declared.forms.Form.TheVariants as forms
+use Rattle.fwupd_base.specs.declared.forms.Form.{Form}
+use Rattle.fwupd_base.specs.declared.forms.Form.TheVariants as forms
 use Rattle.mctp_ctl.specs.declared.answers.Endpoint.{Endpoint}
 use Rattle.uuid.specs.Text.{parsed}
-use Rattle.fwupd_jobs.specs.declared.command_line.Job.{Job}
-use Rattle.fwupd_jobs.specs.declared.command_line.Job.TheVariants as jobs
-use Rattle.fwupd_jobs.specs.declared.command_line.Order.{Order}
-use Rattle.fwupd_jobs.specs.declared.command_line.Show.{Show}
-use Rattle.fwupd_jobs.specs.declared.command_line.TraceForm.{TraceForm}
-use Rattle.fwupd_jobs.specs.declared.command_line.TraceForm.TheVariants as traces
+use Rattle.fwupd_words.specs.declared.asked.Job.{Job}
+use Rattle.fwupd_words.specs.declared.asked.Job.TheVariants as jobs
+use Rattle.fwupd_words.specs.declared.asked.Order.{Order}
+use Rattle.fwupd_words.specs.declared.asked.Show.{Show}
+use Rattle.fwupd_words.specs.declared.asked.TraceForm.{TraceForm}
+use Rattle.fwupd_words.specs.declared.asked.TraceForm.TheVariants as traces
 
 -- the text under a name, and none where nothing stands there
 abbrev text_or_none : Option (List ℕ) → List ℕ

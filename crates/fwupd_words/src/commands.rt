@@ -1,0 +1,203 @@
+//! The subcommands, with their words and their help.
+
+use crate::helps::{
+    ANSWER_HELP, BUILD_HELP, INSPECT_HELP, PLAN_HELP, REPLAY_HELP, RUN_HELP, SEL_HELP,
+};
+use crate::options::{
+    json_option, log_option, package_option, trace_form_option, trace_option, with_roughness,
+};
+use clap::{Arg, ArgAction, Command, value_parser};
+use std::alloc::Global;
+
+/// The subcommand `answer`.
+fn answer_command<'a>(alloc: Global) -> Result<Command<'a>, clap::Error> {
+    let eid = Arg::new(alloc, "EID")
+        .help("The endpoint identifier to answer as, 8 to 254")
+        .required(true)
+        .value_parser(value_parser!(u8).range(8..255))
+        .action(ArgAction::Set);
+    let uuid = Arg::new(alloc, "uuid")
+        .long("uuid")
+        .value_name("UUID")
+        .help("The answer to Get Endpoint UUID")
+        .default_value("00000000-0000-0000-0000-000000000000");
+    let command = Command::new(alloc, "answer")
+        .about("Answers MCTP packets as an endpoint without a device")
+        .long_about(
+            "Answers MCTP packets as an endpoint without a device.\n\n\
+            Each line of standard input is one packet in hexadecimal digits. For each line, standard output gets\n\
+            one: the packet that answers it, in upper-case digits, or 'drop' and the cause. The answers to all\n\
+            whole lines are written before more input is awaited.",
+        )
+        .after_long_help(ANSWER_HELP)
+        .arg(eid)?
+        .arg(uuid)?;
+    Ok(command)
+}
+
+/// The subcommand `inspect`.
+fn inspect_command<'a>(alloc: Global) -> Result<Command<'a>, clap::Error> {
+    let file = Arg::new(alloc, "FILE")
+        .help("The package's file")
+        .required(true)
+        .action(ArgAction::Set);
+    let command = Command::new(alloc, "inspect")
+        .about("Prints what a firmware update package holds")
+        .long_about(
+            "Prints what a firmware update package holds.\n\n\
+            It prints a line for the package, one for each record and each of its descriptors, and one for each\n\
+            component. Records and components are counted from 1. A byte of a text that isn't plain ASCII is\n\
+            printed as \\x and two digits. A file that isn't a package is refused with the first fault that\n\
+            holds.",
+        )
+        .after_long_help(INSPECT_HELP)
+        .arg(json_option(alloc))?
+        .arg(file)?;
+    Ok(command)
+}
+
+/// The subcommand `replay`.
+fn replay_command<'a>(alloc: Global) -> Result<Command<'a>, clap::Error> {
+    let config = Arg::new(alloc, "CONFIG")
+        .help("The configuration: an agent, its devices, packages")
+        .required(true)
+        .action(ArgAction::Set);
+    let schedule = Arg::new(alloc, "SCHEDULE")
+        .help("The schedule: the steps, one after the other")
+        .required(true)
+        .action(ArgAction::Set);
+    let command = Command::new(alloc, "replay")
+        .about("Replays a schedule of packets, ticks and commands, and prints a report")
+        .long_about(
+            "Replays a schedule of packets, ticks and commands on an update agent and its devices, and\n\
+            prints a report.\n\n\
+            A packet may be delivered at once, later, more than once or never, for 8 units after it was sent.\n\
+            The schedule says which packet is delivered when.",
+        )
+        .after_long_help(REPLAY_HELP)
+        .arg(trace_option(alloc))?
+        .arg(trace_form_option(alloc))?
+        .arg(log_option(alloc))?
+        .arg(json_option(alloc))?
+        .arg(config)?
+        .arg(schedule)?;
+    Ok(command)
+}
+
+/// The subcommand `run`.
+fn run_command<'a>(alloc: Global) -> Result<Command<'a>, clap::Error> {
+    let config = Arg::new(alloc, "CONFIG")
+        .help("The configuration: an agent, its devices, packages")
+        .required(true)
+        .action(ArgAction::Set);
+    let folder = Arg::new(alloc, "FOLDER")
+        .help("The folder that the sockets are made in")
+        .required(true)
+        .action(ArgAction::Set);
+    let quiet = Arg::new(alloc, "quiet")
+        .long("quiet")
+        .help("Shows no progress")
+        .action(ArgAction::SetTrue);
+    let record = Arg::new(alloc, "record")
+        .long("record")
+        .value_name("FILE")
+        .help("Writes each step to a file as it is taken, as a schedule to replay");
+    let check = Arg::new(alloc, "check")
+        .long("check")
+        .help("Fails where a session doesn't end Done")
+        .action(ArgAction::SetTrue);
+    let command = Command::new(alloc, "run")
+        .about("Updates each device with a package, over Unix sockets")
+        .long_about(
+            "Updates each device of a configuration with its first package, or with package N, each over a Unix\n\
+            socket FOLDER/EID.sock to itself, and prints a report. A socket's file is removed as soon as both of\n\
+            its ends are connected.",
+        )
+        .after_long_help(RUN_HELP)
+        .arg(package_option(alloc))?
+        .arg(check)?
+        .arg(quiet)?
+        .arg(trace_option(alloc))?
+        .arg(trace_form_option(alloc))?
+        .arg(log_option(alloc))?
+        .arg(record)?
+        .arg(json_option(alloc))?
+        .arg(config)?
+        .arg(folder)?;
+    with_roughness(alloc, command)
+}
+
+/// The subcommand `sel`.
+fn sel_command<'a>(alloc: Global) -> Result<Command<'a>, clap::Error> {
+    let file = Arg::new(alloc, "FILE")
+        .help("The file of records, as --sel writes it")
+        .required(true)
+        .action(ArgAction::Set);
+    let command = Command::new(alloc, "sel")
+        .about("Prints the records of an event log, a line each")
+        .long_about(
+            "Prints the records of an event log, a line each, oldest first.\n\n\
+            The file holds at most 128 records of 16 bytes, as 'run --sel' and 'replay --sel' write them.",
+        )
+        .after_long_help(SEL_HELP)
+        .arg(file)?;
+    Ok(command)
+}
+
+/// The subcommand `build`.
+fn build_command<'a>(alloc: Global) -> Result<Command<'a>, clap::Error> {
+    let spec = Arg::new(alloc, "SPEC")
+        .help("The text that says what the package holds")
+        .required(true)
+        .action(ArgAction::Set);
+    let file = Arg::new(alloc, "FILE")
+        .help("The package's file, which is made or replaced")
+        .required(true)
+        .action(ArgAction::Set);
+    let command = Command::new(alloc, "build")
+        .about("Builds a firmware update package from a text and images")
+        .long_about(
+            "Builds a firmware update package from a text and images.\n\n\
+            The text says what the package holds, and names the files of the images. Nothing is printed.",
+        )
+        .after_long_help(BUILD_HELP)
+        .arg(spec)?
+        .arg(file)?;
+    Ok(command)
+}
+
+/// The subcommand `plan`.
+fn plan_command<'a>(alloc: Global) -> Result<Command<'a>, clap::Error> {
+    let config = Arg::new(alloc, "CONFIG")
+        .help("The configuration: an agent, its devices, packages")
+        .required(true)
+        .action(ArgAction::Set);
+    let command = Command::new(alloc, "plan")
+        .about("Prints what an update of each device would come to")
+        .long_about(
+            "Prints what an update of each device of a configuration would come to, with its first package or\n\
+            another, and why. Nothing is updated, and nothing is made.",
+        )
+        .after_long_help(PLAN_HELP)
+        .arg(package_option(alloc))?
+        .arg(json_option(alloc))?
+        .arg(config)?;
+    Ok(command)
+}
+
+/// The whole command line.
+pub(crate) fn command<'a>(alloc: Global) -> Result<Command<'a>, clap::Error> {
+    let command = Command::new(alloc, "fwupd")
+        .version("0.1.0")
+        .about("A firmware update agent and its devices: PLDM for Firmware Update over MCTP")
+        .subcommand_required(true)
+        .arg_required_else_help(true)
+        .subcommand(answer_command(alloc)?)?
+        .subcommand(inspect_command(alloc)?)?
+        .subcommand(replay_command(alloc)?)?
+        .subcommand(plan_command(alloc)?)?
+        .subcommand(run_command(alloc)?)?
+        .subcommand(sel_command(alloc)?)?
+        .subcommand(build_command(alloc)?)?;
+    Ok(command)
+}

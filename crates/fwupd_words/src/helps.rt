@@ -1,0 +1,211 @@
+//! What stands below the help of each subcommand.
+
+/// What stands below the help of `answer`.
+pub(crate) const ANSWER_HELP: &str = "\
+Examples:
+  printf '010908C8008002\\n' | fwupd answer 9        prints 010809C000000200090100
+  printf '020908C8008002\\n' | fwupd answer 9        prints drop Version
+
+Causes of a drop. The first that holds is printed:
+  Hex          the line isn't an even number of hexadecimal digits
+  Short        less than 4 bytes
+  Version      the low half of byte 0 isn't 1
+  Empty        no byte after the header
+  TooLong      more than 64 bytes after the header
+  Destination  byte 1 isn't EID
+  NotWhole     SOM or EOM is clear: the packet isn't a whole message
+  StartNumber  the packet's sequence number isn't 0
+  NotRequest   TO is clear
+  Type         the message type is neither 0x00 (control) nor 0x01 (PLDM)
+  Message      the message isn't a request that gets an answer
+
+Limits: a run reads at most 16777216 bytes. The next byte ends it with 'fwupd: input'.
+
+Status: 0; 1 if standard error says 'fwupd: input', 'fwupd: output' or 'fwupd: memory'; 2 for wrong
+usage.";
+
+/// What stands below the help of `inspect`.
+pub(crate) const INSPECT_HELP: &str = "\
+Example:
+  fwupd inspect examples/two-records.fwpkg
+
+Faults of a package. The first that holds is printed:
+  Short         fewer bytes than the fixed part of a header
+  Identifier    the identifier isn't that of this format
+  Revision      the header revision isn't 1
+  HeaderSize    the header is longer than the file, or its parts don't end where it does
+  BitmapLength  the bitmap's bit length is 0, not a multiple of 8, or less than the number of
+                components
+  RecordLength  a record's length isn't the sum of its parts
+  Checksum      the header's checksum isn't that of the bytes before it
+  ImageRange    a component's image goes past the file's end
+
+Limits: the file's path is UTF-8 text, and the file fits into memory.
+
+Status: 0; 1 if standard error says 'fwupd: package: ' and a fault, 'fwupd: FILE: unreadable',
+'fwupd: output' or 'fwupd: memory'; 2 for wrong usage.";
+
+/// What stands below the help of `replay`.
+pub(crate) const REPLAY_HELP: &str = "\
+Example:
+  fwupd replay examples/one.config examples/update.schedule
+
+CONFIG has these lines. Words stand one space apart; - is the empty text, or no bytes; empty lines,
+and lines that begin with #, are skipped:
+  agent EID UUID           the update agent, first; an EID is 8 to 254
+  unit BYTES               the transmission unit of the network, 64 or 128: the most bytes of a
+                           packet's body. It follows the agent's line; without it the unit is 64
+  device EID UUID          a device, at most 16; these lines follow it:
+    descriptor TYPE HEX    four digits, and data; at most 246 bytes for a device
+    component CLASS IDENT INDEX STAMP TEXT HEX
+                           a component with the image that runs; 1 to 3 for a device
+  package PATH             a package's file; these lines are last, and count from 1
+
+SCHEDULE, a step a line:
+  tick [N]                   a unit of time passes, or N, 1 to 1000; all nodes count a tick in each
+  miss EID ..                a unit passes; these nodes, 1 to 17, miss its tick, and all others
+                             count it
+  deliver PAIR NUMBER NODE   packet NUMBER between the agent and device PAIR is delivered to NODE
+  start EID PACKAGE          the operator starts a device's update with a package
+  cancel EID                 the operator cancels the update
+  activate EID               the operator has the device activate what it applied
+  verdict EID WORD           verify-ok, verify-fail, apply-ok or apply-fail, for the image written
+  restart EID                the agent or a device restarts, and is deaf for 40 ticks
+  sel HEX                    a command of the event log and its data, at most 64 bytes
+
+Faults of a line. The first that holds is printed:
+  Directive, Fields, Order, Number, Hex, Range, Duplicate, Limit; Missing at the line after the last
+
+Why a step isn't taken; the report is then of the world before it:
+  NoSuchNode, NoSuchPacket, Dead (sent more than 8 units ago), Memory, or Refused: and
+  NoSuchPackage, Busy, NotReady, NotNow, ClockEnd, ClockSlow
+
+The report has the units that passed; each node, and whether it hears; for a device its state, that
+of the agent's session with it, and how many packets were sent between the two; the images that run,
+with size and first bytes; the event log's records and last answer; and what was applied, recorded
+and activated, in order.
+
+--trace writes the packets that each step sent behind it, and --sel the log's records; both are as in
+'fwupd run --help'. The report is the same with them and without.
+
+Status: 0; 1 if standard error says 'fwupd: PATH: line N: FAULT', 'fwupd: package: FAULT',
+'fwupd: step N: FAULT', 'fwupd: FILE: unreadable', 'fwupd: trace', 'fwupd: sel', 'fwupd: output' or
+'fwupd: memory'; 2 for wrong usage.";
+
+/// What stands below the help of `run`.
+pub(crate) const RUN_HELP: &str = "\
+Examples:
+  fwupd run examples/one.config .
+  fwupd run --check examples/one.config . && echo updated
+  fwupd run --quiet --trace out/packets examples/one.config .
+  fwupd run --loss 20 --delay 3 --seed 7 --record out/kept examples/one.config .
+
+CONFIG and the report are those of 'fwupd replay --help'.
+
+If standard error is a terminal, it shows the progress of the first device that loads an image.
+--trace writes a line for each packet: the turn, the device, to-device or to-agent, and the packet
+in hexadecimal digits; with --trace-format text what each packet says, with its number, which
+'deliver' of a schedule takes; with pcap a capture, as Linux makes it on an MCTP interface, in which
+a turn is a second. --sel writes the event log's records, 16 bytes each, for 'fwupd sel'. --record
+writes a line for each step, as a schedule: 'fwupd replay CONFIG FILE' then prints the same report.
+
+--loss, --duplicate and --delay make the links bad on purpose. A packet that is lost never comes; one
+that comes twice is late each time by chance; and one that is late is held back for 0 to N turns.
+
+Faults: 'package: none' if CONFIG names fewer packages; 'socket: EID' if FOLDER/EID.sock can't be
+made, or is there already; after the report, 'edge: Frame' if a socket failed, 'edge: Step' at the
+end of the clock, and 'trace', 'sel' or 'record' if that file can't be written. If it can't be made,
+or is one that is read, the same, and nothing is run. With --check, after the report, 'session EID: WORD' of the first session in
+configured order that isn't Done: the cause of its failure, or where it stands.
+
+Limits: 80000 turns of one tick each. Three images of 1 MiB take about 66000.
+
+Status: 0; 1 if standard error says 'fwupd: ' and a fault, one of these or of 'replay'; 2 for wrong
+usage.";
+
+/// What stands below the help of `sel`.
+pub(crate) const SEL_HELP: &str = "\
+Example:
+  fwupd run --sel out/log examples/one.config out && fwupd sel out/log
+
+A line has the record's identifier in hexadecimal digits, the log's time, what happened, and of what:
+  started, activated, cancelled   device EID package N
+  applied                         device EID package N component N: the agent recorded it
+  failed                          device EID package N cause CAUSE
+Of a record that no agent made it has the identifier, the type, and the 13 bytes behind it.
+
+Status: 0; 1 if standard error says 'fwupd: sel: Size', where the size is no multiple of 16 or is over
+2048, 'fwupd: FILE: unreadable', 'fwupd: output' or 'fwupd: memory'; 2 for wrong usage.";
+
+/// What stands below the help of `build`.
+pub(crate) const BUILD_HELP: &str = "\
+Example:
+  fwupd build my.spec my.fwpkg
+
+SPEC has these lines. Words stand one space apart; a TEXT is at most 255 bytes, of which \\xNN is
+the byte with these two upper-case digits; - is the empty text, or none; empty lines, and lines that
+begin with #, are skipped:
+  version TEXT             the package's version, at most once, before all records and components
+  release HEX              its release time, 13 bytes, in the same way; without one it is zeros
+  record FLAGS TEXT N ..   a record: its option flags, its set text, and its components, which count
+                           from 1 and rise
+  descriptor TYPE HEX      a descriptor of the record before; a TYPE is four digits
+  component CLASS IDENT STAMP OPTIONS METHOD TEXT PATH
+                           a component, behind all records; PATH is its image's file
+
+Faults of a text. The first line with one is printed, with the first fault of it that holds:
+  Directive  the line begins with none of these words
+  Fields     a field is left out, or one stands too many
+  Order      the line may not stand here
+  Number     a number isn't all digits, or a path isn't UTF-8 text
+  Hex        bytes aren't an even number of hexadecimal digits, a TYPE isn't four, a release time
+             isn't 13 bytes, or a backslash begins no \\xNN
+  Range      a number is too large, a record's components don't rise, or one of them isn't there
+  Limit      a text is longer than 255 bytes, a record has more than 255 descriptors, or there are
+             more than 255 records; at the line after the last: the header has more than 65535
+             bytes, or the package more than 4294967295
+
+FILE is written beside its place, as FILE.new, and comes there when it is whole. Where that fails
+FILE is as it was. A file FILE.new that is there already, as a run that was killed leaves it, isn't
+written over: 'fwupd: output'.
+
+Limits: paths are UTF-8 text, and the images fit into memory.
+
+Status: 0; 1 if standard error says 'fwupd: SPEC: line N: ' and a fault, 'fwupd: PATH: unreadable',
+'fwupd: output' or 'fwupd: memory'; 2 for wrong usage.";
+
+/// What stands below the help of `plan`.
+pub(crate) const PLAN_HELP: &str = "\
+Examples:
+  fwupd plan examples/one.config
+  fwupd plan --package 2 my.config
+
+CONFIG is that of 'fwupd replay --help'. A device has these lines:
+  device EID package N record R set TEXT WORD
+      R is the first record of the package that is for the device; a dash if none is
+  record R lacks descriptor TYPE HEX, or record R has none
+      if none is: for each record the first of its descriptors that the device lacks, or that it has
+      no descriptor
+  component CLASS ident IDENT size SIZE stamp STAMP version TEXT active STAMP TEXT WORD
+      a component that the device is offered, and what runs in the device; dashes if it has no such
+      component
+
+What becomes of the update:
+  Update              its components are loaded, in this order
+  NothingToUpdate     it fails: the record uses no component, or the device takes none of them
+  NoRecord            it fails: no record is for the device
+  Plan:FAULT          it fails: two components of the record have one class and ident
+                      (DuplicateComponent), there are more than 8 (TooManyComponents), an image has
+                      more than 1048576 bytes (ImageTooLarge), or the set text or a version more
+                      than 200 (TextTooLong)
+
+What becomes of a component:
+  update              it is loaded
+  force               the device declines it, as its stamp isn't higher, and option bit 0 forces it
+  skip identical      its stamp is that of the image that runs
+  skip lower          its stamp is lower
+  skip unsupported    the device has no such component
+A stamp FFFFFFFF is compared with none: the component's option bit 1 is clear, or it is its stamp.
+
+Status: 0, also where an update would fail; 1 if standard error says 'fwupd: package: none', as
+CONFIG names fewer packages, or a fault of 'replay'; 2 for wrong usage.";

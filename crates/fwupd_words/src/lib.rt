@@ -1,0 +1,11 @@
+//! The words of the command line: the subcommands with their options and help, and the job that words ask for.
+#![tactic(auto)]
+
+mod asked;
+mod commands;
+mod helps;
+mod options;
+mod reading;
+
+pub use asked::{Job, Order, Show, TraceForm};
+pub use reading::parse;

@@ -1,0 +1,180 @@
+//! Reading the words of a command line.
+
+ghost use Rattle.std.specs.Prelude.{◌≡◌, IfOk, codes, option_map};
+ghost use Rattle.clap.specs.Words.{first_value, found_of};
+ghost use Rattle.fwupd_words.specs.Words.{Asks, AsksEndpoint, AsksForm, AsksKept, AsksNumber, AsksOrder, AsksRoughness, AsksSeed, AsksSmall, AsksTraceForm, text_under};
+
+use crate::asked::{Job, Order, Show, TraceForm};
+use crate::commands::command;
+use clap::ArgMatches;
+use clap::error::ErrorKind;
+use fw_edge::Roughness;
+use fwupd_base::Form;
+use mctp_ctl::Endpoint;
+use std::alloc::Global;
+use uuid::Uuid;
+
+/// The number that the option says.
+fn package_number(matches: &ArgMatches<'_>) -> usize
+    ensures { AsksNumber (found_of matches.now) result }
+{
+    match matches.get_one::<u32>("package") {
+        Some(number) => number as usize,
+        None => 1,
+    }
+}
+
+/// The text that the words give under a name, and none where they give nothing.
+fn text_under<'a>(matches: &ArgMatches<'a>, name: &str) -> &'a str
+    ensures { result.now ≡ text_under (found_of matches.now) name.now }
+{
+    match matches.get_str(name) {
+        Some(text) => text,
+        None => "",
+    }
+}
+
+/// The endpoint that the words of `answer` name.
+fn endpoint_in<'a>(alloc: Global, matches: &ArgMatches<'a>) -> Result<Endpoint, clap::Error>
+    ensures { IfOk result (AsksEndpoint (found_of matches.now)) }
+{
+    let Some(eid) = matches.get_one::<u8>("EID") else {
+        return Err(command(alloc)?.error(ErrorKind::MissingRequiredArgument, "EID is required")?);
+    };
+    let text = text_under(matches, "uuid");
+    match Uuid::parse_str(text) {
+        Ok(uuid) => Ok(Endpoint { eid, uuid }),
+        Err(error) => {
+            let message = format!(in alloc; "invalid value '{text}' for '--uuid <UUID>': {error}")?;
+            Err(command(alloc)?.error(ErrorKind::ValueValidation, &message)?)
+        }
+    }
+}
+
+/// The form that the words ask for.
+fn form_in(matches: &ArgMatches<'_>) -> Form
+    ensures { AsksForm (found_of matches.now) result }
+{
+    if matches.get_flag("json") {
+        Form::Json
+    } else {
+        Form::Text
+    }
+}
+
+/// The form of a trace that the words ask for.
+fn trace_form_in(matches: &ArgMatches<'_>) -> TraceForm
+    ensures { AsksTraceForm (found_of matches.now) result }
+{
+    match matches.get_str("trace-format") {
+        Some("text") => TraceForm::Text,
+        Some("pcap") => TraceForm::Capture,
+        _ => TraceForm::Hex,
+    }
+}
+
+/// What the words of `run` or `replay` ask to be shown, with progress or without.
+fn show_in<'a>(matches: &ArgMatches<'a>, is_quiet: bool) -> Show<'a>
+    ensures quiet { result.is_quiet ≡ is_quiet }
+    ensures record { option_map (λ path. path.now) result.record ≡ first_value (found_of matches.now) (codes "record") }
+    ensures kept { AsksKept (found_of matches.now) result }
+{
+    Show {
+        is_quiet,
+        trace: matches.get_str("trace"),
+        trace_form: trace_form_in(matches),
+        log: matches.get_str("sel"),
+        record: matches.get_str("record"),
+        form: form_in(matches),
+    }
+}
+
+/// A small number that the words give under a name, and 0 where they give none.
+fn small_under(matches: &ArgMatches<'_>, name: &str) -> u8
+    ensures { AsksSmall (found_of matches.now) name.now result }
+{
+    match matches.get_one::<u8>(name) {
+        Some(number) => number,
+        None => 0,
+    }
+}
+
+/// The seed that the words give.
+fn seed_in(matches: &ArgMatches<'_>) -> u64
+    ensures { AsksSeed (found_of matches.now) result }
+{
+    match matches.get_one::<u64>("seed") {
+        Some(seed) => seed,
+        None => 0,
+    }
+}
+
+/// How rough the words ask links to be.
+fn roughness_in(matches: &ArgMatches<'_>) -> Roughness
+    ensures { AsksRoughness (found_of matches.now) result }
+{
+    Roughness {
+        loss: small_under(matches, "loss"),
+        duplicate: small_under(matches, "duplicate"),
+        delay: small_under(matches, "delay"),
+        seed: seed_in(matches),
+    }
+}
+
+/// What the words ask of a run.
+fn order_in(matches: &ArgMatches<'_>) -> Order
+    ensures { AsksOrder (found_of matches.now) result }
+{
+    Order {
+        number: package_number(matches),
+        is_checked: matches.get_flag("check"),
+        roughness: roughness_in(matches),
+    }
+}
+
+/// The job that the subcommand of this name asks for, with these words.
+fn job_of<'a>(alloc: Global, name: &str, matches: &ArgMatches<'a>) -> Result<Job<'a>, clap::Error>
+    ensures { IfOk result (Asks name.now (found_of matches.now)) }
+{
+    match name {
+        "answer" => match endpoint_in(alloc, matches) {
+            Ok(endpoint) => Ok(Job::Answer(endpoint)),
+            Err(error) => Err(error),
+        },
+        "inspect" => Ok(Job::Inspect(text_under(matches, "FILE"), form_in(matches))),
+        "replay" => Ok(Job::Replay(
+            text_under(matches, "CONFIG"),
+            text_under(matches, "SCHEDULE"),
+            show_in(matches, true),
+        )),
+        "plan" => Ok(Job::Plan(
+            text_under(matches, "CONFIG"),
+            package_number(matches),
+            form_in(matches),
+        )),
+        "run" => Ok(Job::Run(
+            text_under(matches, "CONFIG"),
+            text_under(matches, "FOLDER"),
+            order_in(matches),
+            show_in(matches, matches.get_flag("quiet")),
+        )),
+        "sel" => Ok(Job::Sel(text_under(matches, "FILE"))),
+        "build" => Ok(Job::Build(text_under(matches, "SPEC"), text_under(matches, "FILE"))),
+        _ => Err(command(alloc)?.error(ErrorKind::MissingSubcommand, "a subcommand is required")?),
+    }
+}
+
+/// Reads the words of a command line.
+///
+/// # Errors
+/// What to print in place of a job, and where: the text of help and version, or of wrong usage.
+pub fn parse<'a>(alloc: Global, words: &'a [String]) -> Result<Job<'a>, clap::Error> {
+    let matches = command(alloc)?.try_get_matches_from(words)?;
+    match matches.subcommand() {
+        Some((name, matches)) => job_of(alloc, name, matches),
+        None => Err(command(alloc)?.error(
+            ErrorKind::MissingSubcommand,
+            "a subcommand is required",
+        )?),
+    }
+}
