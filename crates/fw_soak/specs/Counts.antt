@@ -1,5 +1,5 @@
 -- What is counted of a run.
-use Rattle.std.specs.Prelude.{ℕ, zero, suc, ◌+◌, ◌-◌, ◌==◌, Bool, true, false, if◌then◌else◌, not, List, [], ◌∷◌, Option, Some, None, filter, length, map, max, option_map, slice_set, unwrap_or}
+use Rattle.std.specs.Prelude.{ℕ, zero, suc, ◌+◌, ◌-◌, ◌^◌, ◌==◌, Bool, true, false, if◌then◌else◌, nat_lt, not, List, [], ◌∷◌, Option, Some, None, filter, length, map, min, option_map, replicate, slice_set}
 use Rattle.std.specs.List.{sum_by}
 use Rattle.fw_message.specs.History.{EntryOf}
 use Rattle.fw_message.specs.Worlds.{NotedOf}
@@ -7,6 +7,7 @@ use Rattle.fw_world.specs.Worlds.{SiteOf, WorldOf}
 use Rattle.fw_world.specs.declared.step.Step.{Step}
 use Rattle.fw_world.specs.declared.step.Step.TheVariants as steps
 use Rattle.fw_soak.specs.Courses.{CourseOf}
+use Rattle.fw_soak.specs.declared.counts.Update.{Update}
 
 -- images that devices activated
 abbrev pub is_activated : EntryOf → Bool
@@ -43,36 +44,45 @@ marked_along device marks (s ∷ ss) = marked_along device (marked_by device mar
 
 -- how many of a device's packets never came
 abbrev pub lost_at : List Step → SiteOf → ℕ
-lost_at ss x = length (filter not (marked_along x.node.endpoint.eid (map (λ p. false) x.packets) ss))
+lost_at ss x = length (filter not (marked_along x.node.endpoint.eid (replicate (length x.packets) false) ss))
 
 -- how many packets never came
 abbrev pub losses_in : CourseOf → ℕ
 losses_in c = sum_by (lost_at c.steps) c.world.sites
 
--- An update of a device that goes on, by the ticks since its start; and the ticks of the longest that ended.
-pub record UpdateOf : Type 0 where
-  pub since : Option ℕ
-  pub longest : ℕ
+-- a count stops at its last value
+abbrev pub counted : ℕ → ℕ
+counted n = min n (2 ^ 64 - 1)
 
-abbrev pub no_update : UpdateOf
+-- the greater of two numbers
+abbrev pub greater : ℕ → ℕ → ℕ
+greater a b = if nat_lt a b then b else a
+
+-- nothing goes on yet, and nothing ended
+abbrev pub no_update : Update
 no_update = record { since = None; longest = 0 }
 
-abbrev pub starts_if : Bool → UpdateOf → UpdateOf
-starts_if true u = record u { since = Some 0 }
+abbrev pub starts_if : Bool → Update → Update
+starts_if true u = record { since = Some 0; longest = u.longest }
 starts_if false u = u
 
-abbrev pub ends_if : Bool → UpdateOf → UpdateOf
-ends_if true u = record { since = None; longest = max u.longest (unwrap_or u.since 0) }
+-- an update ends that began so many ticks ago, or none
+abbrev pub ended : Option ℕ → (longest : ℕ) → Update
+ended None longest = record { since = None; longest = longest }
+ended (Some since) longest = record { since = None; longest = greater longest since }
+
+abbrev pub ends_if : Bool → Update → Update
+ends_if true u = ended u.since u.longest
 ends_if false u = u
 
--- An update begins where the operator starts it, and ends where he has the device activate.
-abbrev pub update_after : (device : ℕ) → UpdateOf → Step → UpdateOf
+-- An update begins where the operator starts it, and ends where he has the device activate. It lasts so many ticks.
+abbrev pub update_after : (device : ℕ) → Update → Step → Update
 update_after device u (steps.Start eid number) = starts_if (eid == device) u
 update_after device u (steps.Activate eid) = ends_if (eid == device) u
-update_after device u (steps.Tick missed) = record u { since = option_map suc u.since }
+update_after device u (steps.Tick missed) = record { since = option_map (λ t. counted (t + 1)) u.since; longest = u.longest }
 update_after device u s = u
 
-abbrev pub update_along : (device : ℕ) → UpdateOf → List Step → UpdateOf
+abbrev pub update_along : (device : ℕ) → Update → List Step → Update
 update_along device u [] = u
 update_along device u (s ∷ ss) = update_along device (update_after device u s) ss
 
@@ -80,11 +90,11 @@ update_along device u (s ∷ ss) = update_along device (update_after device u s)
 abbrev pub longest_at : List Step → SiteOf → ℕ
 longest_at ss x = (update_along x.node.endpoint.eid no_update ss).longest
 
--- the greatest of these numbers
-abbrev pub greatest : List ℕ → ℕ
-greatest [] = 0
-greatest (n ∷ ns) = max n (greatest ns)
+-- the greatest of these numbers and one more
+abbrev pub greatest : (so_far : ℕ) → List ℕ → ℕ
+greatest n [] = n
+greatest n (m ∷ ms) = greatest (greater n m) ms
 
 -- the ticks of the longest update of a run
 abbrev pub longest_in : CourseOf → ℕ
-longest_in c = greatest (map (longest_at c.steps) c.world.sites)
+longest_in c = greatest 0 (map (longest_at c.steps) c.world.sites)

@@ -5,3 +5,4 @@ pub mod Courses
 pub mod Naming
 pub mod Setups
 pub mod Summaries
+pub mod SummaryTexts

@@ -7,7 +7,7 @@ use rand_core::utils::NextWord;
 use rand_pcg::Pcg32;
 
 /// Chances of a run.
-#[derive(Clone, Copy)]
+#[derive(Drop)]
 pub(crate) struct Chances {
     generator: Pcg32,
 }

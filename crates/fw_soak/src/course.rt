@@ -3,6 +3,7 @@
 ghost use Rattle.std.specs.Prelude.{◌≡◌, IfOk, map};
 ghost use Rattle.fw_script.specs.Seen.{device_of};
 ghost use Rattle.fw_script.specs.Whole.{AreWhole};
+ghost use Rattle.fw_soak.specs.Courses.{IsCourse};
 ghost use Rattle.fw_soak.specs.Setups.{setup_of};
 
 use crate::chances::Chances;
@@ -82,6 +83,13 @@ impl<'a> Course<'a> {
         }
         let _ = self.steps.push(step);
         Ok(true)
+    }
+
+    /// Its steps lead to its world.
+    pub(crate) fn is_run(&self)
+        ensures { IsCourse self.now.setup self.now.course }
+    {
+        let _ = &self.world;
     }
 
     /// The steps that were taken, in order.

@@ -19,11 +19,14 @@ use ua_core::SessionState;
 /// How many turns a run has at most: three images of the largest size take about 66,000.
 const TURNS: u32 = 80_000;
 
-/// How many upsets a run has at most, and one.
-const UPSETS: u32 = 16;
+/// A run has fewer upsets than this.
+const UPSETS: u32 = 8;
 
-/// How many turns pass between two upsets, on the average: 2 to 2,048.
-const RARENESS: u32 = 11;
+/// How many powers of two there are from 16 to 2,048: so many turns pass between two upsets, on the average.
+const RARENESS: u32 = 8;
+
+/// How many turns pass until the operator starts an update again that the agent doesn't know any more, on the average.
+const PAUSE: u32 = 8;
 
 /// Among how many verdicts one is bad.
 const BAD: u32 = 16;
@@ -42,7 +45,7 @@ impl Upsets {
     fn new(chances: &mut Chances) -> Upsets {
         Upsets {
             left: chances.below(UPSETS),
-            among: 2 << chances.below(RARENESS),
+            among: 16 << chances.below(RARENESS),
         }
     }
 
@@ -92,7 +95,7 @@ fn start(
     Ok(())
 }
 
-/// The operator starts what he may start, each by one chance in so many.
+/// The operator starts the update of each device, each by one chance in so many.
 fn start_some(
     course: &mut Course<'_>,
     packages: u32,
@@ -105,6 +108,23 @@ fn start_some(
 {
     for place in 0..course.world().device_count() {
         if chances.one_in(times) {
+            start(course, place, packages, chances)?;
+        }
+    }
+    Ok(())
+}
+
+/// The operator starts the updates of which the agent knows nothing any more, since it started anew, each by one chance in so many.
+fn start_idle(
+    course: &mut Course<'_>,
+    packages: u32,
+    chances: &mut Chances,
+) -> Result<(), AllocError>
+    requires { 0 < packages }
+    ensures { course.new.setup ≡ course.old.setup }
+{
+    for place in 0..course.world().device_count() {
+        if state_at(course.world(), place) == Some(SessionState::Idle) && chances.one_in(PAUSE) {
             start(course, place, packages, chances)?;
         }
     }
@@ -212,9 +232,8 @@ fn take_turns(
                 return Ok(());
             }
             start_some(course, packages, 2, chances)?;
-        } else {
-            start_some(course, packages, 32, chances)?;
         }
+        start_idle(course, packages, chances)?;
         turn(course, traffic, &mut upsets, chances)?;
     }
     Ok(())
