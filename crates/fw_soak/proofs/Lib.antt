@@ -1,1 +1,4 @@
+mod Checked
+mod Coursing
 mod Sole
+mod Summing

@@ -218,6 +218,7 @@ fn all_run<B: Bank + Drop>(world: &World<'_, B>, devices: &[DeviceConfig]) -> bo
 ///
 /// # Errors
 /// `AllocError` where memory for a device's descriptors is refused.
+#[tactic(auto, using(crate::proofs::Checked::checked))]
 pub fn is_clean<B: Bank + Drop>(
     alloc: Global,
     world: &World<'_, B>,
