@@ -123,13 +123,13 @@ right_complete ps ds before device (EntryOf.Applied p) h = refl
 right_complete ps ds before device (EntryOf.Recording r) h = applied_complete before device (recorded_image ps r) h
 right_complete ps ds before device (EntryOf.Activated p) h = named_for_complete ps p (device_for ds device) h
 
-rights_sound : (ps : List PackageText) (ds : List DeviceConfigOf) (before xs : List NotedOf) → are_right ps ds before xs ≡ true → AreRight ps ds before xs
+pub rights_sound : (ps : List PackageText) (ds : List DeviceConfigOf) (before xs : List NotedOf) → are_right ps ds before xs ≡ true → AreRight ps ds before xs
 rights_sound ps ds before [] h = tt
 rights_sound ps ds before (x ∷ xs) h =
     let parts = and_parts (is_right ps ds before x.device x.entry) (are_right ps ds (before ++ x ∷ []) xs) h in
     (right_sound ps ds before x.device x.entry parts.0, rights_sound ps ds (before ++ x ∷ []) xs parts.1)
 
-rights_complete : (ps : List PackageText) (ds : List DeviceConfigOf) (before xs : List NotedOf) → AreRight ps ds before xs → are_right ps ds before xs ≡ true
+pub rights_complete : (ps : List PackageText) (ds : List DeviceConfigOf) (before xs : List NotedOf) → AreRight ps ds before xs → are_right ps ds before xs ≡ true
 rights_complete ps ds before [] h = refl
 rights_complete ps ds before (x ∷ xs) h =
     and_both (is_right ps ds before x.device x.entry) (are_right ps ds (before ++ x ∷ []) xs) (right_complete ps ds before x.device x.entry h.0)
@@ -170,4 +170,4 @@ clean_complete ps ds w h =
     and_both (are_right ps ds [] w.history) (list_all (runs_what_it_may w) ds) (rights_complete ps ds [] w.history h.history)
     (all_complete (runs_what_it_may w) (RunsWhatItMay w) (λ d e. them_complete w.history d (site_for w.sites d.endpoint.eid) e) ds h.banks)
 
-pub ruleset checked = (clean_sound, clean_complete)
+pub ruleset checked = (clean_sound, clean_complete, rights_sound, rights_complete)

@@ -6,7 +6,7 @@ ghost use Rattle.fw_message.specs.Entries.{entry_of, event_of};
 ghost use Rattle.fw_script.specs.Seen.{component_of, device_of};
 ghost use Rattle.fw_world.specs.Worlds.{site_for};
 ghost use Rattle.fw_soak.specs.Checking.{applies, are_right, has_applied, is_clean, is_named_for, is_right, is_running, runs_it, runs_them, runs_what_it_may};
-ghost use Rattle.fw_soak.specs.Checks.{IsClean, device_for, recorded_image, runs_after};
+ghost use Rattle.fw_soak.specs.Checks.{AreRight, IsClean, device_for, recorded_image, runs_after};
 
 use crate::naming::is_named;
 use fd_core::{Bank, Key};
@@ -127,14 +127,22 @@ fn is_right(
     }
 }
 
-/// Whether a history is right.
-fn are_right(
+/// Whether a history is right, as far as the packages and the configured devices tell: each image that a device activated is, byte
+/// for byte, one that a package names for it; and each component that the agent recorded as applied, that device had applied with
+/// those very bytes.
+///
+/// # Errors
+/// `AllocError` where memory for a device's descriptors is refused.
+#[tactic(auto, using(crate::proofs::Checked::checked))]
+pub fn is_right_history(
     alloc: Global,
     packages: &[Package<'_>],
     devices: &[DeviceConfig],
     history: &[Entry],
 ) -> Result<bool, AllocError>
-    ensures { IfOk result (λ right. right ≡ are_right packages.now (map device_of devices.now) [] (map entry_of history.now)) }
+    ensures answer { IfOk result (λ right. right ≡ are_right packages.now (map device_of devices.now) [] (map entry_of history.now)) }
+    ensures sound { IfOk result (λ right. right ≡ true → AreRight packages.now (map device_of devices.now) [] (map entry_of history.now)) }
+    ensures complete { IfOk result (λ right. AreRight packages.now (map device_of devices.now) [] (map entry_of history.now) → right ≡ true) }
 {
     for (place, entry) in history.iter().enumerate() {
         if !is_right(alloc, packages, devices, &history[..place], entry)? {
@@ -229,7 +237,7 @@ pub fn is_clean<B: Bank + Drop>(
     ensures sound { IfOk result (λ clean. clean ≡ true → IsClean packages.now (map device_of devices.now) world.now) }
     ensures complete { IfOk result (λ clean. IsClean packages.now (map device_of devices.now) world.now → clean ≡ true) }
 {
-    if !are_right(alloc, packages, devices, world.history())? {
+    if !is_right_history(alloc, packages, devices, world.history())? {
         return Ok(false);
     }
     Ok(all_run(world, devices))
