@@ -44,6 +44,21 @@ first_more : (s : SetupOf) (cs : List CourseOf) (c : CourseOf) → first_violati
 first_more s [] c = refl
 first_more s (x ∷ cs) c = first_if (ends_clean s x) s x c (first_violation s cs) (first_violation s (cs ++ c ∷ [])) (first_more s cs c)
 
+-- none is kept where none goes wrong
+none_if : (b : Bool) (steps : List Step) (rest : Option (List Step)) (n : ℕ) → (if b then rest else Some steps) ≡ None → (rest ≡ None → n ≡ 0) → (if b then 0 else 1) + n ≡ 0
+none_if true steps rest n e h = let zero_rest = h e in omega arith
+none_if false steps rest n e h = absurd (let k : Some steps ≡ None = e in cc)
+
+none_wrong : (s : SetupOf) (cs : List CourseOf) → first_violation s cs ≡ None → sum_by (violates s) cs ≡ 0
+none_wrong s [] e = refl
+none_wrong s (c ∷ cs) e =
+    let alone : 0 + violates s c ≡ violates s c = omega arith in
+    sum_by-append (violates s) (c ∷ []) cs ∙ ap (λ n. n + sum_by (violates s) cs) alone
+    ∙ none_if (ends_clean s c) c.steps (first_violation s cs) (sum_by (violates s) cs) e (none_wrong s cs)
+
+pub soaked_clean : (s : SetupOf) (n : ℕ) (sum : Summary) (kept : Option (List Step)) → IsSoaked s n sum kept → kept ≡ None → sum.violations ≡ 0
+soaked_clean s n sum kept h e = h.summed.violations ∙ ap counted (none_wrong s h.courses (sym h.first ∙ e))
+
 pub soaked_none : (s : SetupOf) → IsSoaked s 0 no_runs None
 soaked_none s = record {
   courses = [];

@@ -1,5 +1,5 @@
 -- What is counted of a run.
-use Rattle.std.specs.Prelude.{ℕ, zero, suc, ◌+◌, ◌-◌, ◌^◌, ◌==◌, Bool, true, false, if◌then◌else◌, nat_lt, not, List, [], ◌∷◌, Option, Some, None, filter, length, map, min, option_map, replicate, slice_set}
+use Rattle.std.specs.Prelude.{ℕ, ◌+◌, ◌-◌, ◌^◌, ◌==◌, Bool, true, false, if◌then◌else◌, nat_lt, not, List, [], ◌∷◌, Option, Some, None, filter, length, map, min, option_map, replicate, slice_set}
 use Rattle.std.specs.List.{sum_by}
 use Rattle.fw_message.specs.History.{EntryOf}
 use Rattle.fw_message.specs.Worlds.{NotedOf}
@@ -27,8 +27,7 @@ restarts_in ss = length (filter is_restart ss)
 
 -- Which packets of a device came at least once: a delivery marks its packet, whose number counts from 1.
 abbrev pub marks_at : List Bool → (number : ℕ) → List Bool
-marks_at marks zero = marks
-marks_at marks (suc n) = slice_set marks n true
+marks_at marks number = if number == 0 then marks else slice_set marks (number - 1) true
 
 abbrev pub marked_if : Bool → List Bool → (number : ℕ) → List Bool
 marked_if true marks number = marks_at marks number

@@ -84,7 +84,7 @@ fn recorded_image<'a>(packages: &[Package<'a>], recorded: Recorded) -> Lent<'a>
 
 /// Whether an entry of the history says that a device applied an image.
 fn applies(entry: &Entry, device: u8, image: Lent<'_>) -> bool
-    ensures { result ≡ ((entry.now.device == device) && applies (record { key = image.key; bytes = image.bytes.now }) (event_of entry.now.event)) }
+    ensures { result ≡ ((entry.now.device == device) && applies (record { key = image.entry.key; bytes = image.entry.bytes.now }) (event_of entry.now.event)) }
 {
     if entry.device != device {
         return false;
@@ -97,7 +97,7 @@ fn applies(entry: &Entry, device: u8, image: Lent<'_>) -> bool
 
 /// Whether a device applied an image.
 fn has_applied(history: &[Entry], device: u8, image: Lent<'_>) -> bool
-    ensures { result ≡ has_applied (map entry_of history.now) device (record { key = image.key; bytes = image.bytes.now }) }
+    ensures { result ≡ has_applied (map entry_of history.now) device (record { key = image.entry.key; bytes = image.entry.bytes.now }) }
 {
     for entry in history {
         if applies(entry, device, image) {
@@ -127,6 +127,23 @@ fn is_right(
     }
 }
 
+/// Whether a history is right.
+fn are_right(
+    alloc: Global,
+    packages: &[Package<'_>],
+    devices: &[DeviceConfig],
+    history: &[Entry],
+) -> Result<bool, AllocError>
+    ensures { IfOk result (λ right. right ≡ are_right packages.now (map device_of devices.now) [] (map entry_of history.now)) }
+{
+    for (place, entry) in history.iter().enumerate() {
+        if !is_right(alloc, packages, devices, &history[..place], entry)? {
+            return Ok(false);
+        }
+    }
+    Ok(true)
+}
+
 /// Whether a history is right, as far as the packages and the configured devices tell: each image that a device activated is, byte
 /// for byte, one that a package names for it; and each component that the agent recorded as applied, that device had applied with
 /// those very bytes.
@@ -140,16 +157,13 @@ pub fn is_right_history(
     devices: &[DeviceConfig],
     history: &[Entry],
 ) -> Result<bool, AllocError>
-    ensures answer { IfOk result (λ right. right ≡ are_right packages.now (map device_of devices.now) [] (map entry_of history.now)) }
     ensures sound { IfOk result (λ right. right ≡ true → AreRight packages.now (map device_of devices.now) [] (map entry_of history.now)) }
     ensures complete { IfOk result (λ right. AreRight packages.now (map device_of devices.now) [] (map entry_of history.now) → right ≡ true) }
 {
-    for (place, entry) in history.iter().enumerate() {
-        if !is_right(alloc, packages, devices, &history[..place], entry)? {
-            return Ok(false);
-        }
+    match are_right(alloc, packages, devices, history) {
+        Ok(right) => Ok(right),
+        Err(error) => Err(error),
     }
-    Ok(true)
 }
 
 /// The image that runs for a component of a device after what happened: the last that it activated, or else the one that it began
@@ -219,6 +233,21 @@ fn all_run<B: Bank + Drop>(world: &World<'_, B>, devices: &[DeviceConfig]) -> bo
     true
 }
 
+/// Whether nothing is wrong with a world.
+fn answer<B: Bank + Drop>(
+    alloc: Global,
+    world: &World<'_, B>,
+    packages: &[Package<'_>],
+    devices: &[DeviceConfig],
+) -> Result<bool, AllocError>
+    ensures { IfOk result (λ clean. clean ≡ is_clean packages.now (map device_of devices.now) world.now) }
+{
+    if !are_right(alloc, packages, devices, world.history())? {
+        return Ok(false);
+    }
+    Ok(all_run(world, devices))
+}
+
 /// Whether nothing is wrong with a world, as far as the packages and the configured devices tell: each image that a device
 /// activated is, byte for byte, one that a package names for it; each component that the agent recorded as applied, that device had
 /// applied with those very bytes; and each bank runs what was activated last, or else what was configured. It rests on nothing
@@ -237,8 +266,8 @@ pub fn is_clean<B: Bank + Drop>(
     ensures sound { IfOk result (λ clean. clean ≡ true → IsClean packages.now (map device_of devices.now) world.now) }
     ensures complete { IfOk result (λ clean. IsClean packages.now (map device_of devices.now) world.now → clean ≡ true) }
 {
-    if !is_right_history(alloc, packages, devices, world.history())? {
-        return Ok(false);
+    match answer(alloc, world, packages, devices) {
+        Ok(clean) => Ok(clean),
+        Err(error) => Err(error),
     }
-    Ok(all_run(world, devices))
 }

@@ -2,7 +2,7 @@
 
 ghost use Rattle.std.specs.Prelude.{◌≡◌, ◌+◌, IfOk, false, filter, length, map, not, option_map, replicate, true};
 ghost use Rattle.fw_message.specs.Entries.{entry_of};
-ghost use Rattle.fw_soak.specs.Counts.{activations_in, counted, ends_if, longest_in, losses_in, marked_along, marked_by, no_update, restarts_in, starts_if, update_after, update_along};
+ghost use Rattle.fw_soak.specs.Counts.{activations_in, counted, ends_if, greater, longest_in, losses_in, marked_along, marked_by, no_update, restarts_in, starts_if, update_after, update_along};
 
 use fd_core::Bank;
 use fw_message::{Entry, Event};
@@ -36,6 +36,7 @@ pub(crate) fn restarts(steps: &[Step]) -> usize
 }
 
 /// Marks the packet of a device that a step brings, if it brings one.
+#[tactic(auto, using(crate::proofs::Counting::unmarked_past))]
 fn mark(marks: &mut [bool], device: u8, step: &Step)
     ensures { marks.new ≡ marked_by device marks.old step.now }
 {
@@ -45,8 +46,9 @@ fn mark(marks: &mut [bool], device: u8, step: &Step)
     if *pair != device || *number == 0 {
         return;
     }
-    if let Some(mark) = marks.get_mut(*number - 1) {
-        *mark = true;
+    let place = *number - 1;
+    if place < marks.len() {
+        marks[place] = true;
     }
 }
 
@@ -86,6 +88,7 @@ fn lost(alloc: Global, steps: &[Step], device: u8, packets: usize) -> Result<usi
 ///
 /// # Errors
 /// `AllocError` where memory for them is refused.
+#[tactic(auto, using(crate::proofs::Counting::counting))]
 pub(crate) fn losses<B: Bank + Drop>(
     alloc: Global,
     world: &World<'_, B>,
@@ -95,7 +98,10 @@ pub(crate) fn losses<B: Bank + Drop>(
 {
     let mut losses: u64 = 0;
     for place in 0..world.device_count() {
-        let (Some(node), Some(packets)) = (world.device_at(place), world.packets_at(place)) else {
+        let Some(node) = world.device_at(place) else {
+            unreachable!()
+        };
+        let Some(packets) = world.packets_at(place) else {
             unreachable!()
         };
         let lost = lost(alloc, steps, node.eid(), packets.len())?;
@@ -170,7 +176,15 @@ fn longest_of(steps: &[Step], device: u8) -> u64
     update.longest
 }
 
+/// The greater of two numbers.
+fn greater(one: u64, other: u64) -> u64
+    ensures { result ≡ greater one other }
+{
+    if one < other { other } else { one }
+}
+
 /// The ticks of the longest update of a run of these steps to this world.
+#[tactic(auto, using(crate::proofs::Counting::counting))]
 pub(crate) fn longest<B: Bank + Drop>(world: &World<'_, B>, steps: &[Step]) -> u64
     ensures { result ≡ longest_in (record { steps = steps.now; world = world.now }) }
 {
@@ -179,10 +193,7 @@ pub(crate) fn longest<B: Bank + Drop>(world: &World<'_, B>, steps: &[Step]) -> u
         let Some(node) = world.device_at(place) else {
             unreachable!()
         };
-        let here = longest_of(steps, node.eid());
-        if longest < here {
-            longest = here;
-        }
+        longest = greater(longest, longest_of(steps, node.eid()));
     }
     longest
 }

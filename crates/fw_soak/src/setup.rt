@@ -115,6 +115,7 @@ fn node(
 }
 
 /// The nodes of these devices, in their order.
+#[tactic(auto, using(crate::proofs::Opening::device_at))]
 fn node_all(
     alloc: Global,
     unit: Unit,

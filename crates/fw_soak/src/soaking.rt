@@ -1,12 +1,10 @@
 //! Many rough runs, each checked.
 
-ghost use Rattle.std.specs.Prelude.{◌≡◌, IfOk, OnOk, map, option_map};
+ghost use Rattle.std.specs.Prelude.{◌≡◌, IfOk, None, OnOk, map, option_map};
 ghost use Rattle.fw_script.specs.Seen.{device_of};
 ghost use Rattle.fw_script.specs.Whole.{AreWhole};
-ghost use Rattle.fw_soak.specs.Checking.{is_clean};
-ghost use Rattle.fw_soak.specs.Courses.{IsCourse};
 ghost use Rattle.fw_soak.specs.Setups.{setup_of};
-ghost use Rattle.fw_soak.specs.Summaries.{IsSoaked, ends_clean, kept_with, with_run};
+ghost use Rattle.fw_soak.specs.Summaries.{IsSoaked, ends_clean, kept_with, no_runs, with_run};
 
 use crate::checker::is_clean;
 use crate::counts::{activations, longest, losses, restarts};
@@ -106,6 +104,7 @@ pub fn soak<V: Onlooker>(
 ) -> Result<Soaked, AllocError>
     requires { AreWhole setup.agent.eid (map device_of setup.devices.now) }
     ensures soaked { IfOk result (λ s. IsSoaked (setup_of setup) runs s.summary (option_map (λ k. k.items) s.kept)) }
+    ensures none { IfOk result (λ s. s.kept ≡ None → s.summary.violations ≡ 0) }
 {
     let mut soaked = Soaked::new();
     for number in 0..runs {

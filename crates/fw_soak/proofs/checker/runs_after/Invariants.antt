@@ -6,5 +6,5 @@ use Rattle.fw_soak.proofs.checker.runs_after.Given as goal
 -- what runs in the end is what those that are left make of what runs now
 abbrev pub invariant-loop-entry : goal.invariant-loop-entry
 invariant-loop-entry l =
-    runs_after (map entry_of (drop l.entry-index l.history)) l.device l.component.component.key l.runs.now
+    runs_after (map entry_of (drop l.entry-index l.history)) l.device l.component.component.key l.runs
     ≡ runs_after (map entry_of l.history) l.device l.component.component.key l.component.image.items

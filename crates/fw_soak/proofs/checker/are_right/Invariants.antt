@@ -2,7 +2,7 @@ use Rattle.std.proofs.Common.{◌≡◌, [], drop, map, take}
 use Rattle.fw_message.specs.Entries.{entry_of}
 use Rattle.fw_script.specs.Seen.{device_of}
 use Rattle.fw_soak.specs.Checking.{are_right}
-use Rattle.fw_soak.proofs.checker.is_right_history.Given as goal
+use Rattle.fw_soak.proofs.checker.are_right.Given as goal
 
 -- the answer of those that are left, behind those that were passed, is the answer of all
 abbrev pub invariant-loop-place : goal.invariant-loop-place
