@@ -2,13 +2,14 @@
 use Rattle.std.proofs.Common.{◌≡◌, ◌∙◌, ◌⊎◌, ◌==◌, ◌&&◌, ◌||◌, ◌++◌, ℕ, nat_eq, Bool, true, false, List, [], ◌∷◌, Option, Some, None, inl, inr, refl, sym, ap, subst, map}
 use Rattle.std.specs.Cmp.Lexicographic.{pointwise}
 use Rattle.std.specs.List.{AllByRecursion, list_all}
-use Rattle.std.specs.Prelude.{IsSomeAnd}
+use Rattle.std.specs.Prelude.{IsSomeAnd, option_map}
 use Rattle.std.proofs.lemmas.Bool.{and_parts, eq-eqb, eqb-true}
 use Rattle.fw_package.specs.Choice.{image_for}
 use Rattle.fw_package.specs.Package.{DescriptorOf, PackageText}
 use Rattle.fwup_wire.proofs.SameCommands.{bytes_means, bytes_self}
 use Rattle.fwup_wire.specs.declared.values.Key.{Key}
 use Rattle.fd_core.specs.Images.{ImageOf, Put, RowOf, active_of, row_of, same_key}
+use Rattle.fw_node.specs.Nodes.{DeviceNodeOf}
 use Rattle.fw_message.specs.History.{EntryOf, same_put}
 use Rattle.fw_message.specs.Worlds.{NotedOf, noted_of}
 use Rattle.fw_script.specs.Configs.{ComponentConfigOf, DeviceConfigOf}
@@ -155,6 +156,14 @@ them_complete history d None h = absurd h
 them_complete history d (Some x) h =
     all_complete (runs_it history d.endpoint.eid x.node.half.core.device.rows) (RunsIt history d.endpoint.eid x.node.half.core.device.rows)
     (λ c e. running_complete (active_of (row_of x.node.half.core.device.rows c.component.key)) (runs_after history d.endpoint.eid c.component.key c.image) e) d.components h
+
+-- the device that is there
+pub runs_there : (history : List NotedOf) (d : DeviceConfigOf) (o : Option SiteOf) (node : DeviceNodeOf) → option_map (λ x. x.node) o ≡ Some node
+    → runs_them history d o ≡ list_all (runs_it history d.endpoint.eid node.half.core.device.rows) d.components
+runs_there history d None node e = absurd (cc)
+runs_there history d (Some x) node e =
+    let same : x.node ≡ node = cc in
+    ap (λ n. list_all (runs_it history d.endpoint.eid n.half.core.device.rows) d.components) same
 
 -- a world
 pub clean_sound : (ps : List PackageText) (ds : List DeviceConfigOf) (w : WorldOf) → is_clean ps ds w ≡ true → IsClean ps ds w

@@ -35,14 +35,14 @@ all_more P [] c h k = (k, tt)
 all_more P (x ∷ cs) c h k = (h.0, all_more P cs c h.1 k)
 
 -- the first that doesn't end clean
-first_if : (b : Bool) (s : SetupOf) (x c : CourseOf) (before after : Option (List Step)) → after ≡ kept_with s before c
-    → (if b then after else Some x.steps) ≡ kept_with s (if b then before else Some x.steps) c
-first_if true s x c before after h = h
-first_if false s x c before after h = refl
+first_if : (b clean : Bool) (x c : CourseOf) (before after : Option (List Step)) → after ≡ kept_with clean before c
+    → (if b then after else Some x.steps) ≡ kept_with clean (if b then before else Some x.steps) c
+first_if true clean x c before after h = h
+first_if false clean x c before after h = refl
 
-first_more : (s : SetupOf) (cs : List CourseOf) (c : CourseOf) → first_violation s (cs ++ c ∷ []) ≡ kept_with s (first_violation s cs) c
+first_more : (s : SetupOf) (cs : List CourseOf) (c : CourseOf) → first_violation s (cs ++ c ∷ []) ≡ kept_with (ends_clean s c) (first_violation s cs) c
 first_more s [] c = refl
-first_more s (x ∷ cs) c = first_if (ends_clean s x) s x c (first_violation s cs) (first_violation s (cs ++ c ∷ [])) (first_more s cs c)
+first_more s (x ∷ cs) c = first_if (ends_clean s x) (ends_clean s c) x c (first_violation s cs) (first_violation s (cs ++ c ∷ [])) (first_more s cs c)
 
 -- none is kept where none goes wrong
 none_if : (b : Bool) (steps : List Step) (rest : Option (List Step)) (n : ℕ) → (if b then rest else Some steps) ≡ None → (rest ≡ None → n ≡ 0) → (if b then 0 else 1) + n ≡ 0
@@ -76,7 +76,7 @@ soaked_none s = record {
 }
 
 pub soaked_more : (s : SetupOf) (n : ℕ) (sum : Summary) (kept : Option (List Step)) (c : CourseOf) → IsSoaked s n sum kept → IsCourse s c
-    → IsSoaked s (n + 1) (with_run s sum c) (kept_with s kept c)
+    → IsSoaked s (n + 1) (with_run (ends_clean s c) sum c) (kept_with (ends_clean s c) kept c)
 soaked_more s n sum kept c h k =
     let t = h.summed in
     record {
@@ -95,5 +95,13 @@ soaked_more s n sum kept c h k =
             ∙ ap (greatest 0) (sym (map-append longest_in h.courses (c ∷ [])));
         violations = total_more (violates s) h.courses c sum.violations t.violations;
       };
-      first = ap (λ o. kept_with s o c) h.first ∙ sym (first_more s h.courses c);
+      first = ap (λ o. kept_with (ends_clean s c) o c) h.first ∙ sym (first_more s h.courses c);
     }
+
+pub soaked_next : (s : SetupOf) (n : ℕ) (sum after : Summary) (kept kept_after : Option (List Step)) (c : CourseOf) (clean : Bool) → IsSoaked s n sum kept → IsCourse s c
+    → clean ≡ ends_clean s c → after ≡ with_run clean sum c → kept_after ≡ kept_with clean kept c → IsSoaked s (n + 1) after kept_after
+soaked_next s n sum after kept kept_after c clean h k is counted keeps =
+    subst (λ x. IsSoaked s (n + 1) x kept_after) (sym (counted ∙ ap (λ b. with_run b sum c) is))
+    (subst (λ o. IsSoaked s (n + 1) (with_run (ends_clean s c) sum c) o) (sym (keeps ∙ ap (λ b. kept_with b kept c) is)) (soaked_more s n sum kept c h k))
+
+pub ruleset summing = (soaked_none, soaked_next, soaked_clean)

@@ -29,7 +29,6 @@ pub record CourseOf : Type 0 where
 abbrev pub IsCourse : SetupOf → CourseOf → Type 0
 IsCourse s c = Run (opening_of s) c.steps c.world
 
--- a run, with what it began with
-pub record RunOf : Type 0 where
-  pub setup : SetupOf
-  pub course : CourseOf
+-- A run goes on from one moment to another: what leads to the one leads on to the other.
+pub record GoesOn (c d : CourseOf) : Type 0 where
+  pub goes : (o : WorldOf) → Run o c.steps c.world → Run o d.steps d.world

@@ -11,8 +11,11 @@ use Rattle.fw_soak.specs.declared.summary.Summary.{Summary}
 abbrev pub ends_clean : SetupOf → CourseOf → Bool
 ends_clean s c = is_clean s.packages s.devices c.world
 
+abbrev pub violates_if : (clean : Bool) → ℕ
+violates_if clean = if clean then 0 else 1
+
 abbrev pub violates : SetupOf → CourseOf → ℕ
-violates s c = if ends_clean s c then 0 else 1
+violates s c = violates_if (ends_clean s c)
 
 -- the steps of the first run that doesn't end so
 abbrev pub first_violation : SetupOf → List CourseOf → Option (List Step)
@@ -23,21 +26,21 @@ first_violation s (c ∷ cs) = if ends_clean s c then first_violation s cs else 
 abbrev pub no_runs : Summary
 no_runs = record { runs = 0; activations = 0; losses = 0; restarts = 0; longest = 0; violations = 0 }
 
--- with one more
-abbrev pub with_run : SetupOf → Summary → CourseOf → Summary
-with_run s sum c =
+-- with one more, which ends clean or doesn't
+abbrev pub with_run : (clean : Bool) → Summary → CourseOf → Summary
+with_run clean sum c =
     record {
       runs = counted (sum.runs + 1);
       activations = counted (sum.activations + activations_in c.world.history);
       losses = counted (sum.losses + counted (losses_in c));
       restarts = counted (sum.restarts + restarts_in c.steps);
       longest = greater sum.longest (longest_in c);
-      violations = counted (sum.violations + violates s c);
+      violations = counted (sum.violations + violates_if clean);
     }
 
-abbrev pub kept_with : SetupOf → Option (List Step) → CourseOf → Option (List Step)
-kept_with s (Some steps) c = Some steps
-kept_with s None c = if ends_clean s c then None else Some c.steps
+abbrev pub kept_with : (clean : Bool) → Option (List Step) → CourseOf → Option (List Step)
+kept_with clean (Some steps) c = Some steps
+kept_with clean None c = if clean then None else Some c.steps
 
 -- These runs were made, each from the world before the first step, and this is what is counted of them.
 pub record AreSummed (s : SetupOf) (cs : List CourseOf) (sum : Summary) : Type 0 where

@@ -184,11 +184,16 @@ fn runs_after<'a>(history: &'a [Entry], device: u8, component: &'a ComponentConf
     runs
 }
 
-/// Whether a device's bank runs for a component what it may.
-fn runs_it<B: Bank>(history: &[Entry], node: &DeviceNode<B>, component: &ComponentConfig) -> bool
-    ensures { result ≡ runs_it (map entry_of history.now) node.now.endpoint.eid node.now.half.core.device.rows (component_of component.now) }
+/// Whether a device's bank runs for a component what it may, where this is the device's identifier.
+fn runs_it<B: Bank>(
+    history: &[Entry],
+    node: &DeviceNode<B>,
+    eid: u8,
+    component: &ComponentConfig,
+) -> bool
+    ensures { result ≡ runs_it (map entry_of history.now) eid node.now.half.core.device.rows (component_of component.now) }
 {
-    let may = runs_after(history, node.eid(), component);
+    let may = runs_after(history, eid, component);
     match node.device().bank().active(component.component.key) {
         Some((_, bytes)) => bytes == may,
         None => false,
@@ -199,12 +204,13 @@ fn runs_it<B: Bank>(history: &[Entry], node: &DeviceNode<B>, component: &Compone
 fn runs_them<B: Bank>(
     history: &[Entry],
     node: &DeviceNode<B>,
+    eid: u8,
     components: &[ComponentConfig],
 ) -> bool
-    ensures { result ≡ list_all (runs_it (map entry_of history.now) node.now.endpoint.eid node.now.half.core.device.rows) (map component_of components.now) }
+    ensures { result ≡ list_all (runs_it (map entry_of history.now) eid node.now.half.core.device.rows) (map component_of components.now) }
 {
     for component in components {
-        if !runs_it(history, node, component) {
+        if !runs_it(history, node, eid, component) {
             return false;
         }
     }
@@ -212,11 +218,13 @@ fn runs_them<B: Bank>(
 }
 
 /// Whether a device is there, and its bank runs what it may.
+#[tactic(auto, using(crate::proofs::Checked::runs_there))]
 fn runs_what_it_may<B: Bank + Drop>(world: &World<'_, B>, device: &DeviceConfig) -> bool
     ensures { result ≡ runs_what_it_may world.now (device_of device.now) }
 {
-    match world.device(device.endpoint.eid) {
-        Some(node) => runs_them(world.history(), node, device.components.as_slice()),
+    let eid = device.endpoint.eid;
+    match world.device(eid) {
+        Some(node) => runs_them(world.history(), node, eid, device.components.as_slice()),
         None => false,
     }
 }

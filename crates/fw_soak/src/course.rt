@@ -1,9 +1,9 @@
 //! A run: the steps that it takes, and where they lead.
 
-ghost use Rattle.std.specs.Prelude.{◌≡◌, IfOk, map};
+ghost use Rattle.std.specs.Prelude.{[], ◌≡◌, IfOk, map};
 ghost use Rattle.fw_script.specs.Seen.{device_of};
 ghost use Rattle.fw_script.specs.Whole.{AreWhole};
-ghost use Rattle.fw_soak.specs.Courses.{IsCourse};
+ghost use Rattle.fw_soak.specs.Courses.{GoesOn, opening_of};
 ghost use Rattle.fw_soak.specs.Setups.{setup_of};
 
 use crate::chances::Chances;
@@ -13,23 +13,19 @@ use fw_world::{Step, StepFault, World};
 use std::alloc::{AllocError, Global};
 use std::marker::Model;
 
-/// A run. By its type its steps lead to its world from the one before the first step.
+/// A run. Its steps lead to its world.
 #[derive(Drop)]
 pub(crate) struct Course<'a> {
-    setup: Setup<'a>,
     world: World<'a, FailBank>,
     steps: Vec<Step>,
 }
 
 impl<'a> Model for Course<'a> {
-    ghost use Rattle.fw_soak.specs.Courses.{IsCourse, RunOf};
-    ghost use Rattle.fw_soak.specs.Setups.{setup_of};
+    ghost use Rattle.fw_soak.specs.Courses.{CourseOf};
 
-    ghost Value = { RunOf };
+    ghost Value = { CourseOf };
 
-    ghost view = { λ c. record { setup = setup_of c.setup; course = record { steps = c.steps.items; world = c.world } } };
-
-    ghost invariant = { λ c. IsCourse (setup_of c.setup) (record { steps = c.steps.items; world = c.world }) };
+    ghost view = { λ c. record { steps = c.steps.items; world = c.world } };
 }
 
 impl<'a> Course<'a> {
@@ -39,15 +35,15 @@ impl<'a> Course<'a> {
     /// `AllocError` where memory for its world is refused.
     pub(crate) fn begin(
         alloc: Global,
-        setup: Setup<'a>,
+        setup: &Setup<'a>,
         chances: &mut Chances,
     ) -> Result<Course<'a>, AllocError>
-        requires { AreWhole setup.agent.eid (map device_of setup.devices.now) }
-        ensures { IfOk result (λ c. c.setup ≡ setup_of setup) }
+        requires { AreWhole setup.now.agent.eid (map device_of setup.now.devices.now) }
+        ensures none { IfOk result (λ c. c.steps ≡ []) }
+        ensures opens { IfOk result (λ c. c.world ≡ opening_of (setup_of setup.now)) }
     {
         let world = opening(alloc, setup, chances)?;
         Ok(Course {
-            setup,
             world,
             steps: Vec::new(alloc),
         })
@@ -55,14 +51,14 @@ impl<'a> Course<'a> {
 
     /// The world that the steps led to.
     pub(crate) fn world(&self) -> &World<'a, FailBank>
-        ensures { result.now ≡ self.now.course.world }
+        ensures { result.now ≡ self.now.world }
     {
         &self.world
     }
 
     /// The steps that were taken, in order.
     pub(crate) fn steps(&self) -> &[Step]
-        ensures steps { result.now ≡ self.now.course.steps }
+        ensures { result.now ≡ self.now.steps }
     {
         self.steps.as_slice()
     }
@@ -71,11 +67,13 @@ impl<'a> Course<'a> {
     ///
     /// # Errors
     /// `AllocError` where memory is refused. Nothing has changed then.
-    #[tactic(auto, using(crate::proofs::Coursing::course_more))]
+    #[tactic(auto, using(crate::proofs::Coursing::going))]
     pub(crate) fn take(&mut self, step: Step) -> Result<bool, AllocError>
-        ensures { self.new.setup ≡ self.old.setup }
+        ensures { GoesOn self.old self.new }
     {
-        self.steps.reserve(1)?;
+        let Ok(()) = self.steps.reserve(1) else {
+            return Err(AllocError);
+        };
         match self.world.step(&step) {
             Ok(()) => {}
             Err(StepFault::Memory) => return Err(AllocError),
@@ -85,16 +83,9 @@ impl<'a> Course<'a> {
         Ok(true)
     }
 
-    /// Its steps lead to its world.
-    pub(crate) fn is_run(&self)
-        ensures { IsCourse self.now.setup self.now.course }
-    {
-        let _ = &self.world;
-    }
-
     /// The steps that were taken, in order.
     pub(crate) fn into_steps(self) -> Vec<Step>
-        ensures { result.items ≡ self.course.steps }
+        ensures { result.items ≡ self.entry.steps }
     {
         self.steps
     }

@@ -144,11 +144,11 @@ fn node_all(
 #[tactic(auto, using(fw_setup::proofs::Making::nodes_new))]
 pub(crate) fn opening<'a>(
     alloc: Global,
-    setup: Setup<'a>,
+    setup: &Setup<'a>,
     chances: &mut Chances,
 ) -> Result<World<'a, FailBank>, AllocError>
-    requires { AreWhole setup.agent.eid (map device_of setup.devices.now) }
-    ensures made { IfOk result (λ w. w ≡ opening_of (setup_of setup)) }
+    requires { AreWhole setup.now.agent.eid (map device_of setup.now.devices.now) }
+    ensures made { IfOk result (λ w. w ≡ opening_of (setup_of setup.now)) }
     ensures opens { IfOk result (λ w. IsOpeningWorld w) }
 {
     let agent = setup.agent.eid;

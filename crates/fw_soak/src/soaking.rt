@@ -4,7 +4,7 @@ ghost use Rattle.std.specs.Prelude.{◌≡◌, IfOk, None, OnOk, map, option_map
 ghost use Rattle.fw_script.specs.Seen.{device_of};
 ghost use Rattle.fw_script.specs.Whole.{AreWhole};
 ghost use Rattle.fw_soak.specs.Setups.{setup_of};
-ghost use Rattle.fw_soak.specs.Summaries.{IsSoaked, ends_clean, kept_with, no_runs, with_run};
+ghost use Rattle.fw_soak.specs.Summaries.{IsSoaked, kept_with, no_runs, with_run};
 
 use crate::checker::is_clean;
 use crate::counts::{activations, longest, losses, restarts};
@@ -38,8 +38,7 @@ fn with_run(
     course: &Course<'_>,
     clean: bool,
 ) -> Result<Summary, AllocError>
-    requires { clean ≡ ends_clean course.now.setup course.now.course }
-    ensures { IfOk result (λ s. s ≡ with_run course.now.setup summary course.now.course) }
+    ensures { IfOk result (λ s. s ≡ with_run clean summary course.now) }
 {
     let world = course.world();
     let steps = course.steps();
@@ -77,9 +76,8 @@ impl Soaked {
 
     /// One more run was made.
     fn add(&mut self, alloc: Global, course: Course<'_>, clean: bool) -> Result<(), AllocError>
-        requires { clean ≡ ends_clean course.setup course.course }
-        ensures summary { OnOk result (self.new.summary ≡ with_run course.setup self.old.summary course.course) }
-        ensures kept { OnOk result (option_map (λ k. k.items) self.new.kept ≡ kept_with course.setup (option_map (λ k. k.items) self.old.kept) course.course) }
+        ensures summary { OnOk result (self.new.summary ≡ with_run clean self.old.summary course.entry) }
+        ensures kept { OnOk result (option_map (λ k. k.items) self.new.kept ≡ kept_with clean (option_map (λ k. k.items) self.old.kept) course.entry) }
     {
         self.summary = with_run(alloc, self.summary, &course, clean)?;
         if !clean && self.kept.is_none() {
@@ -95,21 +93,21 @@ impl Soaked {
 ///
 /// # Errors
 /// `AllocError` where memory is refused.
+#[tactic(auto, using(crate::proofs::Summing::summing))]
 pub fn soak<V: Onlooker>(
     alloc: Global,
-    setup: Setup<'_>,
+    setup: &Setup<'_>,
     roughness: Roughness,
     runs: u32,
     onlooker: &mut V,
 ) -> Result<Soaked, AllocError>
-    requires { AreWhole setup.agent.eid (map device_of setup.devices.now) }
-    ensures soaked { IfOk result (λ s. IsSoaked (setup_of setup) runs s.summary (option_map (λ k. k.items) s.kept)) }
+    requires { AreWhole setup.now.agent.eid (map device_of setup.now.devices.now) }
+    ensures soaked { IfOk result (λ s. IsSoaked (setup_of setup.now) runs s.summary (option_map (λ k. k.items) s.kept)) }
     ensures none { IfOk result (λ s. s.kept ≡ None → s.summary.violations ≡ 0) }
 {
     let mut soaked = Soaked::new();
     for number in 0..runs {
         let course = run(alloc, setup, roughness, number)?;
-        course.is_run();
         let clean = is_clean(alloc, course.world(), setup.packages, setup.devices)?;
         soaked.add(alloc, course, clean)?;
         onlooker.see(&soaked.summary);

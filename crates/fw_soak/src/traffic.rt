@@ -1,6 +1,6 @@
 //! The packets of a run, and what becomes of them.
 
-ghost use Rattle.std.specs.Prelude.{◌≡◌};
+ghost use Rattle.fw_soak.specs.Courses.{GoesOn};
 
 use crate::chances::Chances;
 use crate::course::Course;
@@ -56,8 +56,9 @@ fn next_of(world: &World<'_, FailBank>, place: usize, met: usize) -> Option<Arri
 }
 
 /// A packet comes.
+#[tactic(auto, using(crate::proofs::Coursing::going))]
 fn arrive(course: &mut Course<'_>, arrival: Arrival) -> Result<(), AllocError>
-    ensures { course.new.setup ≡ course.old.setup }
+    ensures { GoesOn course.old course.new }
 {
     course.take(Step::Deliver(arrival.pair, arrival.number, arrival.node))?;
     Ok(())
@@ -83,13 +84,14 @@ impl Traffic {
     }
 
     /// A copy of a packet comes at once, or is held back for so many turns.
+    #[tactic(auto, using(crate::proofs::Coursing::going))]
     fn send(
         &mut self,
         course: &mut Course<'_>,
         arrival: Arrival,
         wait: u32,
     ) -> Result<(), AllocError>
-        ensures { course.new.setup ≡ course.old.setup }
+        ensures { GoesOn course.old course.new }
     {
         if wait == 0 {
             return arrive(course, arrival);
@@ -102,13 +104,14 @@ impl Traffic {
     }
 
     /// A packet that is sent meets its fate.
+    #[tactic(auto, using(crate::proofs::Coursing::going))]
     fn meet(
         &mut self,
         course: &mut Course<'_>,
         arrival: Arrival,
         chances: &mut Chances,
     ) -> Result<(), AllocError>
-        ensures { course.new.setup ≡ course.old.setup }
+        ensures { GoesOn course.old course.new }
     {
         match chances.fate(self.roughness) {
             Fate::Lost => Ok(()),
@@ -121,13 +124,14 @@ impl Traffic {
     }
 
     /// The next packet of the pair at a place meets its fate, if there is one.
+    #[tactic(auto, using(crate::proofs::Coursing::going))]
     fn meet_next(
         &mut self,
         course: &mut Course<'_>,
         place: usize,
         chances: &mut Chances,
     ) -> Result<bool, AllocError>
-        ensures { course.new.setup ≡ course.old.setup }
+        ensures { GoesOn course.old course.new }
     {
         let Some(met) = self.met.get_mut(place) else {
             return Ok(false);
@@ -141,12 +145,13 @@ impl Traffic {
     }
 
     /// The next packet of each pair meets its fate. Whether there was one.
+    #[tactic(auto, using(crate::proofs::Coursing::going))]
     fn meet_round(
         &mut self,
         course: &mut Course<'_>,
         chances: &mut Chances,
     ) -> Result<bool, AllocError>
-        ensures { course.new.setup ≡ course.old.setup }
+        ensures { GoesOn course.old course.new }
     {
         let mut any = false;
         for place in 0..self.met.len() {
@@ -158,8 +163,9 @@ impl Traffic {
     }
 
     /// What is held back and due comes.
+    #[tactic(auto, using(crate::proofs::Coursing::going))]
     fn release(&mut self, course: &mut Course<'_>) -> Result<(), AllocError>
-        ensures { course.new.setup ≡ course.old.setup }
+        ensures { GoesOn course.old course.new }
     {
         let now = course.world().now();
         for _ in 0..self.late.len() {
@@ -181,12 +187,13 @@ impl Traffic {
     ///
     /// # Errors
     /// `AllocError` where memory is refused.
+    #[tactic(auto, using(crate::proofs::Coursing::going))]
     pub(crate) fn exchange(
         &mut self,
         course: &mut Course<'_>,
         chances: &mut Chances,
     ) -> Result<(), AllocError>
-        ensures { course.new.setup ≡ course.old.setup }
+        ensures { GoesOn course.old course.new }
     {
         self.release(course)?;
         for _ in 0..ROUNDS {
@@ -201,13 +208,14 @@ impl Traffic {
     ///
     /// # Errors
     /// `AllocError` where memory is refused.
+    #[tactic(auto, using(crate::proofs::Coursing::going))]
     pub(crate) fn repeat(
         &self,
         course: &mut Course<'_>,
         place: usize,
         chances: &mut Chances,
     ) -> Result<(), AllocError>
-        ensures { course.new.setup ≡ course.old.setup }
+        ensures { GoesOn course.old course.new }
     {
         let Some(met) = self.met.get(place) else {
             return Ok(());

@@ -34,6 +34,14 @@ pub record SoaksClean (files : List ℕ → FileOf) (path : List ℕ) (order : S
   pub none : sum.violations ≡ 0
   pub written : Prints before now (summary_text sum)
 
+-- What is told where the steps of a run are kept that went wrong, and a file is asked for or isn't: that it did, and then the file
+-- holds their schedule; or that they aren't recorded, or that memory was refused.
+abbrev pub IsJudged : Option (List Step) → (file : Option (List ℕ)) → RunFault → (is_known : Bool) → (held : List ℕ → Option (List ℕ)) → Type 0
+IsJudged None file told is_known held = ⊥
+IsJudged (Some steps) file told is_known held =
+    ((told ≡ faults.Violation) ⊎ (IsSome file × ((told ≡ faults.Record) ⊎ (told ≡ faults.Memory))))
+    × (told ≡ faults.Violation → is_known ≡ true → IfSome file (λ p. held p ≡ Some (schedule_text steps)))
+
 -- One did, and that is written. Where its steps are asked for, they are kept in the file, if it is told that it went wrong, and
 -- nothing else.
 pub record SoaksWrong (files : List ℕ → FileOf) (path : List ℕ) (order : SoakOrder) (file : Option (List ℕ)) (told : RunFault) (is_known : Bool) (held : List ℕ → Option (List ℕ)) (before now : OutputOf) : Type 0 where
@@ -41,8 +49,7 @@ pub record SoaksWrong (files : List ℕ → FileOf) (path : List ℕ) (order : S
   pub steps : List Step
   pub soaks : Soaks files path order.runs sum (Some steps)
   pub written : Prints before now (summary_text sum)
-  pub tells : (told ≡ faults.Violation) ⊎ (IsSome file × ((told ≡ faults.Record) ⊎ (told ≡ faults.Memory)))
-  pub recorded : told ≡ faults.Violation → is_known ≡ true → IfSome file (λ p. held p ≡ Some (schedule_text steps))
+  pub judged : IsJudged (Some steps) file told is_known held
 
 -- What is said of the runs isn't written whole.
 pub record BreaksSoak (files : List ℕ → FileOf) (path : List ℕ) (order : SoakOrder) (told : RunFault) (before now : OutputOf) : Type 0 where

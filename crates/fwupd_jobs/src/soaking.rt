@@ -1,8 +1,8 @@
 //! Many rough runs of the devices of a configuration.
 
-ghost use Rattle.std.specs.Prelude.{◌≡◌, ◌⊎◌, IfErr, IfOk, OnErr, OnOk, Some, option_map, true};
+ghost use Rattle.std.specs.Prelude.{◌≡◌, ◌⊎◌, IfErr, None, OnErr, OnOk, Some, option_map, true};
 ghost use Rattle.fw_script.specs.ScheduleTexts.{schedule_text};
-ghost use Rattle.fwupd_jobs.specs.Soaked.{SoakEnds, SoaksClean};
+ghost use Rattle.fwupd_jobs.specs.Soaked.{IsJudged, SoakEnds, SoaksClean};
 
 use crate::faults::RunFault;
 use crate::files::{Files, is_read};
@@ -71,7 +71,10 @@ fn judge<W: Write + Drop, P: Places<W>>(
     kept: Option<Vec<Step>>,
     file: Option<&str>,
     places: &mut P,
-) -> Result<(), RunFault> {
+) -> Result<(), RunFault>
+    ensures ok { OnOk result (option_map (λ k. k.items) kept.entry ≡ None) }
+    ensures fault { IfErr result (λ e. IsJudged (option_map (λ k. k.items) kept.entry) (option_map (λ p. p.now) file.entry) e (P.is_known places.old) (P.held places.new)) }
+{
     let Some(steps) = kept else {
         return Ok(());
     };
@@ -135,7 +138,7 @@ pub fn soak_file<F: Files, V: Onlooker, B: Write + Drop, P: Places<B>, W: Write 
         devices: devices.as_slice(),
         packages: packages.as_slice(),
     };
-    let Ok(Soaked { summary, kept }) = soak(alloc, setup, order.roughness, order.runs, onlooker)
+    let Ok(Soaked { summary, kept }) = soak(alloc, &setup, order.roughness, order.runs, onlooker)
     else {
         return Err(RunFault::Memory);
     };

@@ -43,7 +43,7 @@ fn soaked(alloc: Global, seed: u64, runs: u32, onlooker: &mut Counting) -> Optio
         delay: 3,
         seed,
     };
-    match soak(alloc, setup, roughness, runs, onlooker) {
+    match soak(alloc, &setup, roughness, runs, onlooker) {
         Ok(soaked) => Some(soaked),
         Err(_) => None,
     }

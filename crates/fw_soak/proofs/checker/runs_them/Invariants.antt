@@ -8,5 +8,5 @@ use Rattle.fw_soak.proofs.checker.runs_them.Given as goal
 -- the answer of those that are left is the answer of all
 abbrev pub invariant-loop-component : goal.invariant-loop-component
 invariant-loop-component g l =
-    list_all (runs_it (map entry_of l.history) l.node.endpoint.eid l.node.half.core.device.rows) (map component_of (drop l.component-index l.components))
-    ≡ list_all (runs_it (map entry_of l.history) l.node.endpoint.eid l.node.half.core.device.rows) (map component_of l.components)
+    list_all (runs_it (map entry_of l.history) l.eid l.node.half.core.device.rows) (map component_of (drop l.component-index l.components))
+    ≡ list_all (runs_it (map entry_of l.history) l.eid l.node.half.core.device.rows) (map component_of l.components)
