@@ -96,15 +96,16 @@ applies_sound p (EntryOf.Activated q) h = absurd (cc)
 applied_sound : (xs : List NotedOf) (device : ℕ) (p : Put) → has_applied xs device p ≡ true → HasApplied xs device p
 applied_sound [] device p e = absurd (cc)
 applied_sound (x ∷ xs) device p e =
-    elim (or_parts ((x.device == device) && applies p x.entry) (has_applied xs device p) e)
-    [ inl here ↦
-        (let parts = and_parts (x.device == device) (applies p x.entry) here in
-        let a : x.device ≡ device = eqb-true x.device device parts.0 in
-        let b : x.entry ≡ EntryOf.Applied p = applies_sound p x.entry parts.1 in
-        let P : NotedOf → NotedOf = λ y. y in
-        let both : P (record { device = x.device; entry = x.entry }) ≡ P (record { device = device; entry = EntryOf.Applied p }) = rw (a, b) refl in
-        inl both)
-    | inr there ↦ inr (applied_sound xs device p there) ]
+    elim (or_parts ((x.device == device) && applies p x.entry) (has_applied xs device p) e) [
+      | inl here ↦
+          (let parts = and_parts (x.device == device) (applies p x.entry) here in
+          let a : x.device ≡ device = eqb-true x.device device parts.0 in
+          let b : x.entry ≡ EntryOf.Applied p = applies_sound p x.entry parts.1 in
+          let P : NotedOf → NotedOf = λ y. y in
+          let both : P (record { device = x.device; entry = x.entry }) ≡ P (record { device = device; entry = EntryOf.Applied p }) = rw (a, b) refl in
+          inl both)
+      | inr there ↦ inr (applied_sound xs device p there)
+    ]
 
 applied_complete : (xs : List NotedOf) (device : ℕ) (p : Put) → HasApplied xs device p → has_applied xs device p ≡ true
 applied_complete [] device p h = absurd h

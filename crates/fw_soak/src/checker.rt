@@ -90,7 +90,8 @@ fn applies(entry: &Entry, device: u8, image: Lent<'_>) -> bool
         return false;
     }
     match &entry.event {
-        Event::Applied(applied) => image.key == applied.key && image.bytes == applied.bytes.as_slice(),
+        Event::Applied(applied) => image.key == applied.key
+            && image.bytes == applied.bytes.as_slice(),
         _ => false,
     }
 }

@@ -46,11 +46,21 @@ fn with_run(
     let here = longest(world, steps);
     Ok(Summary {
         runs: summary.runs.saturating_add(1),
-        activations: summary.activations.saturating_add(activations(world.history()) as u64),
+        activations: summary
+            .activations
+            .saturating_add(activations(world.history()) as u64),
         losses: summary.losses.saturating_add(lost),
         restarts: summary.restarts.saturating_add(restarts(steps) as u64),
-        longest: if summary.longest < here { here } else { summary.longest },
-        violations: if clean { summary.violations } else { summary.violations.saturating_add(1) },
+        longest: if summary.longest < here {
+            here
+        } else {
+            summary.longest
+        },
+        violations: if clean {
+            summary.violations
+        } else {
+            summary.violations.saturating_add(1)
+        },
     })
 }
 

@@ -136,11 +136,7 @@ fn start_idle(
 }
 
 /// The verdict that the device at a place waits for: mostly that all is well.
-fn verdict_at(
-    world: &World<'_, FailBank>,
-    place: usize,
-    chances: &mut Chances,
-) -> Option<Step> {
+fn verdict_at(world: &World<'_, FailBank>, place: usize, chances: &mut Chances) -> Option<Step> {
     let node = world.device_at(place)?;
     let device = node.device();
     let (good, bad) = if awaits(device, Verdict::VerifyOk) {

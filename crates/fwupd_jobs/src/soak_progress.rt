@@ -1,8 +1,7 @@
 //! How far a soak is, shown on a terminal.
 
 use fw_soak::{Onlooker, Summary};
-use std::io::IsTerminal;
-use std::io::Print;
+use std::io::{IsTerminal, Print};
 use std::time::{Duration, Instant};
 
 /// How many milliseconds pass at least until progress is shown again.

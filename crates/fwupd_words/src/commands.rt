@@ -1,8 +1,7 @@
 //! The subcommands, with their words and their help.
 
 use crate::helps::{
-    ANSWER_HELP, BUILD_HELP, INSPECT_HELP, PLAN_HELP, REPLAY_HELP, RUN_HELP, SEL_HELP,
-    SOAK_HELP,
+    ANSWER_HELP, BUILD_HELP, INSPECT_HELP, PLAN_HELP, REPLAY_HELP, RUN_HELP, SEL_HELP, SOAK_HELP,
 };
 use crate::options::{
     json_option, log_option, package_option, trace_form_option, trace_option, with_roughness,
@@ -143,7 +142,9 @@ fn soak_command<'a>(alloc: Global) -> Result<Command<'a>, clap::Error> {
     let record = Arg::new(alloc, "record")
         .long("record")
         .value_name("FILE")
-        .help("Writes the steps of the first run that goes wrong to a file, as a schedule to replay");
+        .help(
+            "Writes the steps of the first run that goes wrong to a file, as a schedule to replay",
+        );
     let command = Command::new(alloc, "soak")
         .about("Makes many rough runs of updates, and checks each")
         .long_about(

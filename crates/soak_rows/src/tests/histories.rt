@@ -97,7 +97,10 @@ fn entries(alloc: Global, things: &[(u8, Happens)]) -> Result<Vec<Entry>, AllocE
     for (device, thing) in things {
         let event = match *thing {
             Happens::Applies(identifier, bytes) => Event::Applied(image(alloc, identifier, bytes)?),
-            Happens::Records(package, component) => Event::Recorded(Recorded { package, component }),
+            Happens::Records(package, component) => Event::Recorded(Recorded {
+                package,
+                component,
+            }),
             Happens::Activates(identifier, bytes) => {
                 Event::Activated(image(alloc, identifier, bytes)?)
             }
@@ -122,7 +125,12 @@ fn are_right(alloc: Global, things: &[(u8, Happens)]) -> Option<bool> {
     let Ok(history) = entries(alloc, things) else {
         return None;
     };
-    match is_right_history(alloc, &[package], config.devices.as_slice(), history.as_slice()) {
+    match is_right_history(
+        alloc,
+        &[package],
+        config.devices.as_slice(),
+        history.as_slice(),
+    ) {
         Ok(right) => Some(right),
         Err(_) => None,
     }
@@ -147,7 +155,9 @@ fn judges_histories(rt: HostRuntime) {
     // A record without its application, before it, or with another device's or component's.
     assert!(rt; are_right(alloc, &[recorded]) == Some(false));
     assert!(rt; are_right(alloc, &[recorded, applied]) == Some(false));
-    assert!(rt; are_right(alloc, &[(10, Happens::Applies(1, Bytes::Own)), recorded]) == Some(false));
+    assert!(rt;
+        are_right(alloc, &[(10, Happens::Applies(1, Bytes::Own)), recorded]) == Some(false)
+    );
     assert!(rt; are_right(alloc, &[(9, Happens::Applies(2, Bytes::Own)), recorded]) == Some(false));
     // A record of a component or a package that isn't there.
     assert!(rt; are_right(alloc, &[applied, (9, Happens::Records(1, 1))]) == Some(false));
@@ -157,5 +167,7 @@ fn judges_histories(rt: HostRuntime) {
     assert!(rt; are_right(alloc, &[(9, Happens::Activates(2, Bytes::Own))]) == Some(false));
     assert!(rt; are_right(alloc, &[(10, Happens::Activates(1, Bytes::Own))]) == Some(false));
     assert!(rt; are_right(alloc, &[(11, Happens::Activates(1, Bytes::Own))]) == Some(false));
-    assert!(rt; are_right(alloc, &[activated, (10, Happens::Activates(1, Bytes::Own))]) == Some(false));
+    assert!(rt;
+        are_right(alloc, &[activated, (10, Happens::Activates(1, Bytes::Own))]) == Some(false)
+    );
 }
