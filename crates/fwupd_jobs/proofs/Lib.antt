@@ -10,6 +10,7 @@ mod Noted
 mod Packed
 mod Refused
 mod Seen
+mod Soakings
 mod Started
 mod Told
 mod Traced

@@ -13,5 +13,6 @@ pub mod Replayed
 pub mod Running
 pub mod Sessions
 pub mod Setups
+pub mod Soaked
 pub mod Traces
 pub mod Watching

@@ -84,6 +84,7 @@ pub fn explain(rt: &HostRuntime, job: &Job<'_>, fault: &RunFault) {
         (_, RunFault::Unreadable(path)) => explain_unreadable(rt, path),
         (Job::Replay(config, ..), RunFault::Package(_))
         | (Job::Run(config, ..), RunFault::Package(_))
+        | (Job::Soak(config, ..), RunFault::Package(_))
         | (Job::Plan(config, ..), RunFault::Package(_)) => explain_package(rt, config),
         (Job::Replay(_, schedule, ..), RunFault::Step(number, _)) => {
             explain_step(rt, schedule, *number);

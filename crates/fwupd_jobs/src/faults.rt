@@ -47,6 +47,9 @@ pub enum RunFault {
     /// The steps of a run can't be recorded.
     #[error("record")]
     Record,
+    /// The checker found something wrong with a run of a soak.
+    #[error("soak: Violation")]
+    Violation,
     /// A run over links ended early.
     #[error("edge: {0}")]
     Edge(EdgeFault),

@@ -15,8 +15,10 @@ use crate::places::Places;
 use crate::planning::plan_file;
 use crate::replaying::replay_files;
 use crate::running::Watch;
+use crate::soaking::soak_file;
 use crate::updating::Wires;
 use fw_edge::Link;
+use fw_soak::Onlooker;
 use fwupd_words::Job;
 use std::alloc::Global;
 use std::io::{Read, Write};
@@ -24,13 +26,14 @@ use std::io::{Read, Write};
 /// Does a job. What it reads, it reads of the files; what it answers, of the reader; a package that it builds comes to its place.
 ///
 /// # Errors
-/// Those of the job: of `Output::answer`, `inspect_file`, `replay_files`, `update_checked`, `build_file`, `plan_file` or `sel_file`.
+/// Those of the job: of `Output::answer`, `inspect_file`, `replay_files`, `update_checked`, `build_file`, `plan_file`, `soak_file` or `sel_file`.
 pub fn perform_job<
     F: Files,
     R: Read,
     L: Link + Drop,
     S: Wires<L>,
     V: Watch,
+    O: Onlooker,
     B: Write + Drop,
     P: Places<B>,
     W: Write + Drop,
@@ -41,11 +44,12 @@ pub fn perform_job<
     reader: &mut R,
     wires: &mut S,
     watch: &mut V,
+    onlooker: &mut O,
     places: &mut P,
     output: &mut Output<W>,
 ) -> Result<(), RunFault>
     ensures ok { OnOk result (IsDone job.now (F.holds files.now) (R.remaining reader.old) (R.remaining reader.new) (V.watched watch.new) (P.is_known places.old) (P.held places.new) output.old output.new) }
-    ensures fault { IfErr result (λ e. JobEnds job.now (F.holds files.now) (V.refuses watch.old) (S.lacks wires.old) (R.remaining reader.old) (R.remaining reader.new) e (V.watched watch.new) output.old output.new) }
+    ensures fault { IfErr result (λ e. JobEnds job.now (F.holds files.now) (V.refuses watch.old) (S.lacks wires.old) (R.remaining reader.old) (R.remaining reader.new) e (V.watched watch.new) (P.is_known places.old) (P.held places.new) output.old output.new) }
     ensures untouched { IfErr result (λ e. (watch.new ≡ watch.old) ⊎ IsUnwritten e (V.watched watch.new).fault) }
 {
     match job {
@@ -59,6 +63,9 @@ pub fn perform_job<
         ),
         Job::Build(spec, file) => build_file(alloc, files, spec, file, places),
         Job::Sel(path) => sel_file(alloc, files, path, output),
+        Job::Soak(config, order, file) => soak_file(
+            alloc, files, config, *order, *file, onlooker, places, output,
+        ),
         Job::Plan(config, number, form) => plan_file(alloc, files, config, *number, *form, output),
     }
 }

@@ -12,12 +12,14 @@ use crate::jobs::perform_job;
 use crate::output::Output;
 use crate::places::{Places, SystemPlaces};
 use crate::running::Watch;
+use crate::soak_progress::SoakProgress;
 use crate::sockets::Sockets;
 use crate::updating::Wires;
 use crate::watching::Onlookers;
 use crate::words::words;
 use clap::error::ErrorKind;
 use fw_edge::Link;
+use fw_soak::Onlooker;
 use fwupd_words::{Job, parse};
 use std::io::{self, Read, Write};
 use std::process::ExitCode;
@@ -41,6 +43,7 @@ fn status<
     L: Link + Drop,
     S: Wires<L>,
     V: Watch,
+    O: Onlooker,
     B: Write + Drop,
     P: Places<B>,
     W: Write + Drop,
@@ -51,12 +54,23 @@ fn status<
     reader: &mut R,
     wires: &mut S,
     watch: &mut V,
+    onlooker: &mut O,
     places: &mut P,
     output: &mut Output<W>,
 ) -> ExitCode
     ensures { StatusSays (exit_status result) job.now (F.holds files.now) (V.refuses watch.old) (S.lacks wires.old) (R.remaining reader.old) (R.remaining reader.new) (V.watched watch.new) (P.is_known places.old) (P.held places.new) output.old output.new }
 {
-    match perform_job(rt.alloc(), job, files, reader, wires, watch, places, output) {
+    match perform_job(
+        rt.alloc(),
+        job,
+        files,
+        reader,
+        wires,
+        watch,
+        onlooker,
+        places,
+        output,
+    ) {
         Ok(()) => ExitCode::SUCCESS,
         Err(fault) => {
             let status = failed(rt, &fault);
@@ -75,6 +89,7 @@ fn run<W: Write + Drop>(rt: &HostRuntime, job: &Job<'_>, output: &mut Output<W>)
     let mut reader = rt.reader();
     let mut sockets = Sockets::new(rt);
     let mut onlookers = Onlookers::new(rt);
+    let mut progress = SoakProgress::new(rt);
     let status = status(
         rt,
         job,
@@ -82,9 +97,11 @@ fn run<W: Write + Drop>(rt: &HostRuntime, job: &Job<'_>, output: &mut Output<W>)
         &mut reader,
         &mut sockets,
         &mut onlookers,
+        &mut progress,
         &mut SystemPlaces::new(rt),
         output,
     );
+    progress.end();
     sockets.explain();
     onlookers.explain();
     status

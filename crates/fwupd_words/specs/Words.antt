@@ -12,6 +12,7 @@ use Rattle.fwupd_words.specs.declared.asked.Job.{Job}
 use Rattle.fwupd_words.specs.declared.asked.Job.TheVariants as jobs
 use Rattle.fwupd_words.specs.declared.asked.Order.{Order}
 use Rattle.fwupd_words.specs.declared.asked.Show.{Show}
+use Rattle.fwupd_words.specs.declared.asked.SoakOrder.{SoakOrder}
 use Rattle.fwupd_words.specs.declared.asked.TraceForm.{TraceForm}
 use Rattle.fwupd_words.specs.declared.asked.TraceForm.TheVariants as traces
 
@@ -88,6 +89,15 @@ pub record AsksOrder (words : Found) (order : Order) : Type 0 where
   pub check : AsksFlag words (codes "check") order.is_checked
   pub roughness : AsksRoughness words order.roughness
 
+-- The number of runs, where it is one of 32 bits.
+pub record AsksRuns (words : Found) (runs : ℕ) : Type 0 where
+  pub is : (text : List ℕ) → one_text words (codes "runs") ≡ Some text → IsNumeral 10 (without_leading_plus text) → number_of text < 2 ^ 32 → runs ≡ number_of text
+
+-- What is asked of a soak.
+pub record AsksSoak (words : Found) (order : SoakOrder) : Type 0 where
+  pub runs : AsksRuns words order.runs
+  pub roughness : AsksRoughness words order.roughness
+
 -- The subcommand of a name, with these words, asks for a job.
 abbrev pub Asks : (name : List ℕ) → Found → Job → Type 0
 Asks name words (jobs.Answer endpoint) = (name ≡ codes "answer") × AsksEndpoint words endpoint
@@ -100,3 +110,6 @@ Asks name words (jobs.Sel file) = (name ≡ codes "sel") × (file.now ≡ text_u
 Asks name words (jobs.Build spec file) = (name ≡ codes "build") × (spec.now ≡ text_under words (codes "SPEC")) × (file.now ≡ text_under words (codes "FILE"))
 Asks name words (jobs.Plan config number form) =
     (name ≡ codes "plan") × (config.now ≡ text_under words (codes "CONFIG")) × AsksNumber words number × AsksForm words form
+Asks name words (jobs.Soak config order path) =
+    (name ≡ codes "soak") × (config.now ≡ text_under words (codes "CONFIG")) × AsksSoak words order
+    × (option_map (λ p. p.now) path ≡ first_value words (codes "record"))

@@ -22,6 +22,9 @@ pub enum Job<'a> {
     Plan(&'a str, usize, Form),
     /// Tell the records of an event log in the file of this path.
     Sel(&'a str),
+    /// Make many rough runs of the devices of the configuration of this path, and keep the steps of the first that goes wrong in the
+    /// file of the other path, if there is one.
+    Soak(&'a str, SoakOrder, Option<&'a str>),
 }
 
 /// What is written of each packet.
@@ -43,6 +46,15 @@ pub struct Order {
     /// Whether each session has to be Done in the end.
     pub is_checked: bool,
     /// How rough its links are.
+    pub roughness: Roughness,
+}
+
+/// What is asked of a soak.
+#[derive(Clone, Copy)]
+pub struct SoakOrder {
+    /// How many runs are made, at least 1.
+    pub runs: u32,
+    /// How rough their links are.
     pub roughness: Roughness,
 }
 

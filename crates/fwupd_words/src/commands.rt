@@ -1,7 +1,7 @@
 //! The subcommands, with their words and their help.
 
 use crate::helps::{
-    ANSWER_HELP, BUILD_HELP, INSPECT_HELP, PLAN_HELP, REPLAY_HELP, RUN_HELP, SEL_HELP,
+    ANSWER_HELP, BUILD_HELP, INSPECT_HELP, PLAN_HELP, REPLAY_HELP, RUN_HELP, SEL_HELP, SOAK_HELP,
 };
 use crate::options::{
     json_option, log_option, package_option, trace_form_option, trace_option, with_roughness,
@@ -127,6 +127,38 @@ fn run_command<'a>(alloc: Global) -> Result<Command<'a>, clap::Error> {
     with_roughness(alloc, command)
 }
 
+/// The subcommand `soak`.
+fn soak_command<'a>(alloc: Global) -> Result<Command<'a>, clap::Error> {
+    let config = Arg::new(alloc, "CONFIG")
+        .help("The configuration: an agent, its devices, packages")
+        .required(true)
+        .action(ArgAction::Set);
+    let runs = Arg::new(alloc, "runs")
+        .long("runs")
+        .value_name("N")
+        .help("How many runs, 1 to 1000000")
+        .required(true)
+        .value_parser(value_parser!(u32).range(1..1_000_001));
+    let record = Arg::new(alloc, "record")
+        .long("record")
+        .value_name("FILE")
+        .help(
+            "Writes the steps of the first run that goes wrong to a file, as a schedule to replay",
+        );
+    let command = Command::new(alloc, "soak")
+        .about("Makes many rough runs of updates, and checks each")
+        .long_about(
+            "Makes many runs of updates of the devices of a configuration, with restarts of each node, cancels,\n\
+            bad verdicts and failing banks at random moments, and checks after each what devices activated and\n\
+            what runs.",
+        )
+        .after_long_help(SOAK_HELP)
+        .arg(runs)?
+        .arg(record)?
+        .arg(config)?;
+    with_roughness(alloc, command)
+}
+
 /// The subcommand `sel`.
 fn sel_command<'a>(alloc: Global) -> Result<Command<'a>, clap::Error> {
     let file = Arg::new(alloc, "FILE")
@@ -197,6 +229,7 @@ pub(crate) fn command<'a>(alloc: Global) -> Result<Command<'a>, clap::Error> {
         .subcommand(replay_command(alloc)?)?
         .subcommand(plan_command(alloc)?)?
         .subcommand(run_command(alloc)?)?
+        .subcommand(soak_command(alloc)?)?
         .subcommand(sel_command(alloc)?)?
         .subcommand(build_command(alloc)?)?;
     Ok(command)

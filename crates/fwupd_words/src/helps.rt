@@ -123,6 +123,41 @@ Limits: 80000 turns of one tick each. Three images of 1 MiB take about 66000.
 Status: 0; 1 if standard error says 'fwupd: ' and a fault, one of these or of 'replay'; 2 for wrong
 usage.";
 
+/// What stands below the help of `soak`.
+pub(crate) const SOAK_HELP: &str = "\
+Example:
+  fwupd soak --runs 100 --seed 7 --loss 20 --duplicate 10 --delay 3 examples/one.config
+
+CONFIG is that of 'fwupd replay --help', and --loss, --duplicate and --delay are those of 'fwupd run
+--help'. A run begins with all devices as CONFIG says. The operator starts their updates, each with
+some package, and has them activate. By chance the agent or a device restarts, an update is
+cancelled, a packet comes again, a verdict is bad, and a call of a device's bank fails. It ends when
+each session is Done or Failed and the operator lets it be, after 80000 turns of one tick at most.
+
+After each run a checker, which knows only the packages and CONFIG, looks at what happened and at
+the banks: each image that a device activated is, byte for byte, one that a package names for it;
+each component that the agent recorded as applied, that device had applied with these very bytes;
+and each bank runs what was activated last, or else what was configured.
+
+In the end these lines are printed:
+  runs N           the runs
+  activations N    the images that devices activated
+  losses N         the packets that never came
+  restarts N       how often a node restarted
+  longest N        the ticks of the longest update, from its start to the call to activate
+  violations N     the runs in which the checker found something wrong
+
+If standard error is a terminal, it shows how many runs are made. --record writes the steps of the
+first run that goes wrong, as a schedule: 'fwupd replay CONFIG FILE' shows what happened, where no
+call of a bank failed. Without such a run FILE isn't made. It is written beside its place, as
+FILE.new, and comes there when it is whole.
+
+Faults: 'soak: Violation' if the checker found something wrong; 'package: none' if CONFIG names no
+package; 'record' if FILE can't be written, or is one that is read.
+
+Status: 0 if no run goes wrong; 1 if standard error says 'fwupd: ' and a fault, one of these or of
+'replay'; 2 for wrong usage.";
+
 /// What stands below the help of `sel`.
 pub(crate) const SEL_HELP: &str = "\
 Example:

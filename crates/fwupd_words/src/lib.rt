@@ -7,5 +7,5 @@ mod helps;
 mod options;
 mod reading;
 
-pub use asked::{Job, Order, Show, TraceForm};
+pub use asked::{Job, Order, Show, SoakOrder, TraceForm};
 pub use reading::parse;

@@ -2,9 +2,9 @@
 
 ghost use Rattle.std.specs.Prelude.{◌≡◌, IfOk, codes, option_map};
 ghost use Rattle.clap.specs.Words.{first_value, found_of};
-ghost use Rattle.fwupd_words.specs.Words.{Asks, AsksEndpoint, AsksForm, AsksKept, AsksNumber, AsksOrder, AsksRoughness, AsksSeed, AsksSmall, AsksTraceForm, text_under};
+ghost use Rattle.fwupd_words.specs.Words.{Asks, AsksEndpoint, AsksForm, AsksKept, AsksNumber, AsksOrder, AsksRoughness, AsksRuns, AsksSeed, AsksSmall, AsksSoak, AsksTraceForm, text_under};
 
-use crate::asked::{Job, Order, Show, TraceForm};
+use crate::asked::{Job, Order, Show, SoakOrder, TraceForm};
 use crate::commands::command;
 use clap::ArgMatches;
 use clap::error::ErrorKind;
@@ -132,6 +132,26 @@ fn order_in(matches: &ArgMatches<'_>) -> Order
     }
 }
 
+/// The number of runs that the words give, and 1 where they give none.
+fn runs_in(matches: &ArgMatches<'_>) -> u32
+    ensures { AsksRuns (found_of matches.now) result }
+{
+    match matches.get_one::<u32>("runs") {
+        Some(runs) => runs,
+        None => 1,
+    }
+}
+
+/// What the words ask of a soak.
+fn soak_order_in(matches: &ArgMatches<'_>) -> SoakOrder
+    ensures { AsksSoak (found_of matches.now) result }
+{
+    SoakOrder {
+        runs: runs_in(matches),
+        roughness: roughness_in(matches),
+    }
+}
+
 /// The job that the subcommand of this name asks for, with these words.
 fn job_of<'a>(alloc: Global, name: &str, matches: &ArgMatches<'a>) -> Result<Job<'a>, clap::Error>
     ensures { IfOk result (Asks name.now (found_of matches.now)) }
@@ -157,6 +177,11 @@ fn job_of<'a>(alloc: Global, name: &str, matches: &ArgMatches<'a>) -> Result<Job
             text_under(matches, "FOLDER"),
             order_in(matches),
             show_in(matches, matches.get_flag("quiet")),
+        )),
+        "soak" => Ok(Job::Soak(
+            text_under(matches, "CONFIG"),
+            soak_order_in(matches),
+            matches.get_str("record"),
         )),
         "sel" => Ok(Job::Sel(text_under(matches, "FILE"))),
         "build" => Ok(Job::Build(text_under(matches, "SPEC"), text_under(matches, "FILE"))),

@@ -1,0 +1,6 @@
+mod Checked
+mod Counting
+mod Coursing
+mod Opening
+mod Sole
+mod Summing

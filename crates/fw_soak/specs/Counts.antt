@@ -1,0 +1,99 @@
+-- What is counted of a run.
+use Rattle.std.specs.Prelude.{ℕ, ◌+◌, ◌-◌, ◌^◌, ◌==◌, Bool, true, false, if◌then◌else◌, nat_lt, not, List, [], ◌∷◌, Option, Some, None, filter, length, map, min, option_map, replicate, slice_set}
+use Rattle.std.specs.List.{sum_by}
+use Rattle.fw_message.specs.History.{EntryOf}
+use Rattle.fw_message.specs.Worlds.{NotedOf}
+use Rattle.fw_world.specs.Worlds.{SiteOf, WorldOf}
+use Rattle.fw_world.specs.declared.step.Step.{Step}
+use Rattle.fw_world.specs.declared.step.Step.TheVariants as steps
+use Rattle.fw_soak.specs.Courses.{CourseOf}
+use Rattle.fw_soak.specs.declared.counts.Update.{Update}
+
+-- images that devices activated
+abbrev pub is_activated : EntryOf → Bool
+is_activated (EntryOf.Activated p) = true
+is_activated e = false
+
+abbrev pub activations_in : List NotedOf → ℕ
+activations_in xs = length (filter (λ x. is_activated x.entry) xs)
+
+-- restarts of the agent or of a device
+abbrev pub is_restart : Step → Bool
+is_restart (steps.Restart node) = true
+is_restart s = false
+
+abbrev pub restarts_in : List Step → ℕ
+restarts_in ss = length (filter is_restart ss)
+
+-- Which packets of a device came at least once: a delivery marks its packet, whose number counts from 1.
+abbrev pub marks_at : List Bool → (number : ℕ) → List Bool
+marks_at marks number = if number == 0 then marks else slice_set marks (number - 1) true
+
+abbrev pub marked_if : Bool → List Bool → (number : ℕ) → List Bool
+marked_if true marks number = marks_at marks number
+marked_if false marks number = marks
+
+abbrev pub marked_by : (device : ℕ) → List Bool → Step → List Bool
+marked_by device marks (steps.Deliver pair number node) = marked_if (pair == device) marks number
+marked_by device marks s = marks
+
+abbrev pub marked_along : (device : ℕ) → List Bool → List Step → List Bool
+marked_along device marks [] = marks
+marked_along device marks (s ∷ ss) = marked_along device (marked_by device marks s) ss
+
+-- how many of a device's packets never came
+abbrev pub lost_at : List Step → SiteOf → ℕ
+lost_at ss x = length (filter not (marked_along x.node.endpoint.eid (replicate (length x.packets) false) ss))
+
+-- how many packets never came
+abbrev pub losses_in : CourseOf → ℕ
+losses_in c = sum_by (lost_at c.steps) c.world.sites
+
+-- a count stops at its last value
+abbrev pub counted : ℕ → ℕ
+counted n = min n (2 ^ 64 - 1)
+
+-- the greater of two numbers
+abbrev pub greater : ℕ → ℕ → ℕ
+greater a b = if nat_lt a b then b else a
+
+-- nothing goes on yet, and nothing ended
+abbrev pub no_update : Update
+no_update = record { since = None; longest = 0 }
+
+abbrev pub starts_if : Bool → Update → Update
+starts_if true u = record { since = Some 0; longest = u.longest }
+starts_if false u = u
+
+-- an update ends that began so many ticks ago, or none
+abbrev pub ended : Option ℕ → (longest : ℕ) → Update
+ended None longest = record { since = None; longest = longest }
+ended (Some since) longest = record { since = None; longest = greater longest since }
+
+abbrev pub ends_if : Bool → Update → Update
+ends_if true u = ended u.since u.longest
+ends_if false u = u
+
+-- An update begins where the operator starts it, and ends where he has the device activate. It lasts so many ticks.
+abbrev pub update_after : (device : ℕ) → Update → Step → Update
+update_after device u (steps.Start eid number) = starts_if (eid == device) u
+update_after device u (steps.Activate eid) = ends_if (eid == device) u
+update_after device u (steps.Tick missed) = record { since = option_map (λ t. counted (t + 1)) u.since; longest = u.longest }
+update_after device u s = u
+
+abbrev pub update_along : (device : ℕ) → Update → List Step → Update
+update_along device u [] = u
+update_along device u (s ∷ ss) = update_along device (update_after device u s) ss
+
+-- the ticks of a device's longest update
+abbrev pub longest_at : List Step → SiteOf → ℕ
+longest_at ss x = (update_along x.node.endpoint.eid no_update ss).longest
+
+-- the greatest of these numbers and one more
+abbrev pub greatest : (so_far : ℕ) → List ℕ → ℕ
+greatest n [] = n
+greatest n (m ∷ ms) = greatest (greater n m) ms
+
+-- the ticks of the longest update of a run
+abbrev pub longest_in : CourseOf → ℕ
+longest_in c = greatest 0 (map (longest_at c.steps) c.world.sites)

@@ -1,0 +1,34 @@
+-- A run: the world that it begins with, the steps that it took, and the world that they led to.
+use Rattle.std.specs.Prelude.{ℕ, ◌≡◌, List}
+use Rattle.mctp_ctl.specs.declared.answers.Endpoint.{Endpoint}
+use Rattle.mctp_wire.specs.declared.unit.Unit.{«Unit»}
+use Rattle.fw_package.specs.Package.{PackageText}
+use Rattle.fw_script.specs.Configs.{DeviceConfigOf}
+use Rattle.fw_setup.specs.Nodes.{nodes_made}
+use Rattle.fw_world.specs.Headline.{Run, new_world}
+use Rattle.fw_world.specs.Worlds.{WorldOf}
+use Rattle.fw_world.specs.declared.step.Step.{Step}
+
+-- what runs begin with: the agent, the transmission unit of its network, its devices as they are configured, and the packages
+pub record SetupOf : Type 0 where
+  pub agent : Endpoint
+  pub unit : «Unit»
+  pub devices : List DeviceConfigOf
+  pub packages : List PackageText
+
+-- the world before the first step
+abbrev pub opening_of : SetupOf → WorldOf
+opening_of s = new_world s.agent (nodes_made s.unit s.agent.eid s.devices) s.packages
+
+-- the steps that a run took, in order, and where they led
+pub record CourseOf : Type 0 where
+  pub steps : List Step
+  pub world : WorldOf
+
+-- The steps lead there from the world before the first step.
+abbrev pub IsCourse : SetupOf → CourseOf → Type 0
+IsCourse s c = Run (opening_of s) c.steps c.world
+
+-- A run goes on from one moment to another: what leads to the one leads on to the other.
+pub record GoesOn (c d : CourseOf) : Type 0 where
+  pub goes : (o : WorldOf) → Run o c.steps c.world → Run o d.steps d.world

@@ -1,0 +1,8 @@
+-- What runs begin with, as it is lent.
+use Rattle.std.specs.Prelude.{map}
+use Rattle.fw_script.specs.Seen.{device_of}
+use Rattle.fw_soak.specs.Courses.{SetupOf}
+use Rattle.fw_soak.specs.declared.setup.Setup.{Setup}
+
+abbrev pub setup_of : Setup → SetupOf
+setup_of s = record { agent = s.agent; unit = s.unit; devices = map device_of s.devices.now; packages = s.packages.now }

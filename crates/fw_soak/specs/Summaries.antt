@@ -1,0 +1,60 @@
+-- What is said of many runs.
+use Rattle.std.specs.Prelude.{ℕ, ◌≡◌, ◌+◌, Bool, if◌then◌else◌, List, [], ◌∷◌, Option, Some, None, length, map}
+use Rattle.std.specs.List.{AllByRecursion, sum_by}
+use Rattle.fw_world.specs.declared.step.Step.{Step}
+use Rattle.fw_soak.specs.Checking.{is_clean}
+use Rattle.fw_soak.specs.Counts.{activations_in, counted, greater, greatest, longest_in, losses_in, restarts_in}
+use Rattle.fw_soak.specs.Courses.{CourseOf, IsCourse, SetupOf}
+use Rattle.fw_soak.specs.declared.summary.Summary.{Summary}
+
+-- the checker finds nothing wrong where a run ended
+abbrev pub ends_clean : SetupOf → CourseOf → Bool
+ends_clean s c = is_clean s.packages s.devices c.world
+
+abbrev pub violates_if : (clean : Bool) → ℕ
+violates_if clean = if clean then 0 else 1
+
+abbrev pub violates : SetupOf → CourseOf → ℕ
+violates s c = violates_if (ends_clean s c)
+
+-- the steps of the first run that doesn't end so
+abbrev pub first_violation : SetupOf → List CourseOf → Option (List Step)
+first_violation s [] = None
+first_violation s (c ∷ cs) = if ends_clean s c then first_violation s cs else Some c.steps
+
+-- before the first run
+abbrev pub no_runs : Summary
+no_runs = record { runs = 0; activations = 0; losses = 0; restarts = 0; longest = 0; violations = 0 }
+
+-- with one more, which ends clean or doesn't
+abbrev pub with_run : (clean : Bool) → Summary → CourseOf → Summary
+with_run clean sum c =
+    record {
+      runs = counted (sum.runs + 1);
+      activations = counted (sum.activations + activations_in c.world.history);
+      losses = counted (sum.losses + counted (losses_in c));
+      restarts = counted (sum.restarts + restarts_in c.steps);
+      longest = greater sum.longest (longest_in c);
+      violations = counted (sum.violations + violates_if clean);
+    }
+
+abbrev pub kept_with : (clean : Bool) → Option (List Step) → CourseOf → Option (List Step)
+kept_with clean (Some steps) c = Some steps
+kept_with clean None c = if clean then None else Some c.steps
+
+-- These runs were made, each from the world before the first step, and this is what is counted of them.
+pub record AreSummed (s : SetupOf) (cs : List CourseOf) (sum : Summary) : Type 0 where
+  pub each : AllByRecursion (IsCourse s) cs
+  pub runs : sum.runs ≡ counted (length cs)
+  pub activations : sum.activations ≡ counted (sum_by (λ c. activations_in c.world.history) cs)
+  pub losses : sum.losses ≡ counted (sum_by losses_in cs)
+  pub restarts : sum.restarts ≡ counted (sum_by (λ c. restarts_in c.steps) cs)
+  pub longest : sum.longest ≡ greatest 0 (map longest_in cs)
+  pub violations : sum.violations ≡ counted (sum_by (violates s) cs)
+
+-- So many runs were made, and this is what is said of them, and kept of the first violation.
+pub record IsSoaked (s : SetupOf) (runs : ℕ) (sum : Summary) (kept : Option (List Step)) : Type 0 where
+  pub courses : List CourseOf
+  pub made : length courses ≡ runs
+  pub summed : AreSummed s courses sum
+  pub first : kept ≡ first_violation s courses

@@ -1,0 +1,92 @@
+//! A run: the steps that it takes, and where they lead.
+
+ghost use Rattle.std.specs.Prelude.{[], ◌≡◌, IfOk, map};
+ghost use Rattle.fw_script.specs.Seen.{device_of};
+ghost use Rattle.fw_script.specs.Whole.{AreWhole};
+ghost use Rattle.fw_soak.specs.Courses.{GoesOn, opening_of};
+ghost use Rattle.fw_soak.specs.Setups.{setup_of};
+
+use crate::chances::Chances;
+use crate::setup::{Setup, opening};
+use fd_core::FailBank;
+use fw_world::{Step, StepFault, World};
+use std::alloc::{AllocError, Global};
+use std::marker::Model;
+
+/// A run. Its steps lead to its world.
+#[derive(Drop)]
+pub(crate) struct Course<'a> {
+    world: World<'a, FailBank>,
+    steps: Vec<Step>,
+}
+
+impl<'a> Model for Course<'a> {
+    ghost use Rattle.fw_soak.specs.Courses.{CourseOf};
+
+    ghost Value = { CourseOf };
+
+    ghost view = { λ c. record { steps = c.steps.items; world = c.world } };
+}
+
+impl<'a> Course<'a> {
+    /// A run of no step. Of the calls of each device's bank one fails by chance, or none.
+    ///
+    /// # Errors
+    /// `AllocError` where memory for its world is refused.
+    pub(crate) fn begin(
+        alloc: Global,
+        setup: &Setup<'a>,
+        chances: &mut Chances,
+    ) -> Result<Course<'a>, AllocError>
+        requires { AreWhole setup.now.agent.eid (map device_of setup.now.devices.now) }
+        ensures none { IfOk result (λ c. c.steps ≡ []) }
+        ensures opens { IfOk result (λ c. c.world ≡ opening_of (setup_of setup.now)) }
+    {
+        let world = opening(alloc, setup, chances)?;
+        Ok(Course {
+            world,
+            steps: Vec::new(alloc),
+        })
+    }
+
+    /// The world that the steps led to.
+    pub(crate) fn world(&self) -> &World<'a, FailBank>
+        ensures { result.now ≡ self.now.world }
+    {
+        &self.world
+    }
+
+    /// The steps that were taken, in order.
+    pub(crate) fn steps(&self) -> &[Step]
+        ensures { result.now ≡ self.now.steps }
+    {
+        self.steps.as_slice()
+    }
+
+    /// Takes a step, if it may be taken, and says whether it was.
+    ///
+    /// # Errors
+    /// `AllocError` where memory is refused. Nothing has changed then.
+    #[tactic(auto, using(crate::proofs::Coursing::going))]
+    pub(crate) fn take(&mut self, step: Step) -> Result<bool, AllocError>
+        ensures { GoesOn self.old self.new }
+    {
+        let Ok(()) = self.steps.reserve(1) else {
+            return Err(AllocError);
+        };
+        match self.world.step(&step) {
+            Ok(()) => {}
+            Err(StepFault::Memory) => return Err(AllocError),
+            Err(_) => return Ok(false),
+        }
+        let _ = self.steps.push(step);
+        Ok(true)
+    }
+
+    /// The steps that were taken, in order.
+    pub(crate) fn into_steps(self) -> Vec<Step>
+        ensures { result.items ≡ self.entry.steps }
+    {
+        self.steps
+    }
+}

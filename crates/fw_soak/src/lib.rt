@@ -1,0 +1,18 @@
+//! Many rough runs of an update, each checked by what the packages name.
+#![tactic(auto)]
+
+mod chances;
+mod checker;
+mod counts;
+mod course;
+mod naming;
+mod setup;
+mod soaking;
+mod summary;
+mod traffic;
+mod turns;
+
+pub use checker::{is_clean, is_right_history};
+pub use setup::Setup;
+pub use soaking::{Onlooker, Soaked, soak};
+pub use summary::{Summary, summary_text};

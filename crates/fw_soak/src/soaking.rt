@@ -1,0 +1,126 @@
+//! Many rough runs, each checked.
+
+ghost use Rattle.std.specs.Prelude.{◌≡◌, IfOk, None, OnOk, map, option_map};
+ghost use Rattle.fw_script.specs.Seen.{device_of};
+ghost use Rattle.fw_script.specs.Whole.{AreWhole};
+ghost use Rattle.fw_soak.specs.Setups.{setup_of};
+ghost use Rattle.fw_soak.specs.Summaries.{IsSoaked, kept_with, no_runs, with_run};
+
+use crate::checker::is_clean;
+use crate::counts::{activations, longest, losses, restarts};
+use crate::course::Course;
+use crate::setup::Setup;
+use crate::summary::Summary;
+use crate::turns::run;
+use fw_edge::Roughness;
+use fw_world::Step;
+use std::alloc::{AllocError, Global};
+
+/// What many runs came to.
+#[derive(Drop)]
+pub struct Soaked {
+    /// What is said of them.
+    pub summary: Summary,
+    /// The steps of the first run in which the checker found something wrong, if there is one.
+    pub kept: Option<Vec<Step>>,
+}
+
+/// Looks on while runs are made.
+pub trait Onlooker {
+    /// Sees what is said of the runs so far.
+    fn see(&mut self, summary: &Summary);
+}
+
+/// What is said of runs with one more, which ended clean or not.
+fn with_run(
+    alloc: Global,
+    summary: Summary,
+    course: &Course<'_>,
+    clean: bool,
+) -> Result<Summary, AllocError>
+    ensures { IfOk result (λ s. s ≡ with_run clean summary course.now) }
+{
+    let world = course.world();
+    let steps = course.steps();
+    let lost = losses(alloc, world, steps)?;
+    let here = longest(world, steps);
+    Ok(Summary {
+        runs: summary.runs.saturating_add(1),
+        activations: summary
+            .activations
+            .saturating_add(activations(world.history()) as u64),
+        losses: summary.losses.saturating_add(lost),
+        restarts: summary.restarts.saturating_add(restarts(steps) as u64),
+        longest: if summary.longest < here {
+            here
+        } else {
+            summary.longest
+        },
+        violations: if clean {
+            summary.violations
+        } else {
+            summary.violations.saturating_add(1)
+        },
+    })
+}
+
+impl Soaked {
+    /// Before the first run.
+    fn new() -> Soaked
+        ensures summary { result.summary ≡ no_runs }
+        ensures kept { result.kept ≡ None }
+    {
+        let summary = Summary {
+            runs: 0,
+            activations: 0,
+            losses: 0,
+            restarts: 0,
+            longest: 0,
+            violations: 0,
+        };
+        Soaked {
+            summary,
+            kept: None,
+        }
+    }
+
+    /// One more run was made.
+    fn add(&mut self, alloc: Global, course: Course<'_>, clean: bool) -> Result<(), AllocError>
+        ensures summary { OnOk result (self.new.summary ≡ with_run clean self.old.summary course.entry) }
+        ensures kept { OnOk result (option_map (λ k. k.items) self.new.kept ≡ kept_with clean (option_map (λ k. k.items) self.old.kept) course.entry) }
+    {
+        self.summary = with_run(alloc, self.summary, &course, clean)?;
+        if !clean && self.kept.is_none() {
+            self.kept = Some(course.into_steps());
+        }
+        Ok(())
+    }
+}
+
+/// Makes so many runs of a setup over links that are so rough, with restarts of each node, cancels, bad verdicts and failing banks at
+/// random moments, and looks after each whether the checker finds something wrong. The same roughness, which has a seed, gives the
+/// same again.
+///
+/// # Errors
+/// `AllocError` where memory is refused.
+#[tactic(auto, using(crate::proofs::Summing::summing))]
+pub fn soak<V: Onlooker>(
+    alloc: Global,
+    setup: &Setup<'_>,
+    roughness: Roughness,
+    runs: u32,
+    onlooker: &mut V,
+) -> Result<Soaked, AllocError>
+    requires { AreWhole setup.now.agent.eid (map device_of setup.now.devices.now) }
+    ensures soaked { IfOk result (λ s. IsSoaked (setup_of setup.now) runs s.summary (option_map (λ k. k.items) s.kept)) }
+    ensures none { IfOk result (λ s. s.kept ≡ None → s.summary.violations ≡ 0) }
+{
+    let mut soaked = Soaked::new();
+    for number in 0..runs {
+        let course = run(alloc, setup, roughness, number)?;
+        let clean = is_clean(alloc, course.world(), setup.packages, setup.devices)?;
+        soaked.add(alloc, course, clean)?;
+        onlooker.see(&soaked.summary);
+    }
+    Ok(soaked)
+}

@@ -1,0 +1,229 @@
+//! The packets of a run, and what becomes of them.
+
+ghost use Rattle.fw_soak.specs.Courses.{GoesOn};
+
+use crate::chances::Chances;
+use crate::course::Course;
+use fd_core::FailBank;
+use fw_edge::{Fate, Roughness};
+use fw_world::{Step, World};
+use std::alloc::{AllocError, Global};
+use std::collections::VecDeque;
+
+/// How often each link is looked at in a turn: what two nodes have to say to each other in one takes far less.
+const ROUNDS: u16 = 1024;
+
+/// A packet, by its pair, its number, and the node that it comes to.
+#[derive(Clone, Copy)]
+struct Arrival {
+    pair: u8,
+    number: usize,
+    node: u8,
+}
+
+/// A packet that is held back.
+#[derive(Clone, Copy)]
+struct Late {
+    arrival: Arrival,
+    /// The unit of time at which it comes.
+    due: u32,
+}
+
+/// The links of a run: which packets have met their fate, and which are held back.
+#[derive(Drop)]
+pub(crate) struct Traffic {
+    roughness: Roughness,
+    /// How many packets of each pair have met their fate, in configured order.
+    met: Vec<usize>,
+    late: VecDeque<Late>,
+}
+
+/// The packet of the pair at a place that stands behind so many.
+fn next_of(world: &World<'_, FailBank>, place: usize, met: usize) -> Option<Arrival> {
+    let device = world.device_at(place)?.eid();
+    let packets = world.packets_at(place)?;
+    let packet = packets.get(met)?;
+    let agent = world.agent().eid();
+    let node = match packet.bytes.get(1) {
+        Some(dest) if *dest == agent => agent,
+        _ => device,
+    };
+    Some(Arrival {
+        pair: device,
+        number: met.saturating_add(1),
+        node,
+    })
+}
+
+/// A packet comes.
+#[tactic(auto, using(crate::proofs::Coursing::going))]
+fn arrive(course: &mut Course<'_>, arrival: Arrival) -> Result<(), AllocError>
+    ensures { GoesOn course.old course.new }
+{
+    course.take(Step::Deliver(arrival.pair, arrival.number, arrival.node))?;
+    Ok(())
+}
+
+impl Traffic {
+    /// The links of so many devices on which nothing was sent.
+    ///
+    /// # Errors
+    /// `AllocError` where memory for them is refused.
+    pub(crate) fn new(
+        alloc: Global,
+        roughness: Roughness,
+        devices: usize,
+    ) -> Result<Traffic, AllocError> {
+        let mut met = Vec::new(alloc);
+        met.resize(devices, 0)?;
+        Ok(Traffic {
+            roughness,
+            met,
+            late: VecDeque::new(alloc),
+        })
+    }
+
+    /// A copy of a packet comes at once, or is held back for so many turns.
+    #[tactic(auto, using(crate::proofs::Coursing::going))]
+    fn send(
+        &mut self,
+        course: &mut Course<'_>,
+        arrival: Arrival,
+        wait: u32,
+    ) -> Result<(), AllocError>
+        ensures { GoesOn course.old course.new }
+    {
+        if wait == 0 {
+            return arrive(course, arrival);
+        }
+        let due = course.world().now().saturating_add(wait);
+        let Ok(()) = self.late.push_back(Late { arrival, due }) else {
+            return Err(AllocError);
+        };
+        Ok(())
+    }
+
+    /// A packet that is sent meets its fate.
+    #[tactic(auto, using(crate::proofs::Coursing::going))]
+    fn meet(
+        &mut self,
+        course: &mut Course<'_>,
+        arrival: Arrival,
+        chances: &mut Chances,
+    ) -> Result<(), AllocError>
+        ensures { GoesOn course.old course.new }
+    {
+        match chances.fate(self.roughness) {
+            Fate::Lost => Ok(()),
+            Fate::Once(wait) => self.send(course, arrival, wait),
+            Fate::Twice(first, second) => {
+                self.send(course, arrival, first)?;
+                self.send(course, arrival, second)
+            }
+        }
+    }
+
+    /// The next packet of the pair at a place meets its fate, if there is one.
+    #[tactic(auto, using(crate::proofs::Coursing::going))]
+    fn meet_next(
+        &mut self,
+        course: &mut Course<'_>,
+        place: usize,
+        chances: &mut Chances,
+    ) -> Result<bool, AllocError>
+        ensures { GoesOn course.old course.new }
+    {
+        let Some(met) = self.met.get_mut(place) else {
+            return Ok(false);
+        };
+        let Some(arrival) = next_of(course.world(), place, *met) else {
+            return Ok(false);
+        };
+        *met = met.saturating_add(1);
+        self.meet(course, arrival, chances)?;
+        Ok(true)
+    }
+
+    /// The next packet of each pair meets its fate. Whether there was one.
+    #[tactic(auto, using(crate::proofs::Coursing::going))]
+    fn meet_round(
+        &mut self,
+        course: &mut Course<'_>,
+        chances: &mut Chances,
+    ) -> Result<bool, AllocError>
+        ensures { GoesOn course.old course.new }
+    {
+        let mut any = false;
+        for place in 0..self.met.len() {
+            if self.meet_next(course, place, chances)? {
+                any = true;
+            }
+        }
+        Ok(any)
+    }
+
+    /// What is held back and due comes.
+    #[tactic(auto, using(crate::proofs::Coursing::going))]
+    fn release(&mut self, course: &mut Course<'_>) -> Result<(), AllocError>
+        ensures { GoesOn course.old course.new }
+    {
+        let now = course.world().now();
+        for _ in 0..self.late.len() {
+            let Some(late) = self.late.pop_front() else {
+                return Ok(());
+            };
+            if late.due <= now {
+                arrive(course, late.arrival)?;
+            } else {
+                let Ok(()) = self.late.push_back(late) else {
+                    return Err(AllocError);
+                };
+            }
+        }
+        Ok(())
+    }
+
+    /// What is due comes, and what is sent meets its fate, until nothing more is sent.
+    ///
+    /// # Errors
+    /// `AllocError` where memory is refused.
+    #[tactic(auto, using(crate::proofs::Coursing::going))]
+    pub(crate) fn exchange(
+        &mut self,
+        course: &mut Course<'_>,
+        chances: &mut Chances,
+    ) -> Result<(), AllocError>
+        ensures { GoesOn course.old course.new }
+    {
+        self.release(course)?;
+        for _ in 0..ROUNDS {
+            if !self.meet_round(course, chances)? {
+                return Ok(());
+            }
+        }
+        Ok(())
+    }
+
+    /// A packet that was sent comes once more, whichever it is. It isn't taken where it is too old.
+    ///
+    /// # Errors
+    /// `AllocError` where memory is refused.
+    #[tactic(auto, using(crate::proofs::Coursing::going))]
+    pub(crate) fn repeat(
+        &self,
+        course: &mut Course<'_>,
+        place: usize,
+        chances: &mut Chances,
+    ) -> Result<(), AllocError>
+        ensures { GoesOn course.old course.new }
+    {
+        let Some(met) = self.met.get(place) else {
+            return Ok(());
+        };
+        let back = chances.below(16) as usize;
+        let Some(arrival) = next_of(course.world(), place, met.saturating_sub(back)) else {
+            return Ok(());
+        };
+        arrive(course, arrival)
+    }
+}

@@ -1,0 +1,268 @@
+//! The turns of a run, in which all goes wrong that may.
+
+ghost use Rattle.std.specs.Prelude.{◌<◌, IfOk, map};
+ghost use Rattle.fw_script.specs.Seen.{device_of};
+ghost use Rattle.fw_script.specs.Whole.{AreWhole};
+ghost use Rattle.fw_soak.specs.Courses.{GoesOn, IsCourse};
+ghost use Rattle.fw_soak.specs.Setups.{setup_of};
+
+use crate::chances::Chances;
+use crate::course::Course;
+use crate::setup::Setup;
+use crate::traffic::Traffic;
+use fd_core::{FailBank, Verdict};
+use fw_edge::Roughness;
+use fw_message::awaits;
+use fw_world::{Missed, Step, World};
+use std::alloc::{AllocError, Global};
+use ua_core::SessionState;
+
+/// How many turns a run has at most: three images of the largest size take about 66,000.
+const TURNS: u32 = 80_000;
+
+/// A run has fewer upsets than this.
+const UPSETS: u32 = 8;
+
+/// How many powers of two there are from 16 to 2,048: so many turns pass between two upsets, on the average.
+const RARENESS: u32 = 8;
+
+/// How many turns pass until the operator starts an update again that the agent doesn't know any more, on the average.
+const PAUSE: u32 = 8;
+
+/// Among how many verdicts one is bad.
+const BAD: u32 = 16;
+
+/// What upsets a run.
+#[derive(Clone, Copy)]
+struct Upsets {
+    /// How many are left.
+    left: u32,
+    /// One turn among so many has one.
+    among: u32,
+}
+
+impl Upsets {
+    /// Those of a run, by chance.
+    fn new(chances: &mut Chances) -> Upsets {
+        Upsets {
+            left: chances.below(UPSETS),
+            among: 16 << chances.below(RARENESS),
+        }
+    }
+
+    /// Whether one comes now.
+    fn comes(&mut self, chances: &mut Chances) -> bool {
+        if self.left == 0 || self.among == 0 || !chances.one_in(self.among) {
+            return false;
+        }
+        self.left -= 1;
+        true
+    }
+}
+
+/// How the session with the device at a place stands.
+fn state_at(world: &World<'_, FailBank>, place: usize) -> Option<SessionState> {
+    let device = world.device_at(place)?.eid();
+    Some(world.agent().session(device)?.state())
+}
+
+/// Whether each session is Done or Failed.
+fn all_over(world: &World<'_, FailBank>) -> bool {
+    for place in 0..world.device_count() {
+        match state_at(world, place) {
+            None | Some(SessionState::Done | SessionState::Failed(_)) => {}
+            Some(_) => return false,
+        }
+    }
+    true
+}
+
+/// The operator starts the update of the device at a place with some package, if the session is free.
+#[tactic(auto, using(crate::proofs::Coursing::going))]
+fn start(
+    course: &mut Course<'_>,
+    place: usize,
+    packages: u32,
+    chances: &mut Chances,
+) -> Result<(), AllocError>
+    requires { 0 < packages }
+    ensures { GoesOn course.old course.new }
+{
+    let number = chances.below(packages) as usize + 1;
+    let Some(node) = course.world().device_at(place) else {
+        return Ok(());
+    };
+    let start = Step::Start(node.eid(), number);
+    course.take(start)?;
+    Ok(())
+}
+
+/// The operator starts the update of each device, each by one chance in so many.
+#[tactic(auto, using(crate::proofs::Coursing::going))]
+fn start_some(
+    course: &mut Course<'_>,
+    packages: u32,
+    times: u32,
+    chances: &mut Chances,
+) -> Result<(), AllocError>
+    requires some { 0 < packages }
+    requires times { 0 < times }
+    ensures { GoesOn course.old course.new }
+{
+    for place in 0..course.world().device_count() {
+        if chances.one_in(times) {
+            start(course, place, packages, chances)?;
+        }
+    }
+    Ok(())
+}
+
+/// The operator starts the updates of which the agent knows nothing any more, since it started anew, each by one chance in so many.
+#[tactic(auto, using(crate::proofs::Coursing::going))]
+fn start_idle(
+    course: &mut Course<'_>,
+    packages: u32,
+    chances: &mut Chances,
+) -> Result<(), AllocError>
+    requires { 0 < packages }
+    ensures { GoesOn course.old course.new }
+{
+    for place in 0..course.world().device_count() {
+        if state_at(course.world(), place) == Some(SessionState::Idle) && chances.one_in(PAUSE) {
+            start(course, place, packages, chances)?;
+        }
+    }
+    Ok(())
+}
+
+/// The verdict that the device at a place waits for: mostly that all is well.
+fn verdict_at(world: &World<'_, FailBank>, place: usize, chances: &mut Chances) -> Option<Step> {
+    let node = world.device_at(place)?;
+    let device = node.device();
+    let (good, bad) = if awaits(device, Verdict::VerifyOk) {
+        (Verdict::VerifyOk, Verdict::VerifyFail)
+    } else if awaits(device, Verdict::ApplyOk) {
+        (Verdict::ApplyOk, Verdict::ApplyFail)
+    } else {
+        return None;
+    };
+    let verdict = if chances.one_in(BAD) { bad } else { good };
+    Some(Step::Verdict(node.eid(), verdict))
+}
+
+/// The activation that the session with the device at a place waits for.
+fn activation_at(world: &World<'_, FailBank>, place: usize) -> Option<Step> {
+    match state_at(world, place)? {
+        SessionState::AllApplied => Some(Step::Activate(world.device_at(place)?.eid())),
+        _ => None,
+    }
+}
+
+/// Each device has the verdict that it waits for, and each session that waits for that has its device activate.
+#[tactic(auto, using(crate::proofs::Coursing::going))]
+fn attend(course: &mut Course<'_>, chances: &mut Chances) -> Result<(), AllocError>
+    ensures { GoesOn course.old course.new }
+{
+    for place in 0..course.world().device_count() {
+        if let Some(step) = verdict_at(course.world(), place, chances) {
+            course.take(step)?;
+        }
+        if let Some(step) = activation_at(course.world(), place) {
+            course.take(step)?;
+        }
+    }
+    Ok(())
+}
+
+/// The agent or a device starts anew, an update is cancelled, or a packet comes once more.
+#[tactic(auto, using(crate::proofs::Coursing::going))]
+fn upset(
+    course: &mut Course<'_>,
+    traffic: &Traffic,
+    chances: &mut Chances,
+) -> Result<(), AllocError>
+    ensures { GoesOn course.old course.new }
+{
+    let place = chances.below(16) as usize % course.world().device_count();
+    let Some(node) = course.world().device_at(place) else {
+        return Ok(());
+    };
+    let device = node.eid();
+    let step = match chances.below(4) {
+        0 => Step::Restart(course.world().agent().eid()),
+        1 => Step::Restart(device),
+        2 => Step::Cancel(device),
+        _ => return traffic.repeat(course, place, chances),
+    };
+    course.take(step)?;
+    Ok(())
+}
+
+/// A turn: a tick, packets, verdicts and activations; and by chance an upset.
+#[tactic(auto, using(crate::proofs::Coursing::going))]
+fn turn(
+    course: &mut Course<'_>,
+    traffic: &mut Traffic,
+    upsets: &mut Upsets,
+    chances: &mut Chances,
+) -> Result<(), AllocError>
+    ensures { GoesOn course.old course.new }
+{
+    course.take(Step::Tick(Missed::new()))?;
+    traffic.exchange(course, chances)?;
+    attend(course, chances)?;
+    if upsets.comes(chances) {
+        upset(course, traffic, chances)?;
+    }
+    Ok(())
+}
+
+/// Takes turns until each session is Done or Failed and the operator lets it be. Without a package there is nothing to do.
+#[tactic(auto, using(crate::proofs::Coursing::going))]
+fn take_turns(
+    course: &mut Course<'_>,
+    traffic: &mut Traffic,
+    packages: u32,
+    chances: &mut Chances,
+) -> Result<(), AllocError>
+    ensures { GoesOn course.old course.new }
+{
+    if packages == 0 {
+        return Ok(());
+    }
+    let mut upsets = Upsets::new(chances);
+    start_some(course, packages, 1, chances)?;
+    for _ in 0..TURNS {
+        if all_over(course.world()) {
+            if chances.one_in(2) {
+                return Ok(());
+            }
+            start_some(course, packages, 2, chances)?;
+        }
+        start_idle(course, packages, chances)?;
+        turn(course, traffic, &mut upsets, chances)?;
+    }
+    Ok(())
+}
+
+/// A run of a setup over links that are so rough: its seed and its number say all its chances.
+///
+/// # Errors
+/// `AllocError` where memory is refused.
+#[tactic(auto, using(crate::proofs::Coursing::goes_from))]
+pub(crate) fn run<'a>(
+    alloc: Global,
+    setup: &Setup<'a>,
+    roughness: Roughness,
+    number: u32,
+) -> Result<Course<'a>, AllocError>
+    requires { AreWhole setup.now.agent.eid (map device_of setup.now.devices.now) }
+    ensures { IfOk result (IsCourse (setup_of setup.now)) }
+{
+    let mut chances = Chances::new(roughness.seed, u64::from(number));
+    let mut course = Course::begin(alloc, setup, &mut chances)?;
+    let mut traffic = Traffic::new(alloc, roughness, setup.devices.len())?;
+    let packages = setup.packages.len().min(255) as u32;
+    take_turns(&mut course, &mut traffic, packages, &mut chances)?;
+    Ok(course)
+}

@@ -1,0 +1,153 @@
+//! Many rough runs of the devices of a configuration.
+
+ghost use Rattle.std.specs.Prelude.{◌≡◌, ◌⊎◌, IfErr, None, OnErr, OnOk, Some, option_map, true};
+ghost use Rattle.fw_script.specs.ScheduleTexts.{schedule_text};
+ghost use Rattle.fwupd_jobs.specs.Soaked.{IsJudged, SoakEnds, SoaksClean};
+
+use crate::faults::RunFault;
+use crate::files::{Files, is_read};
+use crate::numbering::is_numbered;
+use crate::output::Output;
+use crate::places::Places;
+use crate::setups::{configuration, package_files, packages_in};
+use fw_script::{Config, write_schedule};
+use fw_soak::{Onlooker, Setup, Soaked, soak, summary_text};
+use fw_world::Step;
+use fwupd_base::write_whole;
+use fwupd_words::SoakOrder;
+use std::alloc::Global;
+use std::io::Write;
+
+/// The fault of a recording, where a file isn't made.
+fn unrecorded(fault: RunFault) -> RunFault
+    ensures { (result ≡ RunFault.Memory) ⊎ (result ≡ RunFault.Record) }
+{
+    match fault {
+        RunFault::Memory => RunFault::Memory,
+        _ => RunFault::Record,
+    }
+}
+
+/// Puts the schedule of these steps into the file of a path, whole.
+///
+/// # Errors
+/// `Record` where it isn't written, and `Memory`. The file is as it was then.
+fn keep<W: Write + Drop, P: Places<W>>(
+    alloc: Global,
+    steps: &[Step],
+    path: &str,
+    places: &mut P,
+) -> Result<(), RunFault>
+    ensures ok { OnOk result (P.is_known places.old ≡ true → P.held places.new path.now ≡ Some (schedule_text steps.now)) }
+    ensures kept { OnErr result (P.held places.new ≡ P.held places.old) }
+    ensures fault { IfErr result (λ e. (e ≡ RunFault.Memory) ⊎ (e ≡ RunFault.Record)) }
+{
+    let Ok(text) = write_schedule(alloc, steps) else {
+        return Err(RunFault::Memory);
+    };
+    let mut beside = match places.begin(path) {
+        Ok(beside) => beside,
+        Err(fault) => return Err(unrecorded(fault)),
+    };
+    match write_whole(&mut beside, &text) {
+        Ok(()) => {}
+        Err(_) => {
+            places.discard(path);
+            return Err(RunFault::Record);
+        }
+    }
+    match places.publish(path, beside) {
+        Ok(()) => Ok(()),
+        Err(fault) => Err(unrecorded(fault)),
+    }
+}
+
+/// What is told of a soak: nothing, or that a run went wrong, whose steps are kept where that is asked for.
+///
+/// # Errors
+/// `Violation`; `Record` or `Memory` where the steps aren't kept.
+fn judge<W: Write + Drop, P: Places<W>>(
+    alloc: Global,
+    kept: Option<Vec<Step>>,
+    file: Option<&str>,
+    places: &mut P,
+) -> Result<(), RunFault>
+    ensures ok { OnOk result (option_map (λ k. k.items) kept.entry ≡ None) }
+    ensures fault { IfErr result (λ e. IsJudged (option_map (λ k. k.items) kept.entry) (option_map (λ p. p.now) file.entry) e (P.is_known places.old) (P.held places.new)) }
+{
+    let Some(steps) = kept else {
+        return Ok(());
+    };
+    if let Some(path) = file {
+        match keep(alloc, steps.as_slice(), path, places) {
+            Ok(()) => {}
+            Err(fault) => return Err(fault),
+        }
+    }
+    Err(RunFault::Violation)
+}
+
+/// Makes many rough runs of the devices of the configuration in a file with its packages, writes what is said of them, and keeps the
+/// steps of the first that goes wrong in a file, as a schedule, where that is asked for.
+///
+/// # Errors
+/// The first fault, in this order: of the configuration's file; `NoPackage` where it names none; of the packages that it names, one
+/// after the other; `Record` where the steps would be written over one of these files; `Memory`, nothing is written then. `Output`
+/// where what is said isn't written whole. `Record` or `Memory` where the steps aren't kept, and else `Violation` where a run went wrong.
+pub fn soak_file<F: Files, V: Onlooker, B: Write + Drop, P: Places<B>, W: Write + Drop>(
+    alloc: Global,
+    files: &F,
+    config: &str,
+    order: SoakOrder,
+    file: Option<&str>,
+    onlooker: &mut V,
+    places: &mut P,
+    output: &mut Output<W>,
+) -> Result<(), RunFault>
+    ensures ok { OnOk result (SoaksClean (F.holds files.now) config.now order output.old output.new) }
+    ensures fault { IfErr result (λ e. SoakEnds (F.holds files.now) config.now order (option_map (λ p. p.now) file.entry) e (P.is_known places.old) (P.held places.new) output.old output.new) }
+{
+    let Config {
+        agent,
+        unit,
+        devices,
+        packages: paths,
+    } = match configuration(alloc, files, config) {
+        Ok(config) => config,
+        Err(fault) => return Err(fault),
+    };
+    if !is_numbered(paths.len(), 1) {
+        return Err(RunFault::NoPackage);
+    }
+    let contents = match package_files(alloc, files, paths.as_slice()) {
+        Ok(contents) => contents,
+        Err(fault) => return Err(fault),
+    };
+    let packages = match packages_in(alloc, contents.as_slice()) {
+        Ok(packages) => packages,
+        Err(fault) => return Err(fault),
+    };
+    if let Some(path) = file {
+        if is_read(files, path, config, paths.as_slice()) {
+            return Err(RunFault::Record);
+        }
+    }
+    let setup = Setup {
+        agent,
+        unit,
+        devices: devices.as_slice(),
+        packages: packages.as_slice(),
+    };
+    let Ok(Soaked { summary, kept }) = soak(alloc, &setup, order.roughness, order.runs, onlooker)
+    else {
+        return Err(RunFault::Memory);
+    };
+    let Ok(text) = summary_text(alloc, &summary) else {
+        return Err(RunFault::Memory);
+    };
+    match output.write(&text) {
+        Ok(()) => {}
+        Err(fault) => return Err(fault),
+    }
+    judge(alloc, kept, file, places)
+}

@@ -1,0 +1,5 @@
+//! Tests of soaks and of their checker.
+#![tactic(auto)]
+
+#[cfg(test)]
+mod tests;

@@ -1,0 +1,173 @@
+//! Histories, and whether the checker finds them right.
+
+use fd_core::Key;
+use fw_message::{Entry, Event, Image};
+use fw_package::Package;
+use fw_script::{Config, read_config};
+use fw_soak::is_right_history;
+use std::alloc::{AllocError, Global};
+use std::test::Fail;
+use ua_core::Recorded;
+
+/// The header of the worked package: one record of the descriptor 0000 with data 34 12, set text `A`, and component (10, 1)
+/// with stamp 2, options 0002, text `v2` and 241 bytes.
+const ONE: &[u8] = &[
+    0xF0, 0x18, 0x87, 0x8C, 0xCB, 0x7D, 0x49, 0x43, 0x98, 0, 0xA0, 0x2F, 0x05, 0x9A, 0xCA, 0x02,
+    0x01, 0x56, 0, 0, 0, 0, 0, 0, 0, 0, 0, 0, 0, 0, 0, 0, 0x08, 0, 0x01, 0, 0x01, 0x13, 0, 0x01, 0,
+    0, 0, 0, 0x01, 0x01, 0, 0, 0x01, 0x41, 0, 0, 0x02, 0, 0x34, 0x12, 0x01, 0, 0x0A, 0, 0x01, 0,
+    0x02, 0, 0, 0, 0x02, 0, 0, 0, 0x56, 0, 0, 0, 0xF1, 0, 0, 0, 0x01, 0x02, 0x76, 0x32, 0xFE, 0x65,
+    0x62, 0x75,
+];
+
+/// The worked device 9, and a device 10 for which the package names nothing.
+const CONFIG: &[u8] = b"agent 8 00000000-0000-0000-0000-000000000000\n\
+    device 9 00000000-0000-0000-0000-000000000000\n\
+    descriptor 0000 3412\n\
+    component 10 1 0 1 1.0 AA\n\
+    device 10 00000000-0000-0000-0000-000000000000\n\
+    descriptor 0000 3413\n\
+    component 10 1 0 1 1.0 AA\n";
+
+/// What is done to the package's image, whose byte i is i.
+#[derive(Clone, Copy)]
+enum Bytes {
+    /// Nothing.
+    Own,
+    /// The last byte is another.
+    Other,
+    /// A byte follows.
+    Padded,
+    /// The last byte is left out.
+    Short,
+}
+
+/// What happens to a device.
+#[derive(Clone, Copy)]
+enum Happens {
+    /// It applies this for the component (10, N).
+    Applies(u16, Bytes),
+    /// The agent records the component of this number of the package of this number.
+    Records(usize, usize),
+    /// It activates this for the component (10, N).
+    Activates(u16, Bytes),
+}
+
+/// The file of the worked package, whose configuration this is.
+pub fn package_file(alloc: Global) -> Result<Vec<u8>, AllocError> {
+    let mut file = Vec::new(alloc);
+    file.extend_from_slice(ONE)?;
+    for byte in 0..=240 {
+        file.push(byte)?;
+    }
+    Ok(file)
+}
+
+/// The worked devices.
+pub fn worked(alloc: Global) -> Option<Config> {
+    match read_config(alloc, CONFIG) {
+        Ok(config) => Some(config),
+        Err(_) => None,
+    }
+}
+
+/// An image for the component (10, N).
+fn image(alloc: Global, identifier: u16, bytes: Bytes) -> Result<Image, AllocError> {
+    let mut image = Vec::new(alloc);
+    for byte in 0..=239 {
+        image.push(byte)?;
+    }
+    match bytes {
+        Bytes::Own => image.push(240)?,
+        Bytes::Other => image.push(241)?,
+        Bytes::Padded => image.extend_from_slice(&[240, 0])?,
+        Bytes::Short => {}
+    }
+    Ok(Image {
+        key: Key {
+            classification: 10,
+            identifier,
+        },
+        bytes: image,
+    })
+}
+
+/// These things as entries of a history, each of a device.
+fn entries(alloc: Global, things: &[(u8, Happens)]) -> Result<Vec<Entry>, AllocError> {
+    let mut entries = Vec::new(alloc);
+    for (device, thing) in things {
+        let event = match *thing {
+            Happens::Applies(identifier, bytes) => Event::Applied(image(alloc, identifier, bytes)?),
+            Happens::Records(package, component) => Event::Recorded(Recorded {
+                package,
+                component,
+            }),
+            Happens::Activates(identifier, bytes) => {
+                Event::Activated(image(alloc, identifier, bytes)?)
+            }
+        };
+        entries.push(Entry {
+            device: *device,
+            event,
+        })?;
+    }
+    Ok(entries)
+}
+
+/// Whether the checker finds these things right.
+fn are_right(alloc: Global, things: &[(u8, Happens)]) -> Option<bool> {
+    let config = worked(alloc)?;
+    let Ok(file) = package_file(alloc) else {
+        return None;
+    };
+    let Ok(package) = Package::read(&file) else {
+        return None;
+    };
+    let Ok(history) = entries(alloc, things) else {
+        return None;
+    };
+    match is_right_history(
+        alloc,
+        &[package],
+        config.devices.as_slice(),
+        history.as_slice(),
+    ) {
+        Ok(right) => Some(right),
+        Err(_) => None,
+    }
+}
+
+#[test]
+fn judges_histories(rt: HostRuntime) {
+    let alloc = rt.alloc();
+    let applied = (9, Happens::Applies(1, Bytes::Own));
+    let recorded = (9, Happens::Records(1, 0));
+    let activated = (9, Happens::Activates(1, Bytes::Own));
+    assert!(rt; are_right(alloc, &[]) == Some(true));
+    assert!(rt; are_right(alloc, &[applied, recorded, activated]) == Some(true));
+    assert!(rt; are_right(alloc, &[applied, recorded, activated, applied, recorded]) == Some(true));
+    // What a device applies is its own affair until it is recorded or activated.
+    assert!(rt; are_right(alloc, &[(9, Happens::Applies(1, Bytes::Other))]) == Some(true));
+    // Other bytes, also such that begin alike.
+    for bytes in [Bytes::Other, Bytes::Padded, Bytes::Short] {
+        assert!(rt; are_right(alloc, &[(9, Happens::Activates(1, bytes))]) == Some(false));
+        assert!(rt; are_right(alloc, &[(9, Happens::Applies(1, bytes)), recorded]) == Some(false));
+    }
+    // A record without its application, before it, or with another device's or component's.
+    assert!(rt; are_right(alloc, &[recorded]) == Some(false));
+    assert!(rt; are_right(alloc, &[recorded, applied]) == Some(false));
+    assert!(rt;
+        are_right(alloc, &[(10, Happens::Applies(1, Bytes::Own)), recorded]) == Some(false)
+    );
+    assert!(rt; are_right(alloc, &[(9, Happens::Applies(2, Bytes::Own)), recorded]) == Some(false));
+    // A record of a component or a package that isn't there.
+    assert!(rt; are_right(alloc, &[applied, (9, Happens::Records(1, 1))]) == Some(false));
+    assert!(rt; are_right(alloc, &[applied, (9, Happens::Records(2, 0))]) == Some(false));
+    assert!(rt; are_right(alloc, &[applied, (9, Happens::Records(0, 0))]) == Some(false));
+    // An image that is another component's, and one that the package names for another device, or for none.
+    assert!(rt; are_right(alloc, &[(9, Happens::Activates(2, Bytes::Own))]) == Some(false));
+    assert!(rt; are_right(alloc, &[(10, Happens::Activates(1, Bytes::Own))]) == Some(false));
+    assert!(rt; are_right(alloc, &[(11, Happens::Activates(1, Bytes::Own))]) == Some(false));
+    assert!(rt;
+        are_right(alloc, &[activated, (10, Happens::Activates(1, Bytes::Own))]) == Some(false)
+    );
+}

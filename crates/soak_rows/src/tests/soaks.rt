@@ -1,0 +1,82 @@
+//! Soaks of the worked devices.
+
+use crate::tests::histories::{package_file, worked};
+use fw_edge::Roughness;
+use fw_package::Package;
+use fw_soak::{Onlooker, Setup, Soaked, Summary, soak, summary_text};
+use std::alloc::Global;
+use std::test::Fail;
+
+/// Counts how often it sees something, and what it saw last.
+#[derive(Drop)]
+struct Counting {
+    seen: u64,
+    last: u64,
+}
+
+impl Onlooker for Counting {
+    fn see(&mut self, summary: &Summary) {
+        self.seen = self.seen.saturating_add(1);
+        self.last = summary.runs;
+    }
+}
+
+/// So many runs by a seed.
+fn soaked(alloc: Global, seed: u64, runs: u32, onlooker: &mut Counting) -> Option<Soaked> {
+    let config = worked(alloc)?;
+    let Ok(file) = package_file(alloc) else {
+        return None;
+    };
+    let Ok(package) = Package::read(&file) else {
+        return None;
+    };
+    let packages = [package];
+    let setup = Setup {
+        agent: config.agent,
+        unit: config.unit,
+        devices: config.devices.as_slice(),
+        packages: packages.as_slice(),
+    };
+    let roughness = Roughness {
+        loss: 20,
+        duplicate: 10,
+        delay: 3,
+        seed,
+    };
+    match soak(alloc, &setup, roughness, runs, onlooker) {
+        Ok(soaked) => Some(soaked),
+        Err(_) => None,
+    }
+}
+
+#[test]
+fn soaks_the_worked_devices(rt: HostRuntime) {
+    let alloc = rt.alloc();
+    let mut onlooker = Counting { seen: 0, last: 0 };
+    let Some(first) = soaked(alloc, 7, 3, &mut onlooker) else {
+        return;
+    };
+    assert!(rt; (onlooker.seen, onlooker.last) == (3, 3));
+    assert!(rt; (first.summary.runs, first.summary.violations) == (3, 0));
+    assert!(rt; first.kept.is_none());
+    let Some(again) = soaked(alloc, 7, 3, &mut onlooker) else {
+        return;
+    };
+    assert!(rt; again.summary == first.summary);
+}
+
+#[test]
+fn tells_a_summary(rt: HostRuntime) {
+    let summary = Summary {
+        runs: 1,
+        activations: 20,
+        losses: 300,
+        restarts: 4,
+        longest: 50,
+        violations: 6,
+    };
+    if let Ok(text) = summary_text(rt.alloc(), &summary) {
+        let want = b"runs 1\nactivations 20\nlosses 300\nrestarts 4\nlongest 50\nviolations 6\n";
+        assert!(rt; text.as_slice() == want.as_slice());
+    }
+}
