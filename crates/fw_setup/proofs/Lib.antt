@@ -1,3 +1,3 @@
 mod Leading
-pub mod Making
+mod Making
 mod Rooms

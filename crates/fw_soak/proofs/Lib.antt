@@ -1,6 +1,5 @@
 mod Checked
 mod Counting
 mod Coursing
-mod Opening
 mod Sole
 mod Summing

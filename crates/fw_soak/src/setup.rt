@@ -1,25 +1,18 @@
 //! What runs begin with.
 
-ghost use Rattle.std.specs.Prelude.{◌≡◌, ◌≤◌, [], IfOk, length, map};
-ghost use Rattle.std.specs.List.{AllByRecursion};
-ghost use Rattle.fd_core.specs.Banks.{AreApart};
-ghost use Rattle.fd_core.specs.Components.{HasComponents};
-ghost use Rattle.fd_core.specs.Images.{key_of};
-ghost use Rattle.fw_script.specs.Seen.{component_of, device_of};
-ghost use Rattle.fw_script.specs.Whole.{AreNew, AreWhole, IsDevice, keys_of};
-ghost use Rattle.fw_world.specs.Headline.{AreNewNodes, IsNewNode, IsOpeningWorld};
-ghost use Rattle.fw_setup.specs.Nodes.{device_made, node_made, nodes_made, row_made};
+ghost use Rattle.std.specs.Prelude.{◌≡◌, IfOk, map};
+ghost use Rattle.fw_script.specs.Seen.{device_of};
+ghost use Rattle.fw_script.specs.Whole.{AreWhole};
+ghost use Rattle.fw_world.specs.Headline.{IsOpeningWorld};
 ghost use Rattle.fw_soak.specs.Courses.{opening_of};
 ghost use Rattle.fw_soak.specs.Setups.{setup_of};
 
 use crate::chances::Chances;
-use arrayvec::ArrayVec;
-use fd_core::{Component, Device, FailBank, MAX_COMPONENTS, MemBank};
-use fw_node::DeviceNode;
+use fd_core::FailBank;
 use fw_package::Package;
 use fw_script::{ComponentConfig, DeviceConfig};
+use fw_setup::{Banks, BanksFault, mem_bank, opening_world_over};
 use fw_world::World;
-use fwup_wire::DescriptorList;
 use mctp_ctl::Endpoint;
 use mctp_wire::Unit;
 use std::alloc::{AllocError, Global};
@@ -37,111 +30,27 @@ pub struct Setup<'a> {
     pub packages: &'a [Package<'a>],
 }
 
-/// A bank of these components, each with the image that runs.
-fn bank(alloc: Global, components: &[ComponentConfig]) -> Result<MemBank, AllocError>
-    requires { AreNew [] (keys_of (map component_of components.now)) }
-    ensures rows { IfOk result (λ b. b.rows ≡ map row_made (map component_of components.now)) }
-    ensures apart { IfOk result (λ b. AreApart (map key_of b.rows)) }
-{
-    let mut bank = MemBank::new(alloc);
-    for config in components {
-        let Ok(()) = bank.add(config.component.key, &config.label, &config.image) else {
-            return Err(AllocError);
+/// Of the calls of each bank one fails by chance, or none.
+impl Banks<FailBank> for Chances {
+    fn make(
+        &mut self,
+        alloc: Global,
+        _device: u8,
+        components: &[ComponentConfig],
+    ) -> Result<FailBank, BanksFault> {
+        let Ok(bank) = mem_bank(alloc, components) else {
+            return Err(BanksFault::Memory);
         };
+        let calls = 1 << self.below(10);
+        let failing = u64::from(self.below(calls));
+        Ok(FailBank::new(bank, failing))
     }
-    Ok(bank)
-}
-
-/// The list of these components.
-fn component_list(components: &[ComponentConfig]) -> ArrayVec<Component, MAX_COMPONENTS>
-    requires { length components.now ≤ 3 }
-    ensures { result.items ≡ map (λ c. c.component) (map component_of components.now) }
-{
-    let mut list = ArrayVec::new();
-    for config in components {
-        list.push(config.component);
-    }
-    list
-}
-
-/// The same descriptors.
-fn same_descriptors(descriptors: &DescriptorList) -> DescriptorList
-    ensures { result ≡ descriptors.now }
-{
-    let _room = descriptors.room();
-    let mut same = DescriptorList::new();
-    for descriptor in descriptors.lent() {
-        same.push(&descriptor);
-    }
-    same
-}
-
-/// A device as it is configured, in a network with this transmission unit, before its first command. Of the calls of its bank one
-/// fails by chance, or none.
-#[tactic(auto, using(fw_setup::proofs::Making::keys_made))]
-fn device(
-    alloc: Global,
-    unit: Unit,
-    config: &DeviceConfig,
-    chances: &mut Chances,
-) -> Result<Device<FailBank>, AllocError>
-    requires { IsDevice (device_of config.now) }
-    ensures is { IfOk result (λ d. d ≡ device_made unit (device_of config.now)) }
-    ensures components { IfOk result (λ d. HasComponents d.device) }
-{
-    let components = component_list(config.components.as_slice());
-    let bank = bank(alloc, config.components.as_slice())?;
-    let calls = 1 << chances.below(10);
-    let failing = u64::from(chances.below(calls));
-    let descriptors = same_descriptors(&config.descriptors);
-    Ok(Device::new(unit, descriptors, components, FailBank::new(bank, failing)))
-}
-
-/// The node of a device as it is configured, before its first packet.
-#[tactic(auto, using(fw_setup::proofs::Making::new_made))]
-fn node(
-    alloc: Global,
-    unit: Unit,
-    agent: u8,
-    config: &DeviceConfig,
-    chances: &mut Chances,
-) -> Result<DeviceNode<FailBank>, AllocError>
-    requires { IsDevice (device_of config.now) }
-    ensures is { IfOk result (λ n. n ≡ node_made unit agent (device_of config.now)) }
-    ensures new { IfOk result (IsNewNode unit agent) }
-{
-    let device = device(alloc, unit, config, chances)?;
-    Ok(DeviceNode::new(config.endpoint, agent, device))
-}
-
-/// The nodes of these devices, in their order.
-#[tactic(auto, using(crate::proofs::Opening::device_at))]
-fn node_all(
-    alloc: Global,
-    unit: Unit,
-    agent: u8,
-    devices: &[DeviceConfig],
-    chances: &mut Chances,
-) -> Result<Vec<DeviceNode<FailBank>>, AllocError>
-    requires { AllByRecursion IsDevice (map device_of devices.now) }
-    ensures is { IfOk result (λ ns. ns.items ≡ nodes_made unit agent (map device_of devices.now)) }
-    ensures new { IfOk result (λ ns. AllByRecursion (IsNewNode unit agent) ns.items) }
-{
-    let mut nodes = Vec::new(alloc);
-    for config in devices {
-        let node = node(alloc, unit, agent, config, chances)?;
-        let Ok(()) = nodes.push(node) else {
-            return Err(AllocError);
-        };
-    }
-    Ok(nodes)
 }
 
 /// The world before the first step of a run. Of the calls of each device's bank one fails by chance, or none.
 ///
 /// # Errors
 /// `AllocError` where memory for it is refused.
-#[tactic(auto, using(fw_setup::proofs::Making::nodes_new))]
 pub(crate) fn opening<'a>(
     alloc: Global,
     setup: &Setup<'a>,
@@ -151,7 +60,15 @@ pub(crate) fn opening<'a>(
     ensures made { IfOk result (λ w. w ≡ opening_of (setup_of setup.now)) }
     ensures opens { IfOk result (λ w. IsOpeningWorld w) }
 {
-    let agent = setup.agent.eid;
-    let nodes = node_all(alloc, setup.unit, agent, setup.devices, chances)?;
-    World::new(alloc, setup.agent, nodes, setup.packages)
+    match opening_world_over(
+        alloc,
+        setup.unit,
+        setup.agent,
+        setup.devices,
+        setup.packages,
+        chances,
+    ) {
+        Ok(world) => Ok(world),
+        Err(_) => Err(AllocError),
+    }
 }

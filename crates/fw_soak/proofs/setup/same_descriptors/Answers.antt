@@ -1,9 +1,0 @@
-use Rattle.std.proofs.Common.{◌++◌, ◌∙◌, ap, arith, sym}
-use Rattle.fwup_wire.specs.Lent.{descriptor_of}
-use Rattle.fw_soak.proofs.Opening.{room_left}
-use Rattle.fw_soak.proofs.setup.same_descriptors.Goals as goal
-
-pub push-requires : goal.push-requires
-push-requires c =
-    room_left c.loop-descriptor.same (descriptor_of c.in-Some.descriptor) c.next.new.self c.args.descriptors.now
-    (ap (λ xs. c.loop-descriptor.same ++ xs) (sym c.in-Some.ensures.steps) ∙ c.loop-descriptor.invariant.2) (let all = c.room-room.ensures in omega arith)
