@@ -1,9 +1,14 @@
 //! What helps to find why a job failed, beneath the line that says so. It is said on a terminal alone.
 
+ghost use Rattle.std.specs.Prelude.{◌≡◌, IfOk, IfSome, length};
+ghost use Rattle.fw_script.specs.Schedules.{script_of};
+
 use crate::faults::RunFault;
 use crate::files::SystemFiles;
 use fw_package::Package;
+use fw_script::{ScriptCause, read_schedule};
 use fwupd_words::Job;
+use std::alloc::Global;
 use std::io::{self, IsTerminal};
 use std::str;
 
@@ -44,14 +49,14 @@ fn explain_package(rt: &HostRuntime, config: &str) {
     }
 }
 
-/// How many steps a line of a schedule says.
-fn steps_of(line: &str) -> u64 {
-    if line.is_empty() || line.starts_with('#') {
-        return 0;
-    }
-    match line.strip_prefix("tick ") {
-        Some(count) => count.parse::<u64>().unwrap_or(1),
-        None => 1,
+/// How many steps a line of a schedule says, where there is memory to read it.
+fn steps_of(alloc: Global, line: &str) -> Option<usize>
+    ensures { IfSome result (λ count. IfOk (script_of line.now) (λ steps. count ≡ length steps)) }
+{
+    match read_schedule(alloc, line.as_bytes()) {
+        Ok(steps) => Some(steps.len()),
+        Err(fault) if fault.cause == ScriptCause::Memory => None,
+        Err(_) => Some(0),
     }
 }
 
@@ -64,11 +69,14 @@ fn explain_step(rt: &HostRuntime, schedule: &str, step: usize) {
         return;
     };
     let mut number = 0u64;
-    let mut steps = 0u64;
+    let mut steps = 0usize;
     for line in text.split('\n') {
+        let Some(count) = steps_of(rt.alloc(), line) else {
+            return;
+        };
         number = number.saturating_add(1);
-        steps = steps.saturating_add(steps_of(line));
-        if steps >= step as u64 {
+        steps = steps.saturating_add(count);
+        if steps >= step {
             let _ = eprintln!(rt; "{schedule}: line {number}: {line}");
             return;
         }
