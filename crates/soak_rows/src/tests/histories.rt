@@ -1,5 +1,9 @@
 //! Histories, and whether the checker finds them right.
 
+ghost use Rattle.std.specs.Prelude.{IfSome, map};
+ghost use Rattle.fw_script.specs.Seen.{device_of};
+ghost use Rattle.fw_script.specs.Whole.{AreWhole};
+
 use fd_core::Key;
 use fw_message::{Entry, Event, Image};
 use fw_package::Package;
@@ -63,7 +67,9 @@ pub fn package_file(alloc: Global) -> Result<Vec<u8>, AllocError> {
 }
 
 /// The worked devices.
-pub fn worked(alloc: Global) -> Option<Config> {
+pub fn worked(alloc: Global) -> Option<Config>
+    ensures { IfSome result (λ c. AreWhole c.agent.eid (map device_of c.devices.items)) }
+{
     match read_config(alloc, CONFIG) {
         Ok(config) => Some(config),
         Err(_) => None,
