@@ -60,7 +60,7 @@ fn open(alloc: Global, folder: TestFolder) -> Result<FolderStore<TestFolder>, Op
 }
 
 /// Keeps these bytes of both components.
-fn keep(store: &mut FolderStore<TestFolder>, first: &[u8], second: &[u8]) -> bool {
+fn keep<'a>(store: &mut FolderStore<TestFolder>, first: &'a [u8], second: &'a [u8]) -> bool {
     let label = label(2, 1, b"b");
     let images = [
         Kept {
@@ -79,7 +79,10 @@ fn keep(store: &mut FolderStore<TestFolder>, first: &[u8], second: &[u8]) -> boo
 
 /// Whether one failing call leaves what was kept before or what is kept after, and what is kept after where no failure is told.
 fn lasts(alloc: Global, call: u32, failing: Failing) -> Result<bool, Fail> {
-    let mut store = open(alloc, TestFolder::new(alloc, call.saturating_add(4), failing))?;
+    let mut store = open(
+        alloc,
+        TestFolder::new(alloc, call.saturating_add(4), failing),
+    )?;
     let begun = keep(&mut store, &[1], &[2, 2]);
     let kept = keep(&mut store, &[3, 3, 3], &[4, 4, 4, 4]);
     let after = are(store.images(), &[3, 3, 3], &[4, 4, 4, 4]);
