@@ -41,6 +41,7 @@ unsaid_so read path text file fault faults.LogSize h held is = absurd h
 unsaid_so read path text file fault faults.Record h held is = absurd h
 unsaid_so read path text file fault (faults.Edge f) h held is = absurd h
 unsaid_so read path text file fault (faults.Session device word) h held is = absurd h
+unsaid_so read path text file fault faults.Violation h held is = absurd h
 unsaid_so read path text file fault faults.Output h held is = absurd h
 unsaid_so read path text file fault faults.Memory h held is = absurd h
 

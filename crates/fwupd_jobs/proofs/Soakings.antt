@@ -1,5 +1,5 @@
 -- A soak of the devices of a configuration, and how it ends.
-use Rattle.std.proofs.Common.{◌≡◌, ◌∙◌, ◌⊎◌, ℕ, Bool, List, Ok, Option, None, Some, absurd, ap, inl, inr, map, subst, sym, Vec, String, Global}
+use Rattle.std.proofs.Common.{◌≡◌, ◌∙◌, ◌⊎◌, ℕ, Bool, List, Ok, Option, None, Some, ap, inl, inr, map, subst, sym, Vec, String, Global}
 use Rattle.std.specs.Prelude.{string_bytes}
 use Rattle.fw_package.specs.Package.{PackageText}
 use Rattle.fw_package.specs.Reading.{package_of}

@@ -72,8 +72,8 @@ fn judge<W: Write + Drop, P: Places<W>>(
     file: Option<&str>,
     places: &mut P,
 ) -> Result<(), RunFault>
-    ensures ok { OnOk result (option_map (λ k. k.items) kept.entry ≡ None) }
-    ensures fault { IfErr result (λ e. IsJudged (option_map (λ k. k.items) kept.entry) (option_map (λ p. p.now) file.entry) e (P.is_known places.old) (P.held places.new)) }
+    ensures ok { OnOk result (option_map (λ k. k.items) kept ≡ None) }
+    ensures fault { IfErr result (λ e. IsJudged (option_map (λ k. k.items) kept) (option_map (λ p. p.now) file.entry) e (P.is_known places.old) (P.held places.new)) }
 {
     let Some(steps) = kept else {
         return Ok(());

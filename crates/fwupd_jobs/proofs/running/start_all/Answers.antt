@@ -4,7 +4,7 @@ use Rattle.fwupd_jobs.proofs.Started.{begun_by, begun_seen, listed_by}
 use Rattle.fwupd_jobs.proofs.running.start_all.Goals as goal
 
 pub loop-place-preserved : goal.loop-place-preserved
-loop-place-preserved c = record {
+loop-place-preserved g c = record {
   begun =
       begun_by c.args.number c.args.world.now c.loop-place.world c.step.new.self c.loop-place.place c.eid.result c.in-Some.node.now c.loop-place.invariant.begun
       (sym (rw c.in-Some.is at c.device_at.ensures)) c.eid.ensures.eid c.in-Ok-step.ensures.taken;
@@ -14,17 +14,17 @@ loop-place-preserved c = record {
 }
 
 pub returns-in_default-reserve-clause-unseen_steps : goal.returns-in_default-reserve-clause-unseen_steps
-returns-in_default-reserve-clause-unseen_steps c = begun_seen c.args.number c.args.world.now c.loop-place.world c.loop-place.place c.loop-place.invariant.begun
+returns-in_default-reserve-clause-unseen_steps g c = begun_seen c.args.number c.args.world.now c.loop-place.world c.loop-place.place c.loop-place.invariant.begun
 
 pub returns-in-Err-Memory-clause-unseen_steps : goal.returns-in-Err-Memory-clause-unseen_steps
-returns-in-Err-Memory-clause-unseen_steps c =
+returns-in-Err-Memory-clause-unseen_steps g c =
     subst (λ x. StepsSeen c.args.number c.args.world.now x 0) (sym c.in-Err-Memory.ensures.same)
     (begun_seen c.args.number c.args.world.now c.loop-place.world c.loop-place.place c.loop-place.invariant.begun)
 
 pub returns-in-Err-clause-unseen_steps : goal.returns-in-Err-clause-unseen_steps
-returns-in-Err-clause-unseen_steps c =
+returns-in-Err-clause-unseen_steps g c =
     subst (λ x. StepsSeen c.args.number c.args.world.now x 0) (sym c.in-Err.ensures.same)
     (begun_seen c.args.number c.args.world.now c.loop-place.world c.loop-place.place c.loop-place.invariant.begun)
 
 pub returns-clause-unseen_steps : goal.returns-clause-unseen_steps
-returns-clause-unseen_steps c = begun_seen c.args.number c.args.world.now c.loop-place.world c.loop-place.place c.loop-place.invariant.begun
+returns-clause-unseen_steps g c = begun_seen c.args.number c.args.world.now c.loop-place.world c.loop-place.place c.loop-place.invariant.begun

@@ -5,7 +5,7 @@ use Rattle.fwupd_jobs.proofs.running.start_all.Given as goal
 
 -- so many updates are started, and listed
 abbrev pub invariant-loop-place : goal.invariant-loop-place
-invariant-loop-place l = record {
+invariant-loop-place g l = record {
   begun : Begun l.number l.fn.world l.place l.world;
   listed : l.steps.items ≡ starts_of l.number (take l.place l.fn.world.sites);
 }

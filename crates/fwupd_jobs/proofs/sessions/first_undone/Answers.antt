@@ -6,7 +6,7 @@ use Rattle.fwupd_jobs.proofs.Ended.{undone_here, undone_next}
 use Rattle.fwupd_jobs.proofs.sessions.first_undone.Goals as goal
 
 pub returns-then-not-is_done : goal.returns-then-not-is_done
-returns-then-not-is_done c =
+returns-then-not-is_done g c =
     let state : c.session_of-state.result ≡ session_of c.args.world.now.agent c.eid-eid.result =
     c.session_of-state.ensures ∙ ap (λ (a : AgentOf). session_of a c.eid-eid.result) c.agent.ensures in
     undone_here c.args.world.now.agent c.args.world.now.sites c.loop-place.place c.eid-eid.result c.in-Some.node.now c.session_of-state.result (undone_in c.args.world.now)
@@ -14,7 +14,7 @@ returns-then-not-is_done c =
     (ap is_done (sym state) ∙ sym c.is_done.ensures ∙ c.if-not-is_done.true) c.loop-place.invariant
 
 pub loop-place-preserved : goal.loop-place-preserved
-loop-place-preserved c =
+loop-place-preserved g c =
     let state : c.session_of-state.result ≡ session_of c.args.world.now.agent c.eid-eid.result =
     c.session_of-state.ensures ∙ ap (λ (a : AgentOf). session_of a c.eid-eid.result) c.agent.ensures in
     undone_next c.args.world.now.agent c.args.world.now.sites c.loop-place.place c.eid-eid.result c.in-Some.node.now (undone_in c.args.world.now)

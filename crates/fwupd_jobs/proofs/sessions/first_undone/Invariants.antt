@@ -4,4 +4,4 @@ use Rattle.fwupd_jobs.proofs.sessions.first_undone.Given as goal
 
 -- the answer of those that are left is the answer of all
 abbrev pub invariant-loop-place : goal.invariant-loop-place
-invariant-loop-place l = first_undone l.world.agent (drop l.place l.world.sites) ≡ first_undone l.world.agent l.world.sites
+invariant-loop-place g l = first_undone l.world.agent (drop l.place l.world.sites) ≡ first_undone l.world.agent l.world.sites

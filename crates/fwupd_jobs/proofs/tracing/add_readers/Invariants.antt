@@ -4,4 +4,4 @@ use Rattle.fwupd_jobs.proofs.tracing.add_readers.Given as goal
 
 -- those that are there, and those that are left to add
 abbrev pub invariant-loop-place : goal.invariant-loop-place
-invariant-loop-place l = l.readers.items ++ map (reader_for l.world) (drop l.place l.world.sites) ≡ readers_for l.fn.readers.items l.world
+invariant-loop-place g l = l.readers.items ++ map (reader_for l.world) (drop l.place l.world.sites) ≡ readers_for l.fn.readers.items l.world
