@@ -38,10 +38,10 @@ unsaid_so read path text file fault (faults.Socket device) h held is = absurd h
 unsaid_so read path text file fault faults.Trace h held is = absurd h
 unsaid_so read path text file fault faults.Log h held is = absurd h
 unsaid_so read path text file fault faults.LogSize h held is = absurd h
+unsaid_so read path text file fault faults.Violation h held is = absurd h
 unsaid_so read path text file fault faults.Record h held is = absurd h
 unsaid_so read path text file fault (faults.Edge f) h held is = absurd h
 unsaid_so read path text file fault (faults.Session device word) h held is = absurd h
-unsaid_so read path text file fault faults.Violation h held is = absurd h
 unsaid_so read path text file fault faults.Output h held is = absurd h
 unsaid_so read path text file fault faults.Memory h held is = absurd h
 

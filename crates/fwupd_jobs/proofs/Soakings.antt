@@ -1,6 +1,6 @@
 -- A soak of the devices of a configuration, and how it ends.
-use Rattle.std.proofs.Common.{◌≡◌, ◌∙◌, ◌⊎◌, ℕ, Bool, List, Ok, Option, None, Some, ap, inl, inr, map, subst, sym, Vec, String, Global}
-use Rattle.std.specs.Prelude.{string_bytes}
+use Rattle.std.proofs.Common.{◌≡◌, ◌∙◌, ℕ, Bool, List, Ok, Option, None, Some, ap, inl, inr, map, refl, subst, sym, Vec, String, Global}
+use Rattle.std.specs.Prelude.{option_map, string_bytes}
 use Rattle.fw_package.specs.Package.{PackageText}
 use Rattle.fw_package.specs.Reading.{package_of}
 use Rattle.fw_script.specs.Configs.{config_of}
@@ -38,6 +38,11 @@ soaks_so files path config names contents slice ps packs devices runs sum kept s
       subst (λ qs. IsSoaked (setup_said (config_seen config) qs) runs sum kept) lent
       (subst (λ ds. IsSoaked (record { agent = config.agent; unit = config.unit; devices = map device_of ds; packages = packs }) runs sum kept) all soaked);
 }
+
+-- what is made of nothing alone is nothing
+pub unmapped : {A B : Type 0} (f : A → B) (o : Option A) → option_map f o ≡ None → o ≡ None
+unmapped f None e = refl
+unmapped f (Some x) e = absurd (cc)
 
 -- none went wrong
 pub ends_clean : (files : List ℕ → FileOf) (path : List ℕ) (order : SoakOrder) (sum : Summary) (kept : Option (List Step)) (before now : OutputOf) → kept ≡ None

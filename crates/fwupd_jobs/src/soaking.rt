@@ -11,7 +11,7 @@ use crate::output::Output;
 use crate::places::Places;
 use crate::setups::{configuration, package_files, packages_in};
 use fw_script::{Config, write_schedule};
-use fw_soak::{Onlooker, Setup, Soaked, soak, summary_text};
+use fw_soak::{Onlooker, Setup, soak, summary_text};
 use fw_world::Step;
 use fwupd_base::write_whole;
 use fwupd_words::SoakOrder;
@@ -138,16 +138,18 @@ pub fn soak_file<F: Files, V: Onlooker, B: Write + Drop, P: Places<B>, W: Write 
         devices: devices.as_slice(),
         packages: packages.as_slice(),
     };
-    let Ok(Soaked { summary, kept }) = soak(alloc, &setup, order.roughness, order.runs, onlooker)
-    else {
+    let Ok(soaked) = soak(alloc, &setup, order.roughness, order.runs, onlooker) else {
         return Err(RunFault::Memory);
     };
-    let Ok(text) = summary_text(alloc, &summary) else {
+    let Ok(text) = summary_text(alloc, &soaked.summary) else {
         return Err(RunFault::Memory);
     };
     match output.write(&text) {
         Ok(()) => {}
         Err(fault) => return Err(fault),
     }
-    judge(alloc, kept, file, places)
+    match judge(alloc, soaked.kept, file, places) {
+        Ok(()) => Ok(()),
+        Err(fault) => Err(fault),
+    }
 }
