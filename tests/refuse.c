@@ -1,9 +1,12 @@
 // Loaded before the program, refuses its allocation of the number REFUSE, or the call of the number STOP with which it writes a
-// file, and then makes the file REFUSED. With SHORT, a call writes at most so many bytes.
+// file, or the call of the number FAIL with which it opens, writes, syncs, renames or removes one, and then makes the file REFUSED.
+// With SHORT, a call writes at most so many bytes. With FULL, the disk is full from the write of that number on.
 #define _GNU_SOURCE
 #include <errno.h>
 #include <fcntl.h>
+#include <stdarg.h>
 #include <stdlib.h>
+#include <sys/stat.h>
 #include <sys/syscall.h>
 #include <unistd.h>
 
@@ -19,7 +22,7 @@ static long number_in(const char *name) {
 // Whether this is the call to refuse, of which so many are left; 0 when it was refused.
 static int is_last(long *left, int error) {
     if (*left == 0 || --*left > 0) return 0;
-    close(creat(getenv("REFUSED"), 0600));
+    close(syscall(SYS_creat, getenv("REFUSED"), 0600));
     errno = error;
     return 1;
 }
@@ -44,16 +47,65 @@ void *realloc(void *block, size_t size) {
     return is_refused() ? NULL : __libc_realloc(block, size);
 }
 
+static int is_failed(void) {
+    static long left = -1;
+    if (left < 0) left = number_in("FAIL");
+    return is_last(&left, EIO);
+}
+
+// Whether this is a file, and not a socket, a pipe or a terminal.
+static int is_file(int file) {
+    struct stat found;
+    return fstat(file, &found) == 0 && S_ISREG(found.st_mode);
+}
+
+// Whether the disk is full by now: each write of a file counts.
+static int is_full(int file) {
+    static long left = -1;
+    if (left < 0) left = number_in("FULL");
+    if (left == 0 || !is_file(file)) return 0;
+    if (left > 1) {
+        left--;
+        return 0;
+    }
+    errno = ENOSPC;
+    return 1;
+}
+
 ssize_t write(int file, const void *bytes, size_t size) {
     long most = number_in("SHORT");
-    if (is_stopped()) return -1;
+    if (is_stopped() || is_full(file) || (is_file(file) && is_failed())) return -1;
     return syscall(SYS_write, file, bytes, most && size > (size_t)most ? (size_t)most : size);
 }
 
+int open(const char *path, int flags, ...) {
+    va_list rest;
+    va_start(rest, flags);
+    mode_t mode = flags & O_CREAT ? va_arg(rest, mode_t) : 0;
+    va_end(rest);
+    return is_failed() ? -1 : syscall(SYS_openat, AT_FDCWD, path, flags, mode);
+}
+
+int openat(int folder, const char *path, int flags, ...) {
+    va_list rest;
+    va_start(rest, flags);
+    mode_t mode = flags & O_CREAT ? va_arg(rest, mode_t) : 0;
+    va_end(rest);
+    return is_failed() ? -1 : syscall(SYS_openat, folder, path, flags, mode);
+}
+
 int fsync(int file) {
-    return is_stopped() ? -1 : syscall(SYS_fsync, file);
+    return is_stopped() || is_failed() ? -1 : syscall(SYS_fsync, file);
+}
+
+int fdatasync(int file) {
+    return is_failed() ? -1 : syscall(SYS_fdatasync, file);
 }
 
 int rename(const char *from, const char *to) {
-    return is_stopped() ? -1 : syscall(SYS_rename, from, to);
+    return is_stopped() || is_failed() ? -1 : syscall(SYS_rename, from, to);
+}
+
+int unlink(const char *path) {
+    return is_failed() ? -1 : syscall(SYS_unlink, path);
 }

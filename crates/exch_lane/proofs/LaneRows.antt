@@ -1,5 +1,6 @@
 -- What a step of a lane makes of it, by the rows of its ends.
-use Rattle.std.proofs.Common.{◌≡◌, ℕ, true, false, List, ◌++◌, Ok, refl, ap}
+use Rattle.std.proofs.Common.{◌≡◌, ℕ, true, false, List, ◌++◌, Option, Some, None, Ok, refl, ap}
+use Rattle.std.specs.Option.{option_map}
 use Rattle.mctp_wire.specs.Packet as wire
 use Rattle.mctp_wire.specs.Packet.{spelling}
 use Rattle.mctp_wire.specs.declared.layout.Packet.{Packet}
@@ -8,6 +9,7 @@ use Rattle.mctp_wire.proofs.Spelled.{spelled_alike}
 use Rattle.mctp_reasm.specs.Inboxes.{for_end}
 use Rattle.mctp_reasm.specs.Pieces.{MessageOf}
 use Rattle.pldm_exch.specs.declared.caller.CallTick.TheVariants as ticks
+use Rattle.pldm_exch.specs.Caller.{CallTickOf, Open, tick_of}
 use Rattle.exch_lane.specs.Lanes.{LaneOf}
 use Rattle.pldm_exch.specs.Sides.{AskerRow, AskerTick, TakerRow, answering_row, asker_packet, asker_row, asking_after, asking_row, learnt_in, taker_packet, taker_row}
 use Rattle.exch_lane.specs.Steps.{asker_does, asker_ticks, sendings, taker_does, with_asker}
@@ -31,9 +33,9 @@ pub hears_as : (a : AskingOf) (row : AskerRow) → asker_of 0 (asking_after a ro
 hears_as a (AskerRow.Ignores replies) = refl
 hears_as a (AskerRow.Learns replies caller heard) = refl
 
-pub stays_between : (a : AskingOf) (row : AskerRow) → ((asking_after a row).own ≡ a.own) × ((asking_after a row).peer ≡ a.peer)
-stays_between a (AskerRow.Ignores replies) = (refl, refl)
-stays_between a (AskerRow.Learns replies caller heard) = (refl, refl)
+pub stays_between : (a : AskingOf) (row : AskerRow) → ((asking_after a row).unit ≡ a.unit) × ((asking_after a row).own ≡ a.own) × ((asking_after a row).peer ≡ a.peer)
+stays_between a (AskerRow.Ignores replies) = (refl, refl, refl)
+stays_between a (AskerRow.Learns replies caller heard) = (refl, refl, refl)
 
 -- a packet at the node that asks
 pub asker_does_is : (w : LaneOf) (row : AskerRow)
@@ -54,21 +56,30 @@ taker_does_is w reply (TakerRow.Repeats requests answer) = refl
 taker_does_is w reply (TakerRow.TakesUp requests m head body) = refl
 taker_does_is w reply (TakerRow.Strays requests m) = refl
 
+-- the message of the open request is what a tick asks to be sent again
+pub again_is : (o : Option Open) (m : MessageOf) → Some m ≡ option_map (λ o. o.message) o → tick_of ticks.Send o ≡ CallTickOf.Send m
+again_is None m e = absurd (cc)
+again_is (Some o) m e = let same : o.message ≡ m = cc in rw same refl
+
+pub none_is : (o : Option Open) → None ≡ option_map (λ o. o.message) o → tick_of ticks.Send o ≡ CallTickOf.Nothing
+none_is None e = refl
+none_is (Some o) e = absurd (cc)
+
 -- a tick of the node that asks
-pub resends_is : (w : LaneOf) (row : AskerTick) (m : MessageOf) → ticks.Send m ≡ call_tick_of row
+pub resends_is : (w : LaneOf) (row : AskerTick) (m : MessageOf) → CallTickOf.Send m ≡ call_tick_of row
     → asker_ticks w row ≡ record w { asker = asker_ticked row; packets = w.packets ++ sendings w.unit w.now m }
 resends_is w (AskerTick.Waits a) m e = absurd (cc)
 resends_is w (AskerTick.Resends a n) m e = let same : n ≡ m = cc in rw same refl
 resends_is w (AskerTick.GivesUp a) m e = absurd (cc)
 
-pub waits_is : (w : LaneOf) (row : AskerTick) → ticks.Nothing ≡ call_tick_of row → asker_ticks w row ≡ with_asker w (asker_ticked row)
+pub waits_is : (w : LaneOf) (row : AskerTick) → CallTickOf.Nothing ≡ call_tick_of row → asker_ticks w row ≡ with_asker w (asker_ticked row)
 waits_is w (AskerTick.Waits a) e = refl
 waits_is w (AskerTick.Resends a n) e = absurd (cc)
 waits_is w (AskerTick.GivesUp a) e = absurd (cc)
 
-pub gives_up_is : (w : LaneOf) (row : AskerTick) → ticks.GaveUp ≡ call_tick_of row → asker_ticks w row ≡ with_asker w (asker_ticked row)
+pub gives_up_is : (w : LaneOf) (row : AskerTick) → CallTickOf.GaveUp ≡ call_tick_of row → asker_ticks w row ≡ with_asker w (asker_ticked row)
 gives_up_is w (AskerTick.Waits a) e = absurd (cc)
 gives_up_is w (AskerTick.Resends a n) e = absurd (cc)
 gives_up_is w (AskerTick.GivesUp a) e = refl
 
-pub ruleset rows = (hears_as, stays_between, asker_does_is, taker_does_is, resends_is, waits_is, gives_up_is)
+pub ruleset rows = (hears_as, stays_between, asker_does_is, taker_does_is, again_is, none_is, resends_is, waits_is, gives_up_is)

@@ -1,12 +1,11 @@
 -- What the calls of both nodes give out, by the rows of the ends.
 use Rattle.std.specs.Prelude.{List, ℕ}
 use Rattle.mctp_reasm.specs.Pieces.{MessageOf}
+use Rattle.pldm_exch.specs.Caller.{CallTickOf}
 use Rattle.pldm_exch.specs.Ends.{AskerOf, TakerOf}
 use Rattle.pldm_exch.specs.Kept.{kept_with}
 use Rattle.pldm_exch.specs.Requests.{reply_message}
 use Rattle.pldm_exch.specs.Sides.{AskerRow, AskerTick, TakerRow}
-use Rattle.pldm_exch.specs.declared.caller.CallTick.{CallTick}
-use Rattle.pldm_exch.specs.declared.caller.CallTick.TheVariants as ticks
 
 -- the node that asks, after a packet
 abbrev pub asker_after : AskerOf → AskerRow → AskerOf
@@ -14,10 +13,10 @@ asker_after a (AskerRow.Ignores replies) = record a { replies = replies }
 asker_after a (AskerRow.Learns replies caller heard) = record a { caller = caller; replies = replies }
 
 -- what a tick asks of it
-abbrev pub call_tick_of : AskerTick → CallTick
-call_tick_of (AskerTick.Waits a) = ticks.Nothing
-call_tick_of (AskerTick.Resends a m) = ticks.Send m
-call_tick_of (AskerTick.GivesUp a) = ticks.GaveUp
+abbrev pub call_tick_of : AskerTick → CallTickOf
+call_tick_of (AskerTick.Waits a) = CallTickOf.Nothing
+call_tick_of (AskerTick.Resends a m) = CallTickOf.Send m
+call_tick_of (AskerTick.GivesUp a) = CallTickOf.GaveUp
 
 -- the node that asks, after a tick
 abbrev pub asker_ticked : AskerTick → AskerOf

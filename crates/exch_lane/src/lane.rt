@@ -2,7 +2,7 @@
 
 ghost use Rattle.std.specs.Prelude.{◌&&◌, ◌==◌, ◌≡◌, ◌≤◌, IfErr, None, OnErr, OnOk, is_some, length, map};
 ghost use Rattle.pldm_base.specs.Limits.{reply_limit};
-ghost use Rattle.pldm_exch.specs.Caller.{is_quiet, may_begin};
+ghost use Rattle.pldm_exch.specs.Caller.{is_quiet, may_begin, tick_of, tick_word};
 ghost use Rattle.pldm_exch.specs.Ends.{asker_of, taker_of};
 ghost use Rattle.exch_lane.specs.Journals.{HasRoom, sent_of, with_learnt, with_sent, with_taken};
 ghost use Rattle.exch_lane.specs.Lanes.{AreEnds, StepOf, entry_of, is_deaf_in, lane_new, step_of};
@@ -15,10 +15,10 @@ use crate::clock::{UNMISSED, may_beat, since_after};
 use crate::entry::LaneEntry;
 use crate::journal::{Journal, SentPacket};
 use crate::step::{End, LaneFault, LaneStep};
-use mctp_reasm::MAX_PACKETS;
+use mctp_reasm::{MAX_PACKETS, Message};
 use mctp_wire::{Packet, Unit};
 use pldm_base::{HEADER_SIZE, MAX_REPLY, Reply};
-use pldm_exch::{Asker, Brought, CallTick, DEAF, Taker};
+use pldm_exch::{Asker, Brought, CallTick, DEAF, Request, Taker, body_of};
 use std::alloc::Global;
 use std::marker::Model;
 
@@ -229,8 +229,10 @@ impl Lane {
             taker_ticks(&mut self.taker_deaf, &mut self.taker);
         }
         if asker {
-            if let CallTick::Send(message) = asker_ticks(&mut self.asker_deaf, &mut self.asker) {
-                self.journal.send(self.asker.unit(), &message);
+            if let CallTick::Send = asker_ticks(&mut self.asker_deaf, &mut self.asker) {
+                if let Some(message) = self.asker.open_message() {
+                    self.journal.send(self.asker.unit(), message);
+                }
             }
         }
         Ok(())
@@ -282,8 +284,9 @@ fn asker_learns(asker: &mut Asker, journal: &mut Journal, packet: &Packet<'_>)
     ensures entries { map entry_of journal.new.entries.items ≡ with_learnt (map entry_of journal.old.entries.items) (learnt_in (asking_row asker.old (spelling packet.now))) }
     ensures time { journal.new.time ≡ journal.old.time }
 {
-    if let Some(heard) = asker.hear(packet) {
-        journal.note(LaneEntry::Learnt(heard.reply));
+    let mut message = Message::blank();
+    if let Some(_) = asker.hear(packet, &mut message) {
+        journal.note(LaneEntry::Learnt(data_of(body_of(&message))));
     }
 }
 
@@ -318,13 +321,15 @@ fn taker_answers(taker: &mut Taker, journal: &mut Journal, packet: &Packet<'_>, 
     ensures entries { map entry_of journal.new.entries.items ≡ with_taken reply.now (map entry_of journal.old.entries.items) (heard_in reply.now (answering_row taker.old (spelling packet.now))) }
     ensures time { journal.new.time ≡ journal.old.time }
 {
-    match taker.hear(packet) {
-        Brought::Nothing | Brought::Strays(_) => {}
-        Brought::Again(answer) => journal.send(taker.unit(), &answer),
-        Brought::New(request) => {
+    let mut message = Message::blank();
+    match taker.hear(packet, &mut message) {
+        Brought::Nothing | Brought::Strays => {}
+        Brought::Again => journal.send(taker.unit(), &message),
+        Brought::New(head) => {
+            let request = Request::new(&message, head);
             let answer = taker.answer(&request, reply);
             journal.send(taker.unit(), &answer);
-            let body = data_of(request.body());
+            let body = data_of(body_of(&message));
             journal.note(LaneEntry::Taken(request.head().command, body, data_of(reply)));
         }
     }
@@ -333,7 +338,8 @@ fn taker_answers(taker: &mut Taker, journal: &mut Journal, packet: &Packet<'_>, 
 /// A tick at the asker: a deaf count falls by one, and where it is 0 then the end grows older.
 #[tactic(auto, using(crate::proofs::LaneRows::rows))]
 fn asker_ticks(deaf: &mut u8, asker: &mut Asker) -> CallTick
-    ensures answer { result ≡ call_tick_of (asker_counts (asker_of deaf.old asker.old)) }
+    ensures answer { result ≡ tick_word (call_tick_of (asker_counts (asker_of deaf.old asker.old))) }
+    ensures message { tick_of result asker.new.caller.asked ≡ call_tick_of (asker_counts (asker_of deaf.old asker.old)) }
     ensures after { asker_of deaf.new asker.new ≡ asker_ticked (asker_counts (asker_of deaf.old asker.old)) }
     ensures between { (asker.new.unit ≡ asker.old.unit) × (asker.new.own ≡ asker.old.own) × (asker.new.peer ≡ asker.old.peer) }
 {

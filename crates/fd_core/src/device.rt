@@ -33,6 +33,7 @@ mod wishes;
 
 use commands::refused;
 use reports::parameters;
+pub use restrictions::stamp_restriction;
 
 /// The ticks without a change after which an update ends.
 const PATIENCE: u8 = 240;

@@ -11,7 +11,7 @@ mod parts;
 mod states;
 
 pub use bank::{Bank, BankFault};
-pub use device::Device;
+pub use device::{Device, stamp_restriction};
 pub use failing::FailBank;
 pub use fwup_wire::Key;
 pub use labels::{Label, MAX_TEXT};

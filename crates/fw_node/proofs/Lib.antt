@@ -10,11 +10,13 @@
 -- - `Working`: where a bank isn't called, nothing depends on whether its call works.
 --
 -- A TICK of a half, and of the agent with all its halves.
+-- - `Again`: what a tick asks to be sent again, by the message of the open request.
 -- - `NodeTicks`: a tick of a half, as the code goes.
 -- - `OneATick`: a half sends one message a tick at most: after a repeat the request is open, or it was given up and its tag
 --   rests.
 -- - `AgentTicks`: a tick of the agent, as the code goes.
 -- - `Addressed`: what a half sends goes to its peer.
+-- - `Pushed`: the packets of a message, put behind others one by one.
 -- - `Loops`: a loop that changes each element and sends what each gives.
 --
 -- THE OPERATOR'S CALLS.
@@ -22,6 +24,7 @@
 -- - `Calls`: the operator's calls of the agent, by what they make of one of its halves.
 -- - `Speaking`: what the agent's sessions wish can be said, by what its halves' sessions wish.
 mod Addressed
+mod Again
 mod AgentTicks
 mod Calls
 mod Controls
@@ -32,6 +35,7 @@ mod NodeServes
 pub mod NodeTicks
 mod OneATick
 mod Places
+mod Pushed
 mod Readings
 mod Rows
 mod Speaking

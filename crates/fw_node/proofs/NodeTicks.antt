@@ -4,9 +4,7 @@ use Rattle.std.proofs.lemmas.Bool.{le-leb}
 use Rattle.std.proofs.lemmas.List.{append-nil}
 use Rattle.std.proofs.lemmas.Grind.{flat_map-append}
 use Rattle.mctp_reasm.specs.Pieces.{MessageOf}
-use Rattle.pldm_exch.specs.Caller.{caller_tick, may_begin}
-use Rattle.pldm_exch.specs.declared.caller.CallTick.{CallTick}
-use Rattle.pldm_exch.specs.declared.caller.CallTick.TheVariants as ticks
+use Rattle.pldm_exch.specs.Caller.{CallTickOf, caller_tick, may_begin}
 use Rattle.fwup_wire.specs.Values.{CommandOf}
 use Rattle.pldm_exch.specs.Sides.{asker_called}
 use Rattle.fw_node.specs.Halves.{CoreOf, HalfOf, Ticked, aged, begins_if, begins_wish, called, half_grows, half_ticks, half_waits, idled, last_part, silenced, unwished_abandoned, with_caller}
@@ -28,11 +26,11 @@ wished_behind (Some c) h ms = begun_behind (may_begin h.asker.caller) h c ms
 pub last_behind : {C : Type 0} (f : CoreOf C) (h : HalfOf C) (ms : List MessageOf) → last_part f h ms ≡ behind ms (last_part f h [])
 last_behind f h ms = wished_behind (f.wish h.core) (with_caller h (unwished_abandoned (f.wish h.core) h.asker.caller)) ms
 
-by_call : {C : Type 0} (core : CoreOf C) (h : HalfOf C) (t : CallTick)
+by_call : {C : Type 0} (core : CoreOf C) (h : HalfOf C) (t : CallTickOf)
     → called core (aged h) (asker_called (aged h).asker t) ≡ last_part core (idled core (record (aged h) { core = silenced core t h.core })) (sent_by t)
-by_call core h ticks.Nothing = refl
-by_call core h (ticks.Send m) = refl
-by_call core h ticks.GaveUp = refl
+by_call core h CallTickOf.Nothing = refl
+by_call core h (CallTickOf.Send m) = refl
+by_call core h CallTickOf.GaveUp = refl
 
 pub hearing_tick : {C : Type 0} (core : CoreOf C) (h : HalfOf C) → h.asker.deaf ≤ 1 → h.taker.deaf ≤ 1
     → half_ticks core true h ≡ behind (sent_by (caller_tick h.asker.caller).1) (half_waits core (half_grows core h))

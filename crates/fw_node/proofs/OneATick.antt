@@ -8,9 +8,7 @@ use Rattle.mctp_reasm.specs.Held.{Held}
 use Rattle.mctp_reasm.specs.Inboxes.{fed_at, held_with, packet_for}
 use Rattle.mctp_reasm.specs.Pieces.{MessageOf, PacketOf}
 use Rattle.fwup_wire.specs.Values.{CommandOf}
-use Rattle.pldm_exch.specs.Caller.{CallerState, Heard, Open, answer_body, answer_heard, begun, caller_tick, closed_by, fresh, heard_as, last_tag, may_begin, next_tag, older, rest_at, sends_at, ticked}
-use Rattle.pldm_exch.specs.declared.caller.CallTick.{CallTick}
-use Rattle.pldm_exch.specs.declared.caller.CallTick.TheVariants as ticks
+use Rattle.pldm_exch.specs.Caller.{CallTickOf, CallerState, Heard, Open, answer_body, answer_heard, begun, caller_tick, closed_by, fresh, heard_as, last_tag, may_begin, next_tag, older, rest_at, sends_at, ticked}
 use Rattle.pldm_exch.specs.Ends.{AskingOf, asker_of}
 use Rattle.pldm_exch.specs.Rests.{fallen}
 use Rattle.pldm_exch.specs.Sides.{asker_answered, asker_fed, asker_packet, asking_after, asking_row}
@@ -118,10 +116,10 @@ pub one_last : {C : Type 0} (core : CoreOf C) (h : HalfOf C) → length (last_pa
 one_last core h = one_begun (core.wish h.core) (with_caller h (unwished_abandoned (core.wish h.core) h.asker.caller))
 
 -- and one is sent again at most
-pub one_sent : (call : CallTick) → length (sent_by call) ≤ 1
-one_sent ticks.Nothing = omega arith
-one_sent (ticks.Send m) = omega arith
-one_sent ticks.GaveUp = omega arith
+pub one_sent : (call : CallTickOf) → length (sent_by call) ≤ 1
+one_sent CallTickOf.Nothing = omega arith
+one_sent (CallTickOf.Send m) = omega arith
+one_sent CallTickOf.GaveUp = omega arith
 
 none_last : {C : Type 0} {peer : ℕ} (core : CoreOf C) (h : HalfOf C) (c : CallerState) (o : Open) → IsAsking peer c → o.tag ≡ last_tag c → c.answered ≡ false → h.asker.caller ≡ again c o → length (last_part core h []).sent ≡ 0
 none_last core h c o is tag waits e =

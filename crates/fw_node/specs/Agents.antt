@@ -9,8 +9,7 @@ use Rattle.mctp_wire.specs.Packet as wire
 use Rattle.mctp_wire.specs.declared.fault.WireFault.{WireFault}
 use Rattle.mctp_wire.specs.declared.layout.Head.{Head}
 use Rattle.pldm_base.specs.declared.terminus.Role.TheVariants as roles
-use Rattle.pldm_exch.specs.Caller.{caller_tick}
-use Rattle.pldm_exch.specs.declared.caller.CallTick.{CallTick}
+use Rattle.pldm_exch.specs.Caller.{CallTickOf, caller_tick}
 use Rattle.fw_package.specs.Package.{PackageText}
 use Rattle.sel_core.specs.Log.{LogOf, new_log, sel_restart}
 use Rattle.ua_core.specs.Calls.{agent_activated, agent_cancelled, agent_started, is_free, may_cancel, new_session}
@@ -115,7 +114,7 @@ agent_hears packages n bytes now =
     else agent_unmoved n
 
 -- The parts of a tick of one of its halves, each in the general words of a half.
-abbrev pub silent_by : CallTick → TimedOf → List PackageText → TimedOf
+abbrev pub silent_by : CallTickOf → TimedOf → List PackageText → TimedOf
 silent_by call s packages = silenced (session_core packages) call s
 
 abbrev pub grown : List PackageText → HalfOf TimedOf → HalfOf TimedOf

@@ -1,11 +1,18 @@
--- What a packet brings, as the code has it.
-use Rattle.fw_node.specs.Halves.{IncomingOf}
+-- What a packet brings, as the code has it, with the message beside it.
+use Rattle.mctp_reasm.specs.Pieces.{MessageOf}
+use Rattle.pldm_base.specs.Header.{IsHead}
+use Rattle.pldm_exch.specs.Sides.{brought_of, heard_in}
+use Rattle.pldm_exch.specs.declared.request.Brought.{Brought}
+use Rattle.pldm_exch.specs.declared.request.Brought.TheVariants as brings
+use Rattle.fw_node.specs.Halves.{IncomingOf, brought_as}
 use Rattle.fw_node.specs.declared.incoming.Incoming.{Incoming}
 use Rattle.fw_node.specs.declared.incoming.Incoming.TheVariants as incomings
 
-abbrev pub incoming_of : Incoming → IncomingOf
-incoming_of incomings.Nothing = IncomingOf.Nothing
-incoming_of (incomings.Learnt heard) = IncomingOf.Learnt (record { command = heard.command; reply = heard.reply.items })
-incoming_of (incomings.Again answer) = IncomingOf.Again answer
-incoming_of (incomings.New request) = IncomingOf.New request
-incoming_of (incomings.Strays message) = IncomingOf.Strays message
+abbrev pub incoming_of : Incoming → MessageOf → IncomingOf
+incoming_of (incomings.Learnt command) m = IncomingOf.Learnt (heard_in command m)
+incoming_of (incomings.Brought brought) m = brought_as (brought_of brought m)
+
+-- the head of a new request is that of a PLDM message
+abbrev pub HasHead : Incoming → Type 0
+HasHead (incomings.Brought (brings.New head)) = IsHead head
+HasHead _ = Prim.Unit {0}

@@ -11,12 +11,10 @@ use Rattle.fwup_wire.specs.Commands.{command_bytes, command_code, command_read}
 use Rattle.fwup_wire.specs.Same.{same_command}
 use Rattle.fwup_wire.specs.Values.{AnswerOf, CommandOf}
 use Rattle.fwup_wire.specs.declared.answer.Malformed.{Malformed}
-use Rattle.pldm_exch.specs.Caller.{CallerState, Heard, Open, abandoned, begun, caller_tick, is_quiet, may_begin}
+use Rattle.pldm_exch.specs.Caller.{CallTickOf, CallerState, Heard, Open, abandoned, begun, caller_tick, is_quiet, may_begin}
 use Rattle.pldm_exch.specs.Ends.{AnsweringOf, AskerOf, TakerOf, asker_new, taker_new}
 use Rattle.pldm_exch.specs.Kept.{answerer_tick, kept_with}
 use Rattle.pldm_exch.specs.Requests.{RequestOf, reply_message}
-use Rattle.pldm_exch.specs.declared.caller.CallTick.{CallTick}
-use Rattle.pldm_exch.specs.declared.caller.CallTick.TheVariants as ticks
 use Rattle.pldm_exch.specs.Sides.{AskerRow, AskerTick, BroughtOf, TakerRow, asker_counts, asker_row, brought_in, requests_in, taker_counts, taker_row}
 
 -- what a core makes of a command
@@ -133,8 +131,8 @@ idled core h = record h { core = core.ticked h.core }
 
 -- A tick's parts of a half that hears. First what is held and kept grows older, and the open request is sent again or given
 -- up; the core is told of one that was given up.
-abbrev pub silenced : {C : Type 0} → CoreOf C → CallTick → C → C
-silenced core ticks.GaveUp c = core.silent c
+abbrev pub silenced : {C : Type 0} → CoreOf C → CallTickOf → C → C
+silenced core CallTickOf.GaveUp c = core.silent c
 silenced core call c = c
 
 abbrev pub half_grows : {C : Type 0} → CoreOf C → HalfOf C → HalfOf C
@@ -203,7 +201,7 @@ half_hears core works h bytes = half_hears_by core works h (asker_row h.unit h.o
 abbrev pub recast : {C : Type 0} → CoreOf C → HalfOf C → C → HalfOf C
 recast core h c = settled core (record h { core = c })
 
--- A node starts anew, and is deaf for 40 ticks.
+-- A node starts anew, and is deaf for 40 CallTickOf.
 abbrev pub half_restarts : {C : Type 0} → CoreOf C → HalfOf C → HalfOf C
 half_restarts core h =
     record h { core = core.restarted h.core; asker = asker_new h.own h.peer 40; taker = taker_new 40 }

@@ -2,8 +2,7 @@
 use Rattle.std.specs.Prelude.{ℕ, List, [], ◌∷◌, flat_map, map}
 use Rattle.mctp_wire.specs.declared.unit.Unit.{«Unit»}
 use Rattle.mctp_reasm.specs.Pieces.{MessageOf, pieces, spelled}
-use Rattle.pldm_exch.specs.declared.caller.CallTick.{CallTick}
-use Rattle.pldm_exch.specs.declared.caller.CallTick.TheVariants as ticks
+use Rattle.pldm_exch.specs.Caller.{CallTickOf}
 
 -- the packets of a message in a network with this transmission unit, and of several
 abbrev pub packets_of : «Unit» → MessageOf → List (List ℕ)
@@ -13,7 +12,7 @@ abbrev pub all_packets : «Unit» → List MessageOf → List (List ℕ)
 all_packets u ms = flat_map (packets_of u) ms
 
 -- what a tick of its requests has a node send again
-abbrev pub sent_by : CallTick → List MessageOf
-sent_by ticks.Nothing = []
-sent_by (ticks.Send m) = m ∷ []
-sent_by ticks.GaveUp = []
+abbrev pub sent_by : CallTickOf → List MessageOf
+sent_by CallTickOf.Nothing = []
+sent_by (CallTickOf.Send m) = m ∷ []
+sent_by CallTickOf.GaveUp = []

@@ -4,19 +4,19 @@ ghost use Rattle.std.specs.Prelude.{◌≡◌, ◌≤◌, length, option_map, tr
 ghost use Rattle.mctp_wire.specs.Packet.{IsRead, spelling};
 ghost use Rattle.fwup_wire.specs.Commands.{IsWritable, command_bytes, command_code};
 ghost use Rattle.fwup_wire.specs.Lent.{command_of};
-ghost use Rattle.pldm_exch.specs.Caller.{begun, caller_tick, is_quiet, may_begin};
+ghost use Rattle.pldm_exch.specs.Caller.{begun, caller_tick, is_quiet, may_begin, tick_of, tick_word};
 ghost use Rattle.pldm_exch.specs.Requests.{reply_message};
 ghost use Rattle.pldm_exch.specs.Sides.{answered_with, answering_row, asking_after, asking_row};
 ghost use Rattle.fw_node.specs.BothEnds.{IsAsking, ends_new, ends_older};
 ghost use Rattle.fw_node.specs.Halves.{answering_after, incoming, unwished_abandoned, wished_or};
-ghost use Rattle.fw_node.specs.Brings.{incoming_of};
+ghost use Rattle.fw_node.specs.Brings.{HasHead, incoming_of};
 
 use crate::incoming::Incoming;
 use fwup_wire::Command;
 use mctp_reasm::Message;
 use mctp_wire::{Packet, Unit};
 use pldm_base::MAX_REPLY;
-use pldm_exch::{Asker, Brought, CallTick, Request, Taker};
+use pldm_exch::{Asker, CallTick, Request, Taker};
 use std::marker::Model;
 
 /// What a node has to ask a peer, and to answer it.
@@ -120,29 +120,32 @@ impl Ends {
         self.asker.begin(command.code(), body.as_slice())
     }
 
-    /// Hears a packet.
+    /// The message of the open request.
+    pub(crate) fn open_message(&self) -> Option<&Message>
+        ensures { option_map (λ m. m.now) result ≡ option_map (λ o. o.message) self.now.asking.caller.asked }
+    {
+        self.asker.open_message()
+    }
+
+    /// Hears a packet, and writes the message that the answer speaks of into `message`.
     #[tactic(auto, using(crate::proofs::Rows::rows, crate::proofs::OneATick::callers_stay))]
-    pub(crate) fn hear(&mut self, packet: &Packet<'_>) -> Incoming
+    pub(crate) fn hear(&mut self, packet: &Packet<'_>, message: &mut Message) -> Incoming
         requires read { IsRead packet.now }
-        ensures incoming { incoming_of result ≡ incoming (asking_row self.old.asking (spelling packet.now)) (answering_row self.old.answering (spelling packet.now)) }
+        ensures head { HasHead result }
+        ensures incoming { incoming_of result message.new ≡ incoming (asking_row self.old.asking (spelling packet.now)) (answering_row self.old.answering (spelling packet.now)) }
         ensures asking { self.new.asking ≡ asking_after self.old.asking (asking_row self.old.asking (spelling packet.now)) }
         ensures stays { (self.new.asking.unit ≡ self.old.asking.unit) × (self.new.asking.own ≡ self.old.asking.own) × (self.new.asking.peer ≡ self.old.asking.peer) }
         ensures lawful { (self.old.answering.unit ≡ self.old.asking.unit) × (self.old.answering.own ≡ self.old.asking.own) × (self.old.answering.peer ≡ self.old.asking.peer) }
         ensures answering { self.new.answering ≡ answering_after (asking_row self.old.asking (spelling packet.now)) self.old.answering (answering_row self.old.answering (spelling packet.now)) }
     {
-        if let Some(heard) = self.asker.hear(packet) {
-            return Incoming::Learnt(heard);
+        if let Some(command) = self.asker.hear(packet, message) {
+            return Incoming::Learnt(command);
         }
-        match self.taker.hear(packet) {
-            Brought::Nothing => Incoming::Nothing,
-            Brought::Again(answer) => Incoming::Again(answer),
-            Brought::New(request) => Incoming::New(request),
-            Brought::Strays(message) => Incoming::Strays(message),
-        }
+        Incoming::Brought(self.taker.hear(packet, message))
     }
 
     /// Answers a new request with a completion code and fields: the message to send, which is kept.
-    pub(crate) fn answer(&mut self, request: &Request, reply: &[u8]) -> Message
+    pub(crate) fn answer(&mut self, request: &Request<'_>, reply: &[u8]) -> Message
         requires { length reply.now ≤ MAX_REPLY }
         ensures answer { result ≡ reply_message request.now.message request.now.head reply.now }
         ensures after { self.new ≡ record self.old { answering = answered_with self.old.answering request.now reply.now } }
@@ -150,10 +153,12 @@ impl Ends {
         self.taker.answer(request, reply)
     }
 
-    /// A tick passes: what is held and kept grows older, and the open request is sent again or given up.
+    /// A tick passes: what is held and kept grows older, and the open request is sent again or given up. The message to send
+    /// is the open one's then.
     #[tactic(auto, using(crate::proofs::OneATick::callers_stay))]
     pub(crate) fn tick(&mut self) -> CallTick
-        ensures answer { result ≡ (caller_tick self.old.asking.caller).1 }
+        ensures answer { result ≡ tick_word (caller_tick self.old.asking.caller).1 }
+        ensures message { tick_of result self.new.asking.caller.asked ≡ (caller_tick self.old.asking.caller).1 }
         ensures after { self.new ≡ ends_older self.old }
         ensures lawful { IsAsking self.old.asking.peer self.old.asking.caller }
     {

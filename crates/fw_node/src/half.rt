@@ -9,7 +9,7 @@ ghost use Rattle.pldm_exch.specs.Caller.{caller_tick, is_quiet};
 ghost use Rattle.pldm_exch.specs.Requests.{reply_message};
 ghost use Rattle.pldm_exch.specs.Sides.{answered_with};
 ghost use Rattle.fw_node.specs.BothEnds.{IsAsking, ends_new};
-ghost use Rattle.fw_node.specs.Brings.{incoming_of};
+ghost use Rattle.fw_node.specs.Brings.{HasHead, incoming_of};
 ghost use Rattle.fw_node.specs.Halves.{IncomingOf, half_brings, half_grows, half_hears, half_waits, last_part, read_by, recast, reply_read, settled, unwished_abandoned};
 ghost use Rattle.fw_node.specs.Nodes.{IsAnswered, IsTold, MaySpeak, SpeaksAfter, finished, half_of, replied};
 ghost use Rattle.fw_node.specs.Packets.{all_packets, sent_by};
@@ -20,10 +20,11 @@ use crate::identity::Identity;
 use crate::incoming::Incoming;
 use crate::outbox::Outbox;
 use crate::sending::{reply_to_other, send_again, send_control};
+use mctp_reasm::Message;
 use mctp_wire::{Packet, Unit};
 use pldm_base::completion::ERROR_UNSUPPORTED_PLDM_CMD;
 use pldm_base::{MAX_REPLY, Reply, Role, TYPE_FIRMWARE_UPDATE, code_alone};
-use pldm_exch::{CallTick, ReplyIn, Request};
+use pldm_exch::{Brought, CallTick, Request, body_of};
 
 /// One half of a pair: both ends for a peer, and the core.
 #[derive(Drop)]
@@ -89,54 +90,59 @@ impl<'p, C: Core<'p>> Half<C> {
         ensures own { self.new.ends.asking.own ≡ self.old.ends.asking.own }
         ensures unit { self.new.ends.asking.unit ≡ self.old.ends.asking.unit }
     {
-        match self.incoming(packet) {
-            Incoming::Nothing => true,
-            Incoming::Learnt(heard) => self.learn(given, &heard),
-            Incoming::Again(answer) => {
-                outbox.send(self.ends.unit(), &answer);
+        let mut message = Message::blank();
+        match self.incoming(packet, &mut message) {
+            Incoming::Learnt(command) => self.learn(given, command, body_of(&message)),
+            Incoming::Brought(Brought::Nothing) => true,
+            Incoming::Brought(Brought::Again) => {
+                outbox.send(self.ends.unit(), &message);
                 true
             }
-            Incoming::New(request) => self.serve(identity, role, given, &request, outbox),
-            Incoming::Strays(message) => {
+            Incoming::Brought(Brought::New(head)) => {
+                let request = Request::new(&message, head);
+                self.serve(identity, role, given, &request, outbox)
+            }
+            Incoming::Brought(Brought::Strays) => {
                 send_control(self.ends.unit(), &identity.endpoint, &message, outbox);
                 true
             }
         }
     }
 
-    /// What a packet brings.
-    fn incoming(&mut self, packet: &Packet<'_>) -> Incoming
+    /// What a packet brings; the message that the answer speaks of is written into `message`.
+    fn incoming(&mut self, packet: &Packet<'_>, message: &mut Message) -> Incoming
         requires read { IsRead packet.now }
-        ensures brings { (given : C.Given) (works : Bool) → half_hears (C.does given) works (half_of 0 (C.seen self.old.core) self.old.ends) (spelling packet.now) ≡ half_brings (C.does given) works (half_of 0 (C.seen self.new.core) self.new.ends) (incoming_of result) }
+        ensures brings { (given : C.Given) (works : Bool) → half_hears (C.does given) works (half_of 0 (C.seen self.old.core) self.old.ends) (spelling packet.now) ≡ half_brings (C.does given) works (half_of 0 (C.seen self.new.core) self.new.ends) (incoming_of result message.new) }
+        ensures head { HasHead result }
         ensures core { self.new.core ≡ self.old.core }
         ensures own { self.new.ends.asking.own ≡ self.old.ends.asking.own }
         ensures unit { self.new.ends.asking.unit ≡ self.old.ends.asking.unit }
     {
-        self.ends.hear(packet)
+        self.ends.hear(packet, message)
     }
 
     /// The core learns the answer to its request. Whether its bank worked.
-    fn learn(&mut self, given: C::Given, heard: &ReplyIn) -> bool
-        ensures half { half_of 0 (C.seen self.new.core) self.new.ends ≡ recast (C.does given) (half_of 0 (C.seen self.old.core) self.old.ends) ((C.does given).learn (C.seen self.old.core) (answer_read heard.now.command heard.now.reply.items) result) }
+    fn learn(&mut self, given: C::Given, command: u8, reply: &[u8]) -> bool
+        ensures half { half_of 0 (C.seen self.new.core) self.new.ends ≡ recast (C.does given) (half_of 0 (C.seen self.old.core) self.old.ends) ((C.does given).learn (C.seen self.old.core) (answer_read command reply.now) result) }
         ensures spoken { MaySpeak (C.does given) (C.seen self.new.core) }
         ensures worked { result ≡ true → C.faults self.new.core ≡ C.faults self.old.core }
         ensures failed { result ≡ false → Rose (C.faults self.old.core) (C.faults self.new.core) }
         ensures own { self.new.ends.asking.own ≡ self.old.ends.asking.own }
         ensures unit { self.new.ends.asking.unit ≡ self.old.ends.asking.unit }
     {
-        let works = self.learn_answer(given, heard);
+        let works = self.learn_answer(given, command, reply);
         self.settle(given);
         works
     }
 
     /// The core learns an answer, as it was written. Whether its bank worked.
-    fn learn_answer(&mut self, given: C::Given, heard: &ReplyIn) -> bool
-        ensures core { C.seen self.new.core ≡ (C.does given).learn (C.seen self.old.core) (answer_read heard.now.command heard.now.reply.items) result }
+    fn learn_answer(&mut self, given: C::Given, command: u8, reply: &[u8]) -> bool
+        ensures core { C.seen self.new.core ≡ (C.does given).learn (C.seen self.old.core) (answer_read command reply.now) result }
         ensures ends { self.new.ends ≡ self.old.ends }
         ensures worked { result ≡ true → C.faults self.new.core ≡ C.faults self.old.core }
         ensures failed { result ≡ false → Rose (C.faults self.old.core) (C.faults self.new.core) }
     {
-        match fwup_wire::read_answer(heard.command, heard.reply.as_slice()) {
+        match fwup_wire::read_answer(command, reply) {
             Ok(answer) => self.core.learn(given, Ok(&answer)),
             Err(malformed) => self.core.learn(given, Err(malformed)),
         }
@@ -149,7 +155,7 @@ impl<'p, C: Core<'p>> Half<C> {
         identity: &mut Identity,
         role: Role,
         given: C::Given,
-        request: &Request,
+        request: &Request<'_>,
         outbox: &mut Outbox,
     ) -> bool
         requires { outbox.old ≡ [] }
@@ -173,7 +179,7 @@ impl<'p, C: Core<'p>> Half<C> {
     }
 
     /// Keeps and sends the answer to a new request.
-    fn answer(&mut self, request: &Request, reply: &[u8], outbox: &mut Outbox)
+    fn answer(&mut self, request: &Request<'_>, reply: &[u8], outbox: &mut Outbox)
         requires reply { length reply.now ≤ MAX_REPLY }
         requires outbox { outbox.old ≡ [] }
         ensures after { self.new ≡ record self.old { ends = record self.old.ends { answering = answered_with self.old.ends.answering request.now reply.now } } }
@@ -184,7 +190,7 @@ impl<'p, C: Core<'p>> Half<C> {
     }
 
     /// Takes a firmware update command, and answers it. Whether the core's bank worked.
-    fn take(&mut self, given: C::Given, request: &Request, outbox: &mut Outbox) -> bool
+    fn take(&mut self, given: C::Given, request: &Request<'_>, outbox: &mut Outbox) -> bool
         requires { outbox.old ≡ [] }
         ensures half { half_of 0 (C.seen self.new.core) self.new.ends ≡ settled (C.does given) (replied (half_of 0 (reply_read (C.does given) (is_quiet self.old.ends.asking.caller) result (C.seen self.old.core) (read_by (C.does given) request.now.head.command request.now.body)).core self.old.ends) (reply_message request.now.message request.now.head (reply_read (C.does given) (is_quiet self.old.ends.asking.caller) result (C.seen self.old.core) (read_by (C.does given) request.now.head.command request.now.body)).reply)) }
         ensures packets { outbox.new ≡ all_packets self.old.ends.asking.unit (reply_message request.now.message request.now.head (reply_read (C.does given) (is_quiet self.old.ends.asking.caller) result (C.seen self.old.core) (read_by (C.does given) request.now.head.command request.now.body)).reply ∷ []) }
@@ -203,7 +209,7 @@ impl<'p, C: Core<'p>> Half<C> {
 
     /// The core's reply to a firmware update command, and whether its bank worked.
     #[tactic(auto, using(crate::proofs::NodeServes::node_serves))]
-    fn reply_to(&mut self, given: C::Given, request: &Request) -> (Reply, bool)
+    fn reply_to(&mut self, given: C::Given, request: &Request<'_>) -> (Reply, bool)
         ensures core { C.seen self.new.core ≡ (reply_read (C.does given) (is_quiet self.old.ends.asking.caller) result.1 (C.seen self.old.core) (read_by (C.does given) request.now.head.command request.now.body)).core }
         ensures ends { self.new.ends ≡ self.old.ends }
         ensures reply { result.0.items ≡ (reply_read (C.does given) (is_quiet self.old.ends.asking.caller) result.1 (C.seen self.old.core) (read_by (C.does given) request.now.head.command request.now.body)).reply }
@@ -234,7 +240,7 @@ impl<'p, C: Core<'p>> Half<C> {
         ensures unit { self.new.ends.asking.unit ≡ self.old.ends.asking.unit }
     {
         let call = self.ends.tick();
-        send_again(self.ends.unit(), outbox, &call);
+        send_again(&self.ends, outbox, call);
         if let CallTick::GaveUp = call {
             self.core.silent(given);
         }

@@ -1,19 +1,12 @@
 //! What a packet brings to a node.
 
-use mctp_reasm::Message;
-use pldm_exch::{ReplyIn, Request};
+use pldm_exch::Brought;
 
-/// What a packet of a peer brings.
-#[derive(Drop)]
+/// What a packet of a peer brings to one of a node's ends; the message that it speaks of lies beside it.
+#[derive(Clone, Copy)]
 pub(crate) enum Incoming {
-    /// Nothing is to be done.
-    Nothing,
-    /// The answer to the open request.
-    Learnt(ReplyIn),
-    /// A request came again: this kept answer is to be sent again.
-    Again(Message),
-    /// A new request: it is to be answered.
-    New(Request),
-    /// A whole message that is no PLDM request.
-    Strays(Message),
+    /// To the end that asks: the answer to the open request, which is of this command.
+    Learnt(u8),
+    /// To the end that answers.
+    Brought(Brought),
 }

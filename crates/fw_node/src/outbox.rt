@@ -4,8 +4,8 @@ ghost use Rattle.std.specs.Prelude.{◌≡◌, ◌≤◌, ◌+◌, ◌++◌, ◌
 ghost use Rattle.fw_node.specs.Packets.{packets_of};
 
 use circular_buffer::HeapCircularBuffer;
-use mctp_reasm::{Message, split};
-use mctp_wire::{RawPacket, Unit, copy_of};
+use mctp_reasm::{MAX_PACKETS, Message, piece_at};
+use mctp_wire::{RawPacket, Unit};
 use std::alloc::{AllocError, Global};
 use std::marker::Model;
 
@@ -71,19 +71,21 @@ impl Outbox {
         ensures packets { self.new ≡ self.old ++ packets_of unit message.now }
         ensures few { length self.new ≤ length self.old + 4 }
     {
-        let packets = split(unit, message);
-        push_all(&mut self.packets, packets.as_slice());
+        push_pieces(&mut self.packets, unit, message);
     }
 }
 
-/// Puts packets behind others.
-fn push_all(out: &mut HeapCircularBuffer<RawPacket>, packets: &[RawPacket])
-    requires { length out.old.items + length packets.now ≤ out.old.capacity }
-    ensures count { length out.new.items ≡ length out.old.items + length packets.now }
-    ensures packets { map (λ p. p.items) out.new.items ≡ map (λ p. p.items) out.old.items ++ map (λ p. p.items) packets.now }
+/// Puts the packets of a message behind others, each as it is cut.
+fn push_pieces(out: &mut HeapCircularBuffer<RawPacket>, unit: Unit, message: &Message)
+    requires { length out.old.items + 4 ≤ out.old.capacity }
+    ensures few { length out.new.items ≤ length out.old.items + 4 }
+    ensures packets { map (λ p. p.items) out.new.items ≡ map (λ p. p.items) out.old.items ++ packets_of unit message.now }
     ensures capacity { out.new.capacity ≡ out.old.capacity }
 {
-    for packet in packets {
-        let _ = out.push_back(copy_of(packet));
+    for number in 0..MAX_PACKETS as u8 {
+        let Some(packet) = piece_at(unit, message, number) else {
+            return;
+        };
+        let _ = out.push_back(packet);
     }
 }

@@ -2,9 +2,11 @@
 
 ghost use Rattle.std.specs.Prelude.{◌≡◌, ◌≤◌, ◌+◌, ◌*◌, ◌++◌, [], length};
 ghost use Rattle.mctp_ctl.specs.Control.{answer_of};
+ghost use Rattle.pldm_exch.specs.Caller.{tick_of};
 ghost use Rattle.fw_node.specs.Nodes.{control_sent, other_reply, other_tid};
 ghost use Rattle.fw_node.specs.Packets.{all_packets, sent_by};
 
+use crate::ends::Ends;
 use crate::outbox::Outbox;
 use mctp_ctl::Endpoint;
 use mctp_reasm::Message;
@@ -14,7 +16,7 @@ use pldm_base::{Reply, Role, TYPE_BASE, Tid, code_alone};
 use pldm_exch::{CallTick, Request};
 
 /// The reply to a PLDM request of another type than firmware update.
-pub(crate) fn reply_to_other(tid: &mut Tid, role: Role, request: &Request) -> Reply
+pub(crate) fn reply_to_other(tid: &mut Tid, role: Role, request: &Request<'_>) -> Reply
     ensures reply { result.items ≡ other_reply role tid.old request.now.head request.now.body }
     ensures tid { tid.new ≡ other_tid tid.old request.now.head request.now.body }
 {
@@ -25,16 +27,20 @@ pub(crate) fn reply_to_other(tid: &mut Tid, role: Role, request: &Request) -> Re
     code_alone(ERROR_INVALID_PLDM_TYPE)
 }
 
-/// Sends what a tick asks to be sent again.
-pub(crate) fn send_again(unit: Unit, outbox: &mut Outbox, call: &CallTick)
+/// Sends what a tick asks to be sent again: the message of the open request.
+#[tactic(auto, using(crate::proofs::Again::again))]
+pub(crate) fn send_again(ends: &Ends, outbox: &mut Outbox, call: CallTick)
     requires { length outbox.old ≤ 60 }
-    ensures sent { outbox.new ≡ outbox.old ++ all_packets unit (sent_by call.now) }
-    ensures few { length outbox.new ≤ length outbox.old + 4 }
-    ensures each { length outbox.new ≤ length outbox.old + 4 * length (sent_by call.now) }
+    ensures sent { outbox.new ≡ outbox.old ++ all_packets ends.now.asking.unit (sent_by (tick_of call ends.now.asking.caller.asked)) }
+    ensures few { length outbox.new ≤ length outbox.old + 4 * length (sent_by (tick_of call ends.now.asking.caller.asked)) }
 {
-    if let CallTick::Send(message) = call {
-        outbox.send(unit, message);
-    }
+    let CallTick::Send = call else {
+        return;
+    };
+    let Some(message) = ends.open_message() else {
+        return;
+    };
+    outbox.send(ends.unit(), message);
 }
 
 /// Sends the answer to a control message, if one is due.

@@ -1,3 +1,4 @@
+mod AllSteps
 mod Cuts
 mod Decimals
 mod Keys

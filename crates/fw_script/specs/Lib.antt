@@ -3,6 +3,7 @@ pub mod Faults
 pub mod Lines
 pub mod PackageSpecs
 pub mod Reports
+pub mod ScheduleLines
 pub mod ScheduleTexts
 pub mod Schedules
 pub mod Seen

@@ -3,6 +3,7 @@
 ghost use Rattle.std.specs.Prelude.{◌≡◌, ◌≢◌, ◌≤◌, ◌<◌, ◌+◌, ◌++◌, ◌∷◌, [], Err, IfErr, IfOk, Ok, OnOk, Some, length, map, option_map};
 ghost use Rattle.std.specs.List.{repeat};
 ghost use Rattle.fw_script.specs.Faults.{Answers, ReadsAs};
+ghost use Rattle.fw_script.specs.ScheduleLines.{all_steps, line_steps, steps_if_any};
 ghost use Rattle.fw_script.specs.Schedules.{delivery as delivery_of, directive_of as directive_named, eids_from, has_twice as stands_twice, only_eid_of, place_of as place_in, script_of, step_of, steps_named, steps_of, steps_said, ticks_of, verdict_of, with_eid as with_eid_of, with_line};
 ghost use Rattle.fw_script.specs.Lines.{fields_in, words_from};
 ghost use Rattle.fw_script.specs.Seen.{seen_eids};
@@ -10,6 +11,7 @@ ghost use Rattle.fw_world.specs.Worlds.{full_tick};
 
 use crate::faults::{ScriptCause, ScriptFault, both};
 use crate::lines::{MAX_FIELDS, fields_after, first_line, first_word, is_skipped};
+use crate::schedule_lines::{ScheduleLine, steps_of_all};
 use crate::values::{bytes, eid, number_in};
 use fd_core::Verdict;
 use fw_world::{LogRequest, Missed, Step};
@@ -266,83 +268,112 @@ fn step(alloc: Global, directive: Directive, fields: &[&[u8]]) -> Result<Step, S
     }
 }
 
-/// Appends ticks.
-///
-/// # Errors
-/// `Memory` where memory for them is refused.
-fn push_ticks(steps: &mut Vec<Step>, count: u64) -> Result<(), ScriptCause>
-    ensures ok { OnOk result (steps.new.items ≡ steps.old.items ++ repeat count (full_tick ∷ [])) }
-    ensures err { IfErr result (λ e. e ≡ ScriptCause.Memory) }
-{
-    for _pushed in 0..count {
-        let Ok(()) = steps.push(Step::Tick(Missed::new())) else {
-            return Err(ScriptCause::Memory);
-        };
-    }
-    Ok(())
-}
-
-/// Appends the steps that the fields of a line say.
-fn push_said(
-    alloc: Global,
-    directive: Directive,
-    fields: &[&[u8]],
-    steps: &mut Vec<Step>,
-) -> Result<(), ScriptCause>
-    ensures { Answers (λ _. steps.new.items) result (with_line steps.old.items (steps_said directive (map (λ f. f.now) fields.now))) }
+/// What the fields of a line say.
+fn said(alloc: Global, directive: Directive, fields: &[&[u8]]) -> Result<ScheduleLine, ScriptCause>
+    ensures { Answers line_steps result (steps_said directive (map (λ f. f.now) fields.now)) }
 {
     if let Directive::Tick = directive {
         return match ticks(fields) {
-            Ok(count) => push_ticks(steps, count),
+            Ok(count) => Ok(ScheduleLine::Ticks(count)),
             Err(cause) => Err(cause),
         };
     }
-    let step = match step(alloc, directive, fields) {
-        Ok(step) => step,
-        Err(cause) => return Err(cause),
-    };
-    let Ok(()) = steps.push(step) else {
-        return Err(ScriptCause::Memory);
-    };
-    Ok(())
+    match step(alloc, directive, fields) {
+        Ok(step) => Ok(ScheduleLine::Step(step)),
+        Err(cause) => Err(cause),
+    }
 }
 
-/// Appends the tick that the nodes behind a line's first word miss.
-fn push_miss(rest: Option<&[u8]>, steps: &mut Vec<Step>) -> Result<(), ScriptCause>
-    ensures { Answers (λ _. steps.new.items) result (with_line steps.old.items (steps_named (Some Directive.Miss) (fields_in 17 (words_from (option_map (λ r. r.now) rest.entry))))) }
+/// The tick that the nodes behind a line's first word miss.
+fn missed(rest: Option<&[u8]>) -> Result<ScheduleLine, ScriptCause>
+    ensures { Answers line_steps result (steps_named (Some Directive.Miss) (fields_in 17 (words_from (option_map (λ r. r.now) rest.entry)))) }
 {
     let Some(fields) = fields_after::<MAX_MISSED>(rest) else {
         return Err(ScriptCause::Fields);
     };
-    let step = match miss(fields.as_slice()) {
-        Ok(step) => step,
-        Err(cause) => return Err(cause),
-    };
-    let Ok(()) = steps.push(step) else {
-        return Err(ScriptCause::Memory);
-    };
-    Ok(())
+    match miss(fields.as_slice()) {
+        Ok(step) => Ok(ScheduleLine::Step(step)),
+        Err(cause) => Err(cause),
+    }
 }
 
-/// Appends the steps of a line.
+/// What a line says; nothing where it is skipped.
 #[tactic(auto, unfolding(crate::specs::Schedules::steps_of))]
-fn push_line(alloc: Global, line: &[u8], steps: &mut Vec<Step>) -> Result<(), ScriptCause>
-    ensures { Answers (λ _. steps.new.items) result (with_line steps.old.items (steps_of line.now)) }
+fn line_of(alloc: Global, line: &[u8]) -> Result<Option<ScheduleLine>, ScriptCause>
+    ensures { Answers steps_if_any result (steps_of line.now) }
 {
     if is_skipped(line) {
-        return Ok(());
+        return Ok(None);
     }
     let (name, rest) = first_word(line);
     let Some(directive) = directive_of(name) else {
         return Err(ScriptCause::Directive);
     };
-    if let Directive::Miss = directive {
-        return push_miss(rest, steps);
-    }
-    let Some(fields) = fields_after::<MAX_FIELDS>(rest) else {
-        return Err(ScriptCause::Fields);
+    let line = if let Directive::Miss = directive {
+        missed(rest)
+    } else {
+        let Some(fields) = fields_after::<MAX_FIELDS>(rest) else {
+            return Err(ScriptCause::Fields);
+        };
+        said(alloc, directive, fields.as_slice())
     };
-    push_said(alloc, directive, fields.as_slice(), steps)
+    match line {
+        Ok(line) => Ok(Some(line)),
+        Err(cause) => Err(cause),
+    }
+}
+
+/// Appends what a line says, if it says something.
+///
+/// # Errors
+/// `Memory` where memory for it is refused.
+#[tactic(auto, using(crate::proofs::AllSteps::all_more, crate::proofs::AllSteps::none_more))]
+fn push_line(lines: &mut Vec<ScheduleLine>, line: Option<ScheduleLine>) -> Result<(), ScriptCause>
+    ensures ok { OnOk result (all_steps lines.new.items ≡ all_steps lines.old.items ++ steps_if_any line) }
+    ensures err { IfErr result (λ e. e ≡ ScriptCause.Memory) }
+{
+    let Some(line) = line else {
+        return Ok(());
+    };
+    match lines.push(line) {
+        Ok(()) => Ok(()),
+        Err(_) => Err(ScriptCause::Memory),
+    }
+}
+
+/// Reads what a line says behind the others.
+fn read_line(alloc: Global, text: &[u8], lines: &mut Vec<ScheduleLine>) -> Result<(), ScriptCause>
+    ensures { Answers (λ _. all_steps lines.new.items) result (with_line (all_steps lines.old.items) (steps_of text.now)) }
+{
+    match line_of(alloc, text) {
+        Ok(line) => push_line(lines, line),
+        Err(cause) => Err(cause),
+    }
+}
+
+/// Reads a schedule line by line: `tick N` is kept as it is written. `miss EID ..` is a tick that these nodes miss.
+///
+/// Work and memory are linear in the text, however many ticks it says.
+///
+/// # Errors
+/// The first line that is none, with the first of its faults; `Memory` where memory is refused.
+#[tactic(auto, using(crate::proofs::Steps::before_nothing, crate::proofs::Steps::steps_read, crate::proofs::Steps::fault_read))]
+pub fn read_lines(alloc: Global, text: &[u8]) -> Result<Vec<ScheduleLine>, ScriptFault>
+    ensures { ReadsAs (λ lines. all_steps lines.items) result (script_of text.now) }
+{
+    let mut lines = Vec::new(alloc);
+    let mut rest = text;
+    let mut line = 0;
+    while !rest.is_empty() {
+        let (first, after) = first_line(rest);
+        line += 1;
+        match read_line(alloc, first, &mut lines) {
+            Ok(()) => {}
+            Err(cause) => return Err(ScriptFault { line, cause }),
+        }
+        rest = after;
+    }
+    Ok(lines)
 }
 
 /// Reads a schedule: its steps in their order, of which `tick N` is N; `miss EID ..` is a tick that these nodes miss.
@@ -351,21 +382,18 @@ fn push_line(alloc: Global, line: &[u8], steps: &mut Vec<Step>) -> Result<(), Sc
 ///
 /// # Errors
 /// The first line that is none, with the first of its faults; `Memory` where memory is refused.
-#[tactic(auto, using(crate::proofs::Steps::before_nothing, crate::proofs::Steps::steps_read, crate::proofs::Steps::fault_read))]
 pub fn read_schedule(alloc: Global, text: &[u8]) -> Result<Vec<Step>, ScriptFault>
     ensures { ReadsAs (λ steps. steps.items) result (script_of text.now) }
 {
-    let mut steps = Vec::new(alloc);
-    let mut rest = text;
-    let mut line = 0;
-    while !rest.is_empty() {
-        let (first, after) = first_line(rest);
-        line += 1;
-        match push_line(alloc, first, &mut steps) {
-            Ok(()) => {}
-            Err(cause) => return Err(ScriptFault { line, cause }),
-        }
-        rest = after;
+    let lines = match read_lines(alloc, text) {
+        Ok(lines) => lines,
+        Err(fault) => return Err(fault),
+    };
+    match steps_of_all(alloc, lines) {
+        Ok(steps) => Ok(steps),
+        Err(_) => Err(ScriptFault {
+            line: 0,
+            cause: ScriptCause::Memory,
+        }),
     }
-    Ok(steps)
 }

@@ -1,3 +1,4 @@
 mod Leading
 mod Making
 mod Rooms
+mod Stocking

@@ -1,3 +1,4 @@
 pub mod ForecastLaws
 pub mod Forecasts
 pub mod Nodes
+pub mod Stocks

@@ -1,7 +1,6 @@
 //! What an update comes to, before it is begun: which components a device would take, and why it would take none.
 
 ghost use Rattle.std.specs.Prelude.{◌≡◌, ◌<◌, All, length, map, option_map};
-ghost use Rattle.fd_core.specs.Commands.{stamp_rule};
 ghost use Rattle.fd_core.specs.Images.{row_of};
 ghost use Rattle.fw_package.specs.Choice.{is_among, same_descriptor};
 ghost use Rattle.fw_package.specs.Lent.{component_seen};
@@ -12,28 +11,13 @@ ghost use Rattle.ua_core.specs.Lent.{is_forced, key_of, sent_stamp};
 ghost use Rattle.fw_setup.specs.Forecasts.{component_word, first_lacked, is_any_updated, is_updated, passed, plan_word, update_word};
 ghost use Rattle.fw_setup.specs.Nodes.{row_made};
 
-use fd_core::Key;
+use fd_core::{Key, stamp_restriction};
 use fw_package::{Component, Descriptor, Descriptors, Package, PlanFault};
 use fw_script::ComponentConfig;
 use fwup_wire::NO_STAMP;
 use fwup_wire::code::response::{
     COMPARISON_STAMP_IDENTICAL, COMPARISON_STAMP_LOWER, NO_RESTRICTION, NOT_SUPPORTED,
 };
-
-/// What stands against an image with this stamp, beside that of the image that runs.
-fn stamp_restriction(stamp: u32, active: u32) -> u8
-    ensures { result ≡ stamp_rule stamp active }
-{
-    if stamp == NO_STAMP || active == NO_STAMP {
-        NO_RESTRICTION
-    } else if stamp == active {
-        COMPARISON_STAMP_IDENTICAL
-    } else if stamp < active {
-        COMPARISON_STAMP_LOWER
-    } else {
-        NO_RESTRICTION
-    }
-}
 
 /// A component's key.
 pub fn key(component: Component<'_>) -> Key

@@ -6,6 +6,9 @@ mod forecast_laws;
 mod forecast_text;
 mod foretold;
 mod nodes;
+mod stocks;
+mod store_banks;
+mod stores;
 
 pub use banks::{Banks, BanksFault, MemBanks, mem_bank};
 pub use forecast_laws::foretells_sessions;
@@ -14,3 +17,6 @@ pub use foretold::{
     component_word, first_lacked, key, passed, plan_word, running, sent_stamp, update_word,
 };
 pub use nodes::{opening_world, opening_world_over};
+pub use stocks::{configured_images, stock};
+pub use store_banks::StoreBanks;
+pub use stores::{Stores, SystemStores, Unopened, open_stores, read_stores};

@@ -1,3 +1,4 @@
+mod Changes
 mod Decimals
 mod EachLine
 mod Ending

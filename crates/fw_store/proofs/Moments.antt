@@ -7,7 +7,7 @@ use Rattle.fd_core.specs.Banks.{AreApart, has_key}
 use Rattle.fd_core.specs.Images.{same_key}
 use Rattle.fwup_wire.specs.declared.values.Key.{Key}
 use Rattle.fw_store.specs.Active.{EntryOf, active_text, image_name}
-use Rattle.fw_store.specs.Folders.{Files, OnlyThere, Passes, Renamed, Unchanged, Wrote, active_name, new_name}
+use Rattle.fw_store.specs.Folders.{Files, IsMoment, OnlyThere, Passes, Renamed, Unchanged, Wrote, active_name, new_name}
 use Rattle.fw_store.specs.Keeping.{Apart, AreWritten, ButNew, Came, IsKey, IsPut, IsStopped, IsUnput, IsWriting, MayHaveCome, Put}
 use Rattle.fw_store.specs.Kept.{KeptOf}
 use Rattle.fw_store.proofs.Folders.{apart_image, apart_new, apart_self, active_not_new, keys_apart, no_new}
@@ -17,6 +17,11 @@ passes_none {P} past = record { states = []; is = refl; each = tt }
 
 pub passes_more : {P : Files → Type 0} {past before now : List Files} (f : Files) → Passes P past before → now ≡ f ∷ before → P f → Passes P past now
 passes_more {P} {past} {before} {now} f h is here = record { states = f ∷ h.states; is = is ∙ ap (λ fs. f ∷ fs) h.is; each = (here, h.each) }
+
+-- after a call
+pub passes_call : {P : Files → Type 0} {past before now : List Files} (f g : Files) → Passes P past before → IsMoment f g before now → P g → Passes P past now
+passes_call {P} {past} {before} {now} f g h (inl one) here = passes_more g h one here
+passes_call {P} {past} {before} {now} f g h (inr none) here = subst (λ fs. Passes P past fs) (sym none.0) h
 
 all_wider : {P Q : Files → Type 0} (states : List Files) → ((f : Files) → P f → Q f) → AllByRecursion P states → AllByRecursion Q states
 all_wider {P} {Q} [] wide all = tt
@@ -34,10 +39,10 @@ only_wrote : (f g : Files) (name bytes : List ℕ) → Wrote f g name bytes → 
 only_wrote f g name bytes h = record { others = h.others }
 
 pub stopped_more : (n : ℕ) (e f g : Files) (past before now : List Files) (key : Key) → n < 2 ^ 32 → IsKey key → IsStopped n e f past before
-    → OnlyThere f g (image_name key n) → now ≡ g ∷ before → IsStopped n e g past now
+    → OnlyThere f g (image_name key n) → IsMoment f g before now → IsStopped n e g past now
 stopped_more n e f g past before now key small known h only is =
     let apart : Apart n e g = apart_image n e f g key small known h.apart only in
-    record { apart = apart; passes = passes_more g h.passes is apart }
+    record { apart = apart; passes = passes_call f g h.passes is apart }
 
 not_same : (k x : KeptOf) → same_key k.key x.key ≡ false → x.key ≢ k.key
 not_same k x differ e =
@@ -61,7 +66,7 @@ keys_more (x ∷ front) k keys known = (keys.0, keys_more front k keys.1 known)
 
 pub writing_more : (n : ℕ) (e f g : Files) (past before now : List Files) (front : List KeptOf) (k : KeptOf) (rest : List KeptOf) → n < 2 ^ 32 → IsKey k.key
     → AreApart (map (λ (x : KeptOf). x.key) (front ++ k ∷ rest)) → IsWriting n front e f past before
-    → Wrote f g (image_name k.key n) k.image.bytes → now ≡ g ∷ before → IsWriting n (front ++ k ∷ []) e g past now
+    → Wrote f g (image_name k.key n) k.image.bytes → IsMoment f g before now → IsWriting n (front ++ k ∷ []) e g past now
 writing_more n e f g past before now front k rest small known apart h wrote is = record {
   stopped = stopped_more n e f g past before now k.key small known h.stopped (only_wrote f g (image_name k.key n) k.image.bytes wrote) is;
   keys = keys_more front k h.keys known;
@@ -99,7 +104,7 @@ pub came_through : (n : ℕ) (images : List KeptOf) (es : List EntryOf) (e f h :
 came_through n images es e f h past before now small writing is =
     let only : ButNew f is.between = record { others = is.wrote.others } in
     let between : MayHaveCome n images es e is.between = inl (apart_new n e f is.between small writing.stopped.apart only) in
-    passes_more h (passes_more is.between (stays writing.stopped.passes) refl between) is.moments (inr (came n images es e f h past before now small writing is))
+    passes_call is.between h (passes_call f is.between (stays writing.stopped.passes) is.first between) is.second (inr (came n images es e f h past before now small writing is))
 
 pub unput_apart : (n : ℕ) (e f h : Files) (past before now : List Files) → n < 2 ^ 32 → IsStopped n e f past before → IsUnput f h before now → Apart n e h
 unput_apart n e f h past before now small stopped is =
@@ -111,21 +116,22 @@ unput_through n images es e f h past before now small stopped is =
     let apart = apart_new n e f is.between small stopped.apart is.only in
     let first : MayHaveCome n images es e is.between = inl apart in
     let last : MayHaveCome n images es e h = inl (unchanged_apart n e is.between h apart is.same) in
-    elim is.moments [
-      | inl one ↦ passes_more is.between (stays stopped.passes) one first
-      | inr two ↦ passes_more h (passes_more is.between (stays stopped.passes) refl first) two last
+    let passed : Passes (MayHaveCome n images es e) past is.middle = passes_call f is.between (stays stopped.passes) is.first first in
+    elim is.second [
+      | inl one ↦ subst (λ fs. Passes (MayHaveCome n images es e) past fs) (sym one) passed
+      | inr two ↦ passes_call is.between h passed two last
     ]
 
 -- the two calls
-pub put_both : (f g h : Files) (text : List ℕ) (past before now : List Files) → Wrote f g new_name text → before ≡ g ∷ past → Renamed g h new_name active_name → now ≡ h ∷ before → IsPut text f h past now
-put_both f g h text past before now wrote first renamed second = record { between = g; wrote = wrote; renamed = renamed; moments = second ∙ ap (λ fs. h ∷ fs) first }
+pub put_both : (f g h : Files) (text : List ℕ) (past before now : List Files) → Wrote f g new_name text → IsMoment f g past before → Renamed g h new_name active_name → IsMoment g h before now → IsPut text f h past now
+put_both f g h text past before now wrote first renamed second = record { between = g; wrote = wrote; renamed = renamed; middle = before; first = first; second = second }
 
-pub unput_second : (f g h : Files) (text : List ℕ) (past before now : List Files) → Wrote f g new_name text → before ≡ g ∷ past → Unchanged g h → now ≡ h ∷ before → IsUnput f h past now
+pub unput_second : (f g h : Files) (text : List ℕ) (past before now : List Files) → Wrote f g new_name text → IsMoment f g past before → Unchanged g h → IsMoment g h before now → IsUnput f h past now
 unput_second f g h text past before now wrote first same second =
-    record { between = g; only = record { others = wrote.others }; same = same; moments = inr (second ∙ ap (λ fs. h ∷ fs) first) }
+    record { between = g; only = record { others = wrote.others }; same = same; middle = before; first = first; second = inr second }
 
-pub unput_first : (f g : Files) (past before : List Files) → OnlyThere f g new_name → before ≡ g ∷ past → IsUnput f g past before
-unput_first f g past before only first = record { between = g; only = but_new f g only; same = record { all = λ name. refl }; moments = inl first }
+pub unput_first : (f g : Files) (past before : List Files) → OnlyThere f g new_name → IsMoment f g past before → IsUnput f g past before
+unput_first f g past before only first = record { between = g; only = but_new f g only; same = record { all = λ name. refl }; middle = before; first = first; second = inl refl }
 
 pub ruleset putting = (put_both, unput_second, unput_first)
 
@@ -142,7 +148,7 @@ through_either n images es e f h past before now small writing (inr is) = came_t
 -- one image more, by its place
 pub writing_at : (n : ℕ) (e f g : Files) (past before now : List Files) (images : List KeptOf) (i : ℕ) (d : KeptOf) → i < length images → n < 2 ^ 32 → IsKey (get_or images i d).key
     → AreApart (map (λ (x : KeptOf). x.key) images) → IsWriting n (take i images) e f past before
-    → Wrote f g (image_name (get_or images i d).key n) (get_or images i d).image.bytes → now ≡ g ∷ before → IsWriting n (take (i + 1) images) e g past now
+    → Wrote f g (image_name (get_or images i d).key n) (get_or images i d).image.bytes → IsMoment f g before now → IsWriting n (take (i + 1) images) e g past now
 writing_at n e f g past before now images i d below small known apart h wrote is =
     let whole : images ≡ take i images ++ get_or images i d ∷ drop (i + 1) images = sym (take-append-drop i images) ∙ ap (λ ks. take i images ++ ks) (drop_more images i d below) in
     rw (take_more images i d below)

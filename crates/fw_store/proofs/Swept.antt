@@ -4,12 +4,12 @@ use Rattle.std.specs.List.{AllByRecursion}
 use Rattle.std.specs.Str.{bytes_eq}
 use Rattle.std.proofs.lemmas.List.{take_more}
 use Rattle.fw_store.specs.Active.{EntryOf, IsEntry, image_name}
-use Rattle.fw_store.specs.Folders.{Files, IsBefore, OnlyThere, Passes, active_name, image_by, images_of, lines_by, stored_in, with_image}
+use Rattle.fw_store.specs.Folders.{Files, IsBefore, IsMoment, OnlyThere, Passes, active_name, image_by, images_of, lines_by, stored_in, with_image}
 use Rattle.fw_store.specs.Keeping.{IsSettled, Settled}
 use Rattle.fw_store.specs.Kept.{KeptOf}
 use Rattle.fw_store.specs.Opening.{IsStray, IsUntouched, is_ours}
 use Rattle.fw_store.proofs.ReadBack.{bytes_same}
-use Rattle.fw_store.proofs.Moments.{passes_more, passes_none, passes_wider}
+use Rattle.fw_store.proofs.Moments.{passes_call, passes_none, passes_wider}
 
 all_push : (P : EntryOf → Type 0) (es : List EntryOf) (e : EntryOf) → AllByRecursion P es → P e → AllByRecursion P (es ++ e ∷ [])
 all_push P [] e all here = (here, tt)
@@ -49,8 +49,8 @@ untouched_more es f g h name before stray only = record {
 }
 
 pub swept_more : (es : List EntryOf) (f g h : Files) (name : List ℕ) (past before now : List Files) → IsUntouched es f g → IsStray es name → OnlyThere g h name
-    → Passes (IsUntouched es f) past before → now ≡ h ∷ before → Passes (IsUntouched es f) past now
-swept_more es f g h name past before now touched stray only passes is = passes_more h passes is (untouched_more es f g h name touched stray only)
+    → Passes (IsUntouched es f) past before → IsMoment g h before now → Passes (IsUntouched es f) past now
+swept_more es f g h name past before now touched stray only passes is = passes_call g h passes is (untouched_more es f g h name touched stray only)
 
 images_untouched : (f g : Files) (es : List EntryOf) → AllByRecursion (λ e. g (image_name e.key e.number) ≡ f (image_name e.key e.number)) es → images_of g es ≡ images_of f es
 images_untouched f g [] named = refl
@@ -91,4 +91,4 @@ below_more es i d n m below all more here = rw (take_more es i d below) (all_pus
 
 pub ruleset opening = (settled_swept, before_swept, passes_before, untouched_self)
 
-pub ruleset sweeping = (untouched_self, untouched_more, swept_more, passes_none)
+pub ruleset sweeping = (untouched_self, passes_none)

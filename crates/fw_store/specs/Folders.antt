@@ -93,6 +93,10 @@ pub record Renamed (before after : Files) (name place : List ℕ) : Type 0 where
 pub record Unchanged (before after : Files) : Type 0 where
   pub all : (name : List ℕ) → after name ≡ before name
 
+-- A call left one state more. Where it changed nothing, that needn't be one.
+abbrev pub IsMoment : (before after : Files) (past now : List Files) → Type 0
+IsMoment before after past now = (now ≡ after ∷ past) ⊎ ((now ≡ past) × Unchanged before after)
+
 -- the folder has been in some states more, each of which has P
 pub record Passes (P : Files → Type 0) (before after : List Files) : Type 0 where
   pub states : List Files

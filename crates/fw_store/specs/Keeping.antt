@@ -4,7 +4,7 @@ use Rattle.std.specs.List.{AllByRecursion}
 use Rattle.fw_package.specs.Crc.{crc_of}
 use Rattle.fwup_wire.specs.declared.values.Key.{Key}
 use Rattle.fw_store.specs.Active.{EntryOf, IsEntry, active_text, image_name}
-use Rattle.fw_store.specs.Folders.{Files, Passes, Renamed, Unchanged, Wrote, active_name, images_of, lines_by, new_name}
+use Rattle.fw_store.specs.Folders.{Files, IsMoment, Passes, Renamed, Unchanged, Wrote, active_name, images_of, lines_by, new_name}
 use Rattle.fw_store.specs.Kept.{KeptOf, image_for}
 
 -- a component's numbers of two bytes
@@ -80,14 +80,18 @@ pub record IsPut (text : List ℕ) (before after : Files) (past now : List Files
   pub between : Files
   pub wrote : Wrote before between new_name text
   pub renamed : Renamed between after new_name active_name
-  pub moments : now ≡ after ∷ between ∷ past
+  pub middle : List Files
+  pub first : IsMoment before between past middle
+  pub second : IsMoment between after middle now
 
 -- a text that didn't come there, in one call or in two
 pub record IsUnput (before after : Files) (past now : List Files) : Type 0 where
   pub between : Files
   pub only : ButNew before between
   pub same : Unchanged between after
-  pub moments : (now ≡ between ∷ past) ⊎ (now ≡ after ∷ between ∷ past)
+  pub middle : List Files
+  pub first : IsMoment before between past middle
+  pub second : (now ≡ middle) ⊎ IsMoment between after middle now
 
 -- what runs is as before, or these images run
 abbrev pub MayHaveCome : ℕ → List KeptOf → List EntryOf → Files → Files → Type 0

@@ -1,4 +1,5 @@
 pub mod Active
+pub mod Changes
 pub mod Folders
 pub mod Keeping
 pub mod Kept

@@ -1,7 +1,7 @@
 //! Folders of files.
 
-ghost use Rattle.std.specs.Prelude.{◌≡◌, ◌⊎◌, ◌∷◌, Bool, IfErr, IfOk, List, OnErr, OnOk, Option, option_map, true, ℕ};
-ghost use Rattle.fw_store.specs.Folders.{OnlyThere, Renamed, Unchanged, Wrote};
+ghost use Rattle.std.specs.Prelude.{◌≡◌, ◌⊎◌, Bool, IfErr, IfOk, List, OnErr, OnOk, Option, option_map, true, ℕ};
+ghost use Rattle.fw_store.specs.Folders.{IsMoment, OnlyThere, Renamed, Unchanged, Wrote};
 
 use std::alloc::Global;
 use thiserror::Error;
@@ -25,7 +25,7 @@ pub enum RenameFault {
 /// The files of one folder. A crash in a call leaves what an error of that call may leave.
 ///
 /// Where it is known what they hold, `files` are the bytes of each name, and `moments` the states that they have been in, one
-/// after each call that may write, the last one first.
+/// after each call that changed any, the last one first.
 pub trait Folder {
     ghost is_known: { Self → Bool };
 
@@ -48,7 +48,7 @@ pub trait Folder {
         ensures known { is_known self.new ≡ is_known self.old }
         ensures ok { OnOk result (is_known self.old ≡ true → Wrote (files self.old) (files self.new) name.now bytes.now) }
         ensures err { OnErr result (is_known self.old ≡ true → OnlyThere (files self.old) (files self.new) name.now) }
-        ensures moment { is_known self.old ≡ true → moments self.new ≡ files self.new ∷ moments self.old };
+        ensures moment { is_known self.old ≡ true → IsMoment (files self.old) (files self.new) (moments self.old) (moments self.new) };
 
     /// Gives a file another name, in the place of the file of that name, wholly or not at all, and puts that on the disk.
     ///
@@ -59,7 +59,7 @@ pub trait Folder {
         ensures ok { OnOk result (is_known self.old ≡ true → Renamed (files self.old) (files self.new) name.now place.now) }
         ensures unchanged { IfErr result (λ e. e ≡ RenameFault.Unchanged → is_known self.old ≡ true → Unchanged (files self.old) (files self.new)) }
         ensures unsure { IfErr result (λ e. e ≡ RenameFault.Unsure → is_known self.old ≡ true → Unchanged (files self.old) (files self.new) ⊎ Renamed (files self.old) (files self.new) name.now place.now) }
-        ensures moment { is_known self.old ≡ true → moments self.new ≡ files self.new ∷ moments self.old };
+        ensures moment { is_known self.old ≡ true → IsMoment (files self.old) (files self.new) (moments self.old) (moments self.new) };
 
     /// Removes a file.
     ///
@@ -68,7 +68,7 @@ pub trait Folder {
     fn remove(&mut self, name: &[u8]) -> Result<(), FolderFault>
         ensures known { is_known self.new ≡ is_known self.old }
         ensures others { is_known self.old ≡ true → OnlyThere (files self.old) (files self.new) name.now }
-        ensures moment { is_known self.old ≡ true → moments self.new ≡ files self.new ∷ moments self.old };
+        ensures moment { is_known self.old ≡ true → IsMoment (files self.old) (files self.new) (moments self.old) (moments self.new) };
 
     /// The names of its files.
     ///

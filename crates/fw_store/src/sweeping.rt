@@ -1,9 +1,9 @@
 //! Files that were left in a store's folder.
 
-ghost use Rattle.std.specs.Prelude.{◌≡◌, ◌≢◌, IfOk, false, true};
+ghost use Rattle.std.specs.Prelude.{◌≡◌, ◌≢◌, IfOk, List, false, true};
 ghost use Rattle.std.specs.List.{AllByRecursion};
 ghost use Rattle.fw_store.specs.Active.{image_name as name_of};
-ghost use Rattle.fw_store.specs.Folders.{Passes};
+ghost use Rattle.fw_store.specs.Folders.{Files, Passes};
 ghost use Rattle.fw_store.specs.Opening.{IsStray, IsUntouched, is_ours as has_our_name};
 
 use crate::entry::Entry;
@@ -51,6 +51,27 @@ fn is_stray(alloc: Global, entries: &[Entry], name: &[u8]) -> Result<bool, Alloc
     Ok(!is_named(alloc, entries, name)?)
 }
 
+/// Removes a file where it is one of this store that no line names. It stays where it can't be removed.
+fn sweep_one<F: Folder>(
+    alloc: Global,
+    folder: &mut F,
+    entries: &[Entry],
+    name: &[u8],
+) -> Result<(), AllocError>
+    ensures known { F.is_known folder.new ≡ F.is_known folder.old }
+    ensures untouched { F.is_known folder.old ≡ true → (first : Files) → IsUntouched entries.now first (F.files folder.old) → IsUntouched entries.now first (F.files folder.new) }
+    ensures moments { F.is_known folder.old ≡ true → (first : Files) (past : List Files) → IsUntouched entries.now first (F.files folder.old)
+        → Passes (IsUntouched entries.now first) past (F.moments folder.old) → Passes (IsUntouched entries.now first) past (F.moments folder.new) }
+{
+    match is_stray(alloc, entries, name) {
+        Ok(true) => {}
+        Ok(false) => return Ok(()),
+        Err(error) => return Err(error),
+    }
+    let _ = folder.remove(name);
+    Ok(())
+}
+
 /// Removes the files that no line names, among those of these names. One that can't be removed stays.
 #[tactic(auto, using(crate::proofs::Swept::sweeping))]
 pub(crate) fn sweep<F: Folder>(
@@ -64,11 +85,8 @@ pub(crate) fn sweep<F: Folder>(
     ensures moments { F.is_known folder.old ≡ true → Passes (IsUntouched entries.now (F.files folder.old)) (F.moments folder.old) (F.moments folder.new) }
 {
     for name in names {
-        match is_stray(alloc, entries, name) {
-            Ok(true) => {
-                let _ = folder.remove(name);
-            }
-            Ok(false) => {}
+        match sweep_one(alloc, folder, entries, name) {
+            Ok(()) => {}
             Err(error) => return Err(error),
         }
     }

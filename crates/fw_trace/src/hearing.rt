@@ -5,7 +5,7 @@ ghost use Rattle.mctp_reasm.specs.Pieces.{packet_of};
 ghost use Rattle.mctp_wire.specs.Units.{bytes_of};
 ghost use Rattle.fw_trace.specs.Hearings.{fed_in, held_in, no_assemblies};
 
-use mctp_reasm::{Fed, Inbox};
+use mctp_reasm::{Fed, Inbox, Message, Taken};
 use mctp_wire::{Packet, Unit};
 use std::marker::Model;
 
@@ -79,10 +79,16 @@ impl Hearing {
         ensures answer { result ≡ fed_in self.old.unit self.old.held (packet_of packet.now.head packet.now.body.now) }
         ensures after { self.new ≡ record self.old { held = held_in self.old.unit self.old.held (packet_of packet.now.head packet.now.body.now) } }
     {
-        if packet.head.to {
-            self.requests.feed(packet)
+        let mut whole = Message::blank();
+        let taken = if packet.head.to {
+            self.requests.feed(packet, &mut whole)
         } else {
-            self.replies.feed(packet)
+            self.replies.feed(packet, &mut whole)
+        };
+        match taken {
+            Taken::Open => Fed::Open,
+            Taken::Whole => Fed::Whole(whole),
+            Taken::Dropped(cause) => Fed::Dropped(cause),
         }
     }
 }

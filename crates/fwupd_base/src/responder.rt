@@ -13,7 +13,7 @@ use mctp_ctl::{CONTROL, Endpoint};
 use mctp_wire::{Head, RawPacket, Unit};
 use pldm_base::{
     HEADER_SIZE, MESSAGE_TYPE, PldmHead, Reply, Role, TYPE_BASE, TYPE_FIRMWARE_UPDATE, Tid,
-    answer_base, completion,
+    answer_base, code_alone, completion,
 };
 
 /// The transmission unit of the packets that are answered: the baseline (DSP0236, section 8.3).
@@ -148,13 +148,4 @@ impl Responder {
         };
         mctp_wire::encode(&head, answer, packet);
     }
-}
-
-/// An answer that ends at its code.
-fn code_alone(code: u8) -> Reply
-    ensures { result.items ≡ code ∷ [] }
-{
-    let mut reply = Reply::new();
-    reply.push(code);
-    reply
 }

@@ -5,6 +5,7 @@ mod Checks
 mod Ended
 mod Examined
 mod Foretold
+mod Happened
 mod Named
 mod Noted
 mod Packed

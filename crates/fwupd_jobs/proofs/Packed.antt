@@ -1,14 +1,13 @@
 -- Files that are read one after the other.
-use Rattle.std.proofs.Common.{◌≡◌, ◌≢◌, ◌≤◌, ◌<◌, ◌+◌, ◌++◌, ◌⊎◌, ◌∙◌, ℕ, zero, suc, Bool, List, [], ◌∷◌, false, true, Result, Ok, Err, IfOk, IsOk, inl, inr, length, map, take, get_or, Vec, String, Global, refl, sym, ap, subst, arith}
-use Rattle.std.specs.Prelude.{drop, string_bytes}
+use Rattle.std.proofs.Common.{◌≡◌, ◌≢◌, ◌≤◌, ◌<◌, ◌+◌, ◌++◌, ◌⊎◌, ◌∙◌, ℕ, zero, suc, Bool, List, [], ◌∷◌, false, true, Some, None, Result, Ok, Err, IfOk, IsOk, inl, inr, length, map, take, get_or, Vec, String, Global, refl, sym, ap, subst, arith}
+use Rattle.std.specs.Prelude.{IsSomeAnd, Option, drop, option_map, string_bytes}
 use Rattle.std.proofs.Math.Seq.{split_at, take-suc}
-use Rattle.std.proofs.lemmas.List.{length-map, map-append}
+use Rattle.std.proofs.lemmas.List.{append-nil, drop_all, length-map, map-append, take_all}
 use Rattle.std.specs.List.{AllByRecursion}
 use Rattle.fw_package.specs.Package.{PackageText}
 use Rattle.fw_package.specs.Reading.{package_of}
 use Rattle.fw_package.specs.declared.fault.PackageFault.{PackageFault}
-use Rattle.fw_node.specs.Nodes.{DeviceNodeOf}
-use Rattle.fw_script.specs.Configs.{config_of}
+use Rattle.fw_script.specs.Configs.{DeviceConfigOf, config_of}
 use Rattle.fw_script.specs.Seen.{config_seen, device_of}
 use Rattle.fw_script.specs.declared.config.Config.{Config}
 use Rattle.fw_script.specs.declared.faults.ScriptCause.{ScriptCause}
@@ -17,8 +16,10 @@ use Rattle.fw_script.specs.declared.faults.ScriptFault.{ScriptFault}
 use Rattle.fw_world.specs.Headline.{new_world}
 use Rattle.fw_world.specs.Worlds.{WorldOf}
 use Rattle.fw_setup.specs.Nodes.{nodes_made}
+use Rattle.fw_setup.specs.Stocks.{AreStocked, IsUnopened, StoresOf}
+use Rattle.fw_setup.specs.declared.stores.Unopened.{Unopened}
 use Rattle.fwupd_jobs.specs.Running.{IsApart, IsBarred, IsNamed, IsWatched, LacksTrace, ShowOf, WatchOf}
-use Rattle.fwupd_jobs.specs.Setups.{ArePackages, ArePacked, FileOf, IsOver, IsOverOne, IsPacked, IsSetup, IsUnreadable, IsUnsaid, MayHold, PackageFails, PackagesFail, Says, TextFails, TextFault, misread_by, misread_told, unread_told}
+use Rattle.fwupd_jobs.specs.Setups.{AreDevices, ArePackages, ArePacked, FileOf, IsOver, IsOverOne, IsPacked, IsSetup, IsUnreadable, IsUnsaid, MayHold, PackageFails, PackagesFail, Says, SourceOf, StoresFail, TellsUnopened, TextFails, TextFault, misread_by, misread_told, unread_told}
 use Rattle.fwupd_jobs.specs.declared.faults.RunFault.{RunFault}
 use Rattle.fwupd_jobs.specs.declared.faults.RunFault.TheVariants as faults
 use Rattle.fwupd_jobs.specs.declared.files.FileFault.{FileFault}
@@ -34,12 +35,14 @@ unsaid_so read path text file fault (faults.Text name told) h held is =
     (h.0, record { text = text; held = held; is = is h.2 ∙ ap Err (sym h.1) })
 unsaid_so read path text file fault (faults.Step n f) h held is = absurd h
 unsaid_so read path text file fault faults.NoPackage h held is = absurd h
+unsaid_so read path text file fault (faults.Store device why) h held is = absurd h
 unsaid_so read path text file fault (faults.Socket device) h held is = absurd h
 unsaid_so read path text file fault faults.Trace h held is = absurd h
 unsaid_so read path text file fault faults.Log h held is = absurd h
 unsaid_so read path text file fault faults.LogSize h held is = absurd h
 unsaid_so read path text file fault faults.Violation h held is = absurd h
 unsaid_so read path text file fault faults.Record h held is = absurd h
+unsaid_so read path text file fault faults.History h held is = absurd h
 unsaid_so read path text file fault (faults.Edge f) h held is = absurd h
 unsaid_so read path text file fault (faults.Session device word) h held is = absurd h
 unsaid_so read path text file fault faults.Output h held is = absurd h
@@ -184,23 +187,61 @@ pub packed_slice : (files : List ℕ → FileOf) (names : List (List ℕ)) (cont
 packed_slice files names contents slice h e =
     subst (λ fs. AllByRecursion (λ f. IsOk (package_of f.items)) fs) (sym e) (each_through contents (packed_each files names (map (λ f. f.items) contents) h))
 
--- a configuration's file with its packages is a world
-pub set_up : (files : List ℕ → FileOf) (path : List ℕ) (config : Config) (names : List (String Global)) (contents slice : List (Vec ℕ Global)) (ps packs : List PackageText)
-    (nodes : List DeviceNodeOf) (w : WorldOf) → Says config_of (files path) (config_seen config) → names ≡ config.packages.items
+-- the packages that a configuration names are there
+pub named_there : (files : List ℕ → FileOf) (config : Config) (names : List (String Global)) (contents slice : List (Vec ℕ Global)) (ps : List PackageText) → names ≡ config.packages.items
     → ArePacked files (map (λ p. string_bytes p) names) (map (λ f. f.items) contents) → slice ≡ contents → map (λ p. Ok p) ps ≡ map (λ f. package_of f.items) slice
-    → nodes ≡ nodes_made config.unit config.agent.eid (map device_of config.devices.items) → packs ≡ ps → w ≡ new_world config.agent nodes packs → IsSetup files path w
-set_up files path config names contents slice ps packs nodes w says named packed same read made lent is = record {
+    → ArePackages files (map (λ p. string_bytes p) config.packages.items) ps
+named_there files config names contents slice ps named packed same read =
+    packages_so files (map (λ p. string_bytes p) config.packages.items) (map (λ f. f.items) contents) ps
+    (subst (λ ns. ArePacked files (map (λ p. string_bytes p) ns) (map (λ f. f.items) contents)) named packed)
+    (read ∙ ap (map (λ f. package_of f.items)) same ∙ through contents)
+
+-- a configuration's file with its packages, and with what the stores of its devices keep, is a world
+pub set_up : (files : List ℕ → FileOf) (source : SourceOf) (config : Config) (ps packs : List PackageText) (devices : List DeviceConfigOf) (w : WorldOf)
+    → Says config_of (files source.path) (config_seen config) → ArePackages files (map (λ p. string_bytes p) config.packages.items) ps
+    → AreDevices source.stores (map device_of config.devices.items) devices → packs ≡ ps
+    → w ≡ new_world config.agent (nodes_made config.unit config.agent.eid devices) packs → IsSetup files source w
+set_up files source config ps packs devices w says are stocked lent is = record {
   config = config_seen config;
   packages = ps;
+  devices = devices;
   says = says;
-  are =
-      packages_so files (map (λ p. string_bytes p) config.packages.items) (map (λ f. f.items) contents) ps
-      (subst (λ ns. ArePacked files (map (λ p. string_bytes p) ns) (map (λ f. f.items) contents)) named packed)
-      (read ∙ ap (map (λ f. package_of f.items)) same ∙ through contents);
-  world =
-      is ∙ ap (λ n. new_world config.agent n packs) made
-      ∙ ap (λ q. new_world config.agent (nodes_made config.unit config.agent.eid (map device_of config.devices.items)) q) lent;
+  are = are;
+  stocked = stocked;
+  world = is ∙ ap (λ q. new_world config.agent (nodes_made config.unit config.agent.eid devices) q) lent;
 }
+
+-- or the store of a device isn't opened
+pub stores_fail : (files : List ℕ → FileOf) (source : SourceOf) (config : Config) (ps : List PackageText) (told : RunFault) → Says config_of (files source.path) (config_seen config)
+    → ArePackages files (map (λ p. string_bytes p) config.packages.items) ps → (told ≡ faults.Memory) ⊎ IsSomeAnd source.stores (λ s. TellsUnopened s (map device_of config.devices.items) told)
+    → (told ≡ faults.Memory) ⊎ StoresFail files source told
+stores_fail files source config ps told says are (inl e) = inl e
+stores_fail files source config ps told says are (inr u) = inr (record { config = config_seen config; says = says; packages = ps; are = are; unopened = u })
+
+-- what a vector holds that was written as a slice of its length
+pub all_written : {A : Type 0} (n : ℕ) (xs ys : List A) → length ys ≡ length xs → n ≡ length xs → take n (ys ++ drop (length ys) xs) ≡ ys
+all_written n xs ys long is =
+    ap (λ l. take n (ys ++ l)) (drop_all (length ys) xs (omega (arith, long))) ∙ ap (take n) (append-nil ys) ∙ take_all n ys (omega (arith, long, is))
+
+-- without a folder of stores the devices are the configured ones
+pub none_stocked : (stores : List ℕ → StoresOf) (root : Option (List ℕ)) (devices : List DeviceConfigOf) → root ≡ None → AreDevices (option_map stores root) devices devices
+none_stocked stores root devices e = subst (λ r. AreDevices (option_map stores r) devices devices) (sym e) refl
+
+-- and with one they are those that its stores make of them
+pub some_stocked : (stores : List ℕ → StoresOf) (root : Option (List ℕ)) (folder : List ℕ) (configured devices : List DeviceConfigOf) → root ≡ Some folder → AreStocked (stores folder) configured devices
+    → AreDevices (option_map stores root) configured devices
+some_stocked stores root folder configured devices e h = subst (λ r. AreDevices (option_map stores r) configured devices) (sym e) h
+
+pub some_unopened : (stores : List ℕ → StoresOf) (root : Option (List ℕ)) (folder : List ℕ) (configured : List DeviceConfigOf) (told : RunFault) → root ≡ Some folder
+    → (told ≡ faults.Memory) ⊎ TellsUnopened (stores folder) configured told
+    → (told ≡ faults.Memory) ⊎ IsSomeAnd (option_map stores root) (λ s. TellsUnopened s configured told)
+some_unopened stores root folder configured told e (inl memory) = inl memory
+some_unopened stores root folder configured told e (inr h) = inr (subst (λ r. IsSomeAnd (option_map stores r) (λ s. TellsUnopened s configured told)) (sym e) h)
+
+pub told_unopened : (s : StoresOf) (devices : List DeviceConfigOf) (u : Unopened) (told : RunFault) → (told ≡ faults.Memory) ⊎ (told ≡ faults.Store u.device u.why) → IsUnopened s devices u
+    → (told ≡ faults.Memory) ⊎ TellsUnopened s devices told
+told_unopened s devices u told (inl e) h = inl e
+told_unopened s devices u told (inr e) h = inr (subst (TellsUnopened s devices) (sym e) h)
 
 -- as many packages as there are files of them
 pub as_many : (files : List ℕ → FileOf) (paths : List (List ℕ)) (ps : List PackageText) → ArePackages files paths ps → length ps ≡ length paths
@@ -212,48 +253,52 @@ as_many files (path ∷ paths) (p ∷ ps) h = ap suc (as_many files paths ps h.1
 as_named : (config : Config) → length (map (λ p. string_bytes p) config.packages.items) ≡ config.packages.len
 as_named config = length-map config.packages.items (λ p. string_bytes p) ∙ sym config.packages.ok.0
 
--- where it names a package of this number
-named_up : (files : List ℕ → FileOf) (path : List ℕ) (number : ℕ) (config : Config) (w : WorldOf) (s : IsSetup files path w) → s.config ≡ config_seen config → 1 ≤ number → number ≤ config.packages.len → IsNamed files path number w
-named_up files path number config w s is counted there = record {
-  setup = s;
-  counted = counted;
-  there =
-      subst (λ n. number ≤ n)
-      (sym (ap (λ x. length x.packages) s.world ∙ as_many files s.config.packages s.packages s.are ∙ ap (λ k. length k.packages) is ∙ as_named config)) there;
+-- The world of a configuration that names these packages, one of which has this number.
+pub record NamedWith (files : List ℕ → FileOf) (source : SourceOf) (number : ℕ) (w : WorldOf) (names : List (List ℕ)) : Type 0 where
+  pub named : IsNamed files source number w
+  pub is : named.setup.config.packages ≡ names
+
+named_up : (files : List ℕ → FileOf) (source : SourceOf) (number : ℕ) (config : Config) (w : WorldOf) (s : IsSetup files source w) → s.config ≡ config_seen config → 1 ≤ number → number ≤ config.packages.len
+    → NamedWith files source number w (map (λ p. string_bytes p) config.packages.items)
+named_up files source number config w s is counted there = record {
+  named = record {
+    setup = s;
+    counted = counted;
+    there =
+        subst (λ n. number ≤ n)
+        (sym (ap (λ x. length x.packages) s.world ∙ as_many files s.config.packages s.packages s.are ∙ ap (λ k. length k.packages) is ∙ as_named config)) there;
+  };
+  is = ap (λ k. k.packages) is;
 }
 
-pub set_up_named : (files : List ℕ → FileOf) (path : List ℕ) (number : ℕ) (config : Config) (names : List (String Global)) (contents slice : List (Vec ℕ Global)) (ps packs : List PackageText)
-    (w : WorldOf) → Says config_of (files path) (config_seen config) → names ≡ config.packages.items
-    → ArePacked files (map (λ p. string_bytes p) names) (map (λ f. f.items) contents) → slice ≡ contents → map (λ p. Ok p) ps ≡ map (λ f. package_of f.items) slice
-    → packs ≡ ps → w ≡ new_world config.agent (nodes_made config.unit config.agent.eid (map device_of config.devices.items)) packs → 1 ≤ number → number ≤ config.packages.len → IsNamed files path number w
+pub named_with : (files : List ℕ → FileOf) (source : SourceOf) (number : ℕ) (config : Config) (ps packs : List PackageText) (devices : List DeviceConfigOf) (w : WorldOf)
+    → Says config_of (files source.path) (config_seen config) → ArePackages files (map (λ p. string_bytes p) config.packages.items) ps
+    → AreDevices source.stores (map device_of config.devices.items) devices → packs ≡ ps
+    → w ≡ new_world config.agent (nodes_made config.unit config.agent.eid devices) packs → 1 ≤ number → number ≤ config.packages.len
+    → NamedWith files source number w (map (λ p. string_bytes p) config.packages.items)
 unfolding set_up
-set_up_named files path number config names contents slice ps packs w says named packed same read lent is counted there =
-    named_up files path number config w (set_up files path config names contents slice ps packs _ w says named packed same read refl lent is) refl counted there
+named_with files source number config ps packs devices w says are stocked lent is counted there =
+    named_up files source number config w (set_up files source config ps packs devices w says are stocked lent is) refl counted there
+
+same_paths : (files : List ℕ → FileOf) (source : SourceOf) (number : ℕ) (w : WorldOf) (named : IsNamed files source number w) (path : List ℕ) (names : List (List ℕ)) → source.path ≡ path
+    → named.setup.config.packages ≡ names → source.path ∷ named.setup.config.packages ≡ path ∷ names
+same_paths files source number w named path names e same = ap (λ p. p ∷ named.setup.config.packages) e ∙ ap (λ ns. path ∷ ns) same
 
 -- where the packets are written over none of them
-pub watched_up : (files : List ℕ → FileOf) (path : List ℕ) (number : ℕ) (config : Config) (show : ShowOf) (names : List (String Global)) (contents slice : List (Vec ℕ Global)) (ps packs : List PackageText)
-    (w : WorldOf) → Says config_of (files path) (config_seen config) → names ≡ config.packages.items
-    → ArePacked files (map (λ p. string_bytes p) names) (map (λ f. f.items) contents) → slice ≡ contents → map (λ p. Ok p) ps ≡ map (λ f. package_of f.items) slice
-    → packs ≡ ps → w ≡ new_world config.agent (nodes_made config.unit config.agent.eid (map device_of config.devices.items)) packs → 1 ≤ number → number ≤ config.packages.len
-    → (others : List (String Global)) → others ≡ config.packages.items → IsApart files show (path ∷ map (λ p. string_bytes p) others) → IsWatched files path number show w
-unfolding set_up_named set_up named_up
-watched_up files path number config show names contents slice ps packs w says named packed same read lent is counted there others are apart = record {
-  named = set_up_named files path number config names contents slice ps packs w says named packed same read lent is counted there;
-  apart = subst (λ qs. IsApart files show (path ∷ map (λ p. string_bytes p) qs)) are apart;
+pub watched_by : (files : List ℕ → FileOf) (source : SourceOf) (number : ℕ) (show : ShowOf) (w : WorldOf) (named : IsNamed files source number w) (path : List ℕ) (names : List (List ℕ))
+    → source.path ≡ path → named.setup.config.packages ≡ names → IsApart files show (path ∷ names) → IsWatched files source number show w
+watched_by files source number show w named path names e same apart = record {
+  named = named;
+  apart = subst (IsApart files show) (sym (same_paths files source number w named path names e same)) apart;
 }
 
 -- where what looks on doesn't begin
-pub barred_up : (files : List ℕ → FileOf) (path : List ℕ) (number : ℕ) (config : Config) (show : ShowOf) (refuses : List ℕ → Bool) (told : RunFault) (watched : WatchOf) (names : List (String Global))
-    (contents slice : List (Vec ℕ Global)) (ps packs : List PackageText) (w : WorldOf) → Says config_of (files path) (config_seen config) → names ≡ config.packages.items
-    → ArePacked files (map (λ p. string_bytes p) names) (map (λ f. f.items) contents) → slice ≡ contents → map (λ p. Ok p) ps ≡ map (λ f. package_of f.items) slice
-    → packs ≡ ps → w ≡ new_world config.agent (nodes_made config.unit config.agent.eid (map device_of config.devices.items)) packs → 1 ≤ number → number ≤ config.packages.len
-    → (others : List (String Global)) → others ≡ config.packages.items
-    → (told ≡ faults.Memory) ⊎ IsBarred files refuses show (path ∷ map (λ p. string_bytes p) others) told watched
-    → (told ≡ faults.Memory) ⊎ LacksTrace files path number show refuses told watched
-unfolding set_up_named set_up named_up
-barred_up files path number config show refuses told watched names contents slice ps packs w says named packed same read lent is counted there others are (inl e) = inl e
-barred_up files path number config show refuses told watched names contents slice ps packs w says named packed same read lent is counted there others are (inr h) = inr (record {
+pub barred_by : (files : List ℕ → FileOf) (source : SourceOf) (number : ℕ) (show : ShowOf) (refuses : List ℕ → Bool) (told : RunFault) (watched : WatchOf) (w : WorldOf)
+    (named : IsNamed files source number w) (path : List ℕ) (names : List (List ℕ)) → source.path ≡ path → named.setup.config.packages ≡ names
+    → (told ≡ faults.Memory) ⊎ IsBarred files refuses show (path ∷ names) told watched → (told ≡ faults.Memory) ⊎ LacksTrace files source number show refuses told watched
+barred_by files source number show refuses told watched w named path names e same (inl memory) = inl memory
+barred_by files source number show refuses told watched w named path names e same (inr h) = inr (record {
   world = w;
-  named = set_up_named files path number config names contents slice ps packs w says named packed same read lent is counted there;
-  barred = subst (λ qs. IsBarred files refuses show (path ∷ map (λ p. string_bytes p) qs) told watched) are h;
+  named = named;
+  barred = subst (λ qs. IsBarred files refuses show qs told watched) (sym (same_paths files source number w named path names e same)) h;
 })

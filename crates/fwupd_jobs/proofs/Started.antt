@@ -35,9 +35,10 @@ take_next (y ∷ ys) (suc i) x e = ap (λ zs. y ∷ zs) (take_next ys i x e)
 pub record Begun (number : ℕ) (w : WorldOf) (place : ℕ) (v : WorldOf) : Type 0 where
   pub run : Run w (starts_of number (take place w.sites)) v
   pub same : v.sites ≡ w.sites
+  pub still : v.history ≡ w.history
 
 pub begun_none : (number : ℕ) (w : WorldOf) → Begun number w 0 w
-begun_none number w = record { run = refl; same = refl }
+begun_none number w = record { run = refl; same = refl; still = refl }
 
 abbrev start_of : ℕ → SiteOf → Step
 start_of number x = steps.Start x.node.endpoint.eid number
@@ -52,6 +53,7 @@ begun_more number w v u place x h e l = record {
       subst (λ ss. Run w ss u) (sym (starts_next number w.sites place x (ap (λ xs. slice_get xs place) (sym h.same) ∙ e)) ∙ ap (λ n. starts_of number (take n w.sites)) next)
       (run_append w v u (starts_of number (take place w.sites)) (start_of number x ∷ []) h.run (u, l, refl));
   same = ap (λ y. y.sites) l.after ∙ h.same;
+  still = ap (λ y. y.history) l.after ∙ h.still;
 }
 
 -- the device that stands at a place
@@ -179,6 +181,7 @@ pub watched_apart : (f : WatchFault) (e : EdgeFault) → told_by f ≡ told.Edge
 watched_apart watches.Unwritten e h = cc
 watched_apart watches.Unlogged e h = cc
 watched_apart watches.Unrecorded e h = cc
+watched_apart watches.Unkept e h = cc
 watched_apart watches.Memory e h = cc
 
 pub turned_apart : (e : EdgeFault) (fault : RunFault) (seen : Option WatchFault) → fault ≡ told_of e → IsUnwritten fault seen
@@ -195,6 +198,7 @@ pub unwritten_by : (f : WatchFault) (seen : Option WatchFault) (fault : RunFault
 unwritten_by watches.Unwritten seen fault e is = rw e is
 unwritten_by watches.Unlogged seen fault e is = rw e is
 unwritten_by watches.Unrecorded seen fault e is = rw e is
+unwritten_by watches.Unkept seen fault e is = rw e is
 unwritten_by watches.Memory seen fault e is = rw e tt
 
 -- and its first fault stays

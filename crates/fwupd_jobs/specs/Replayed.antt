@@ -12,7 +12,7 @@ use Rattle.fw_world.specs.declared.step.StepFault.{StepFault}
 use Rattle.fwupd_jobs.specs.Outputs.{FailsToPrint, OutputOf, Prints}
 use Rattle.fwupd_jobs.specs.Promises.{IsSafeSince}
 use Rattle.fwupd_jobs.specs.Running.{IsApart, IsBarred, ShowOf, WatchOf, shown_of, told_by}
-use Rattle.fwupd_jobs.specs.Setups.{FileOf, IsSetup, Says, SetupFails, TextFails}
+use Rattle.fwupd_jobs.specs.Setups.{FileOf, IsSetup, Says, SetupFails, SourceOf, StoresFail, TextFails}
 use Rattle.fwupd_jobs.specs.declared.running.WatchFault.{WatchFault}
 use Rattle.fwupd_jobs.specs.declared.faults.RunFault.{RunFault}
 use Rattle.fwupd_jobs.specs.declared.faults.RunFault.TheVariants as faults
@@ -30,7 +30,7 @@ pub record IsReplayed (w : WorldOf) (steps : List Step) (fault : Option (ℕ × 
   pub report : text ≡ report_in form world
 
 -- The report of what the steps in a schedule's file leave of the world that a configuration's file is of.
-pub record IsReport (files : List ℕ → FileOf) (config schedule : List ℕ) (form : Form) (fault : Option (ℕ × StepFault)) (text : List ℕ) : Type 0 where
+pub record IsReport (files : List ℕ → FileOf) (config : SourceOf) (schedule : List ℕ) (form : Form) (fault : Option (ℕ × StepFault)) (text : List ℕ) : Type 0 where
   pub world : WorldOf
   pub setup : IsSetup files config world
   pub steps : List Step
@@ -38,20 +38,20 @@ pub record IsReport (files : List ℕ → FileOf) (config schedule : List ℕ) (
   pub replayed : IsReplayed world steps fault form text
 
 -- It is written.
-pub record Reports (files : List ℕ → FileOf) (config schedule : List ℕ) (form : Form) (fault : Option (ℕ × StepFault)) (before now : OutputOf) : Type 0 where
+pub record Reports (files : List ℕ → FileOf) (config : SourceOf) (schedule : List ℕ) (form : Form) (fault : Option (ℕ × StepFault)) (before now : OutputOf) : Type 0 where
   pub text : List ℕ
   pub report : IsReport files config schedule form fault text
   pub written : Prints before now text
 
 -- It is, and a step, numbered from 1, isn't taken.
-pub record ReportsStep (files : List ℕ → FileOf) (config schedule : List ℕ) (form : Form) (told : RunFault) (before now : OutputOf) : Type 0 where
+pub record ReportsStep (files : List ℕ → FileOf) (config : SourceOf) (schedule : List ℕ) (form : Form) (told : RunFault) (before now : OutputOf) : Type 0 where
   pub place : ℕ
   pub fault : StepFault
   pub is : told ≡ faults.Step (place + 1) fault
   pub reports : Reports files config schedule form (Some (place, fault)) before now
 
 -- A beginning of it is.
-pub record BreaksOff (files : List ℕ → FileOf) (config schedule : List ℕ) (form : Form) (told : RunFault) (before now : OutputOf) : Type 0 where
+pub record BreaksOff (files : List ℕ → FileOf) (config : SourceOf) (schedule : List ℕ) (form : Form) (told : RunFault) (before now : OutputOf) : Type 0 where
   pub is : told ≡ faults.Output
   pub fault : Option (ℕ × StepFault)
   pub text : List ℕ
@@ -59,19 +59,19 @@ pub record BreaksOff (files : List ℕ → FileOf) (config schedule : List ℕ) 
   pub begun : FailsToPrint before now text
 
 -- the world is there, and the schedule isn't
-pub record ScheduleFails (files : List ℕ → FileOf) (config schedule : List ℕ) (told : RunFault) : Type 0 where
+pub record ScheduleFails (files : List ℕ → FileOf) (config : SourceOf) (schedule : List ℕ) (told : RunFault) : Type 0 where
   pub world : WorldOf
   pub setup : IsSetup files config world
   pub fails : TextFails script_of files schedule told
 
 -- Nothing that looks on writes is written over one of the files that a replay reads.
-pub record IsReplayApart (files : List ℕ → FileOf) (config schedule : List ℕ) (show : ShowOf) : Type 0 where
+pub record IsReplayApart (files : List ℕ → FileOf) (config : SourceOf) (schedule : List ℕ) (show : ShowOf) : Type 0 where
   pub says : ConfigOf
-  pub is : Says config_of (files config) says
-  pub apart : IsApart files show (schedule ∷ config ∷ says.packages)
+  pub is : Says config_of (files config.path) says
+  pub apart : IsApart files show (schedule ∷ config.path ∷ says.packages)
 
 -- The report is written, and what looks on showed what it is to show, had no fault, and was let end.
-pub record ReportsReplay (files : List ℕ → FileOf) (config schedule : List ℕ) (show : ShowOf) (watched : WatchOf) (before now : OutputOf) : Type 0 where
+pub record ReportsReplay (files : List ℕ → FileOf) (config : SourceOf) (schedule : List ℕ) (show : ShowOf) (watched : WatchOf) (before now : OutputOf) : Type 0 where
   pub reports : Reports files config schedule show.form None before now
   pub apart : IsReplayApart files config schedule show
   pub shown : watched.shows ≡ shown_of show
@@ -79,7 +79,7 @@ pub record ReportsReplay (files : List ℕ → FileOf) (config schedule : List �
   pub let_end : watched.has_ended ≡ true
 
 -- The report is written of all steps, and what looks on had a fault, which is told.
-pub record ReportsUnseen (files : List ℕ → FileOf) (config schedule : List ℕ) (show : ShowOf) (told : RunFault) (watched : WatchOf) (before now : OutputOf) : Type 0 where
+pub record ReportsUnseen (files : List ℕ → FileOf) (config : SourceOf) (schedule : List ℕ) (show : ShowOf) (told : RunFault) (watched : WatchOf) (before now : OutputOf) : Type 0 where
   pub reports : Reports files config schedule show.form None before now
   pub fault : WatchFault
   pub is : told ≡ told_by fault
@@ -87,19 +87,19 @@ pub record ReportsUnseen (files : List ℕ → FileOf) (config schedule : List �
   pub let_end : watched.has_ended ≡ true
 
 -- Nothing is replayed: a file that was read would be written over, or the file to be written is refused.
-pub record LacksKept (files : List ℕ → FileOf) (config schedule : List ℕ) (show : ShowOf) (refuses : List ℕ → Bool) (told : RunFault) (watched : WatchOf) (before now : OutputOf) : Type 0 where
+pub record LacksKept (files : List ℕ → FileOf) (config : SourceOf) (schedule : List ℕ) (show : ShowOf) (refuses : List ℕ → Bool) (told : RunFault) (watched : WatchOf) (before now : OutputOf) : Type 0 where
   pub kept : now ≡ before
   pub says : ConfigOf
-  pub is : Says config_of (files config) says
-  pub barred : IsBarred files refuses show (schedule ∷ config ∷ says.packages) told watched
+  pub is : Says config_of (files config.path) says
+  pub barred : IsBarred files refuses show (schedule ∷ config.path ∷ says.packages) told watched
 
--- Nothing is written: memory was refused, or one of the files isn't what it should be, the first in their order.
-pub record StopsBefore (files : List ℕ → FileOf) (config schedule : List ℕ) (told : RunFault) (before now : OutputOf) : Type 0 where
+-- Nothing is written: memory was refused, or one of the files isn't what it should be, the first in their order, or a store of a device.
+pub record StopsBefore (files : List ℕ → FileOf) (config : SourceOf) (schedule : List ℕ) (told : RunFault) (before now : OutputOf) : Type 0 where
   pub kept : now ≡ before
-  pub cause : (told ≡ faults.Memory) ⊎ (SetupFails files config told ⊎ ScheduleFails files config schedule told)
+  pub cause : (told ≡ faults.Memory) ⊎ (SetupFails files config.path told ⊎ (StoresFail files config told ⊎ ScheduleFails files config schedule told))
 
 -- How a replay ends that doesn't end well.
-abbrev pub ReplayEnds : (files : List ℕ → FileOf) (config schedule : List ℕ) (show : ShowOf) (refuses : List ℕ → Bool) (told : RunFault) (watched : WatchOf) (before now : OutputOf) → Type 0
+abbrev pub ReplayEnds : (files : List ℕ → FileOf) (config : SourceOf) (schedule : List ℕ) (show : ShowOf) (refuses : List ℕ → Bool) (told : RunFault) (watched : WatchOf) (before now : OutputOf) → Type 0
 ReplayEnds files config schedule show refuses told watched before now =
     ReportsStep files config schedule show.form told before now
     ⊎ (BreaksOff files config schedule show.form told before now

@@ -13,11 +13,12 @@ use Rattle.mctp_wire.specs.declared.unit.Unit.{«Unit»}
 use Rattle.fw_world.specs.declared.step.StepFault.{StepFault}
 use Rattle.fw_world.specs.declared.step.Step.{Step}
 use Rattle.fw_world.specs.declared.step.Step.TheVariants as steps
+use Rattle.fwupd_jobs.specs.Histories.{AreKeptUp, HistoryOf}
 use Rattle.fwupd_jobs.specs.Outputs.{FailsToPrint, OutputOf, Prints}
 use Rattle.fwupd_jobs.specs.Promises.{IsSafeSince}
 use Rattle.fwupd_jobs.specs.Recordings.{IsRecorded, RecordingOf}
 use Rattle.fwupd_jobs.specs.Sessions.{undone_in}
-use Rattle.fwupd_jobs.specs.Setups.{FileOf, IsApartFrom, IsOver, IsOverOne, IsSetup, LacksPackage, SetupFails}
+use Rattle.fwupd_jobs.specs.Setups.{FileOf, IsApartFrom, IsOver, IsOverOne, IsSetup, LacksPackage, SetupFails, SourceOf, StoresFail}
 use Rattle.fwupd_words.specs.declared.asked.Show.{Show}
 use Rattle.fwupd_words.specs.declared.asked.TraceForm.{TraceForm}
 use Rattle.fwupd_jobs.specs.declared.faults.RunFault.{RunFault}
@@ -69,6 +70,7 @@ IsBroken (faults.Edge edges.Step) = Prim.Unit {0}
 IsBroken faults.Trace = Prim.Unit {0}
 IsBroken faults.Log = Prim.Unit {0}
 IsBroken faults.Record = Prim.Unit {0}
+IsBroken faults.History = Prim.Unit {0}
 IsBroken fault = ⊥
 
 -- how a run is told of that ends within a turn
@@ -81,6 +83,7 @@ abbrev pub told_by : WatchFault → RunFault
 told_by watches.Unwritten = faults.Trace
 told_by watches.Unlogged = faults.Log
 told_by watches.Unrecorded = faults.Record
+told_by watches.Unkept = faults.History
 told_by watches.Memory = faults.Memory
 
 -- the fault of what looks on that is told so, if one is told so alone
@@ -88,6 +91,7 @@ abbrev pub watch_of : RunFault → Option WatchFault
 watch_of faults.Trace = Some watches.Unwritten
 watch_of faults.Log = Some watches.Unlogged
 watch_of faults.Record = Some watches.Unrecorded
+watch_of faults.History = Some watches.Unkept
 watch_of fault = None
 
 -- Where what looks on can't write a file of its own, it has that fault.
@@ -112,13 +116,15 @@ abbrev pub MayEnd : RunFault → Type 0
 MayEnd fault = (fault ≡ faults.Memory) ⊎ IsBroken fault
 
 -- What is shown of a run: whether it is to be without progress, the path of the file that its packets are written to, if any, and in
--- which form, and those of the files of its log's records and of its steps, if any.
+-- which form, those of the files of its log's records and of its steps, if any, and that of the folder of stores in whose history it is
+-- written what happens, if any.
 pub record ShowOf : Type 0 where
   pub is_quiet : Bool
   pub trace : Option (List ℕ)
   pub trace_form : TraceForm
   pub log : Option (List ℕ)
   pub record_path : Option (List ℕ)
+  pub history : Option (List ℕ)
   pub form : Form
 
 -- what the words of a command line ask to be shown
@@ -129,21 +135,24 @@ show_of s = record {
   trace_form = s.trace_form;
   log = option_map (λ path. path.now) s.log;
   record_path = option_map (λ path. path.now) s.record;
+  history = option_map (λ path. path.now) s.history;
   form = s.form;
 }
 
 -- What looks on shows so much: no progress where it is to be quiet, the packets in a form where they are written to a file, and the
--- log's records and the steps where they are.
+-- log's records, the steps, and what happens where they are.
 pub record ShownOf : Type 0 where
   pub is_quiet : Bool
   pub traced : Option TraceForm
   pub is_logged : Bool
   pub is_recorded : Bool
+  pub has_history : Bool
 
--- what is shown where there is progress or not, it is to be quiet or not, and there is a trace of a form, a log, and a recording, or not
-abbrev pub shown_by : (has_progress is_quiet : Bool) → (traced : Option TraceForm) → (is_logged is_recorded : Bool) → ShownOf
-shown_by has_progress is_quiet traced is_logged is_recorded =
-    record { is_quiet = if has_progress then false else is_quiet; traced = traced; is_logged = is_logged; is_recorded = is_recorded }
+-- what is shown where there is progress or not, it is to be quiet or not, and there is a trace of a form, a log, a recording, and a
+-- history, or not
+abbrev pub shown_by : (has_progress is_quiet : Bool) → (traced : Option TraceForm) → (is_logged is_recorded has_history : Bool) → ShownOf
+shown_by has_progress is_quiet traced is_logged is_recorded has_history =
+    record { is_quiet = if has_progress then false else is_quiet; traced = traced; is_logged = is_logged; is_recorded = is_recorded; has_history = has_history }
 
 -- what is shown where this is asked for
 abbrev pub shown_of : ShowOf → ShownOf
@@ -152,10 +161,11 @@ shown_of show = record {
   traced = option_map (λ _. show.trace_form) show.trace;
   is_logged = is_some show.log;
   is_recorded = is_some show.record_path;
+  has_history = is_some show.history;
 }
 
 -- What looks on: its first fault, if it had one, what it shows, whether it was let end, how many turns it saw, the device whose link it
--- was told of as failed, if any, and what it has written of the steps, if they are recorded.
+-- was told of as failed, if any, what it has written of the steps, if they are recorded, and of what happened, if there is a history.
 pub record WatchOf : Type 0 where
   pub fault : Option WatchFault
   pub shows : ShownOf
@@ -163,6 +173,7 @@ pub record WatchOf : Type 0 where
   pub seen : ℕ
   pub lost : Option ℕ
   pub recording : Option RecordingOf
+  pub history : Option HistoryOf
 
 -- A file that is written, if one is, is over one of these, or over one of two others that are written; and it is over none.
 abbrev pub IsOverUsed : (files : List ℕ → FileOf) (path first second : Option (List ℕ)) (paths : List (List ℕ)) → Type 0
@@ -192,6 +203,7 @@ abbrev pub MayRefuse : (refuses : List ℕ → Bool) → ShowOf → RunFault →
 MayRefuse refuses show faults.Trace = IsSomeAnd show.trace (λ path. refuses path ≡ true)
 MayRefuse refuses show faults.Log = IsSomeAnd show.log (λ path. refuses path ≡ true)
 MayRefuse refuses show faults.Record = IsSomeAnd show.record_path (λ path. refuses path ≡ true)
+MayRefuse refuses show faults.History = IsSomeAnd show.history (λ path. refuses path ≡ true)
 MayRefuse refuses show told = ⊥
 
 -- What looks on doesn't begin, and tells so.
@@ -244,20 +256,20 @@ DrivingEnds number form lacks w v told watched before now =
     ⊎ (((told ≡ faults.Output) × FailsToPrint before now (report_in form v)) ⊎ (((told ≡ faults.Memory) ⊎ IsUnlinked w lacks told) × (now ≡ before)))
 
 -- The world of a configuration that names a package of this number, from 1 on.
-pub record IsNamed (files : List ℕ → FileOf) (config : List ℕ) (number : ℕ) (w : WorldOf) : Type 0 where
+pub record IsNamed (files : List ℕ → FileOf) (config : SourceOf) (number : ℕ) (w : WorldOf) : Type 0 where
   pub setup : IsSetup files config w
   pub counted : 1 ≤ number
   pub there : number ≤ length w.packages
 
 -- The world of a configuration over none of whose files anything is written.
-pub record IsWatched (files : List ℕ → FileOf) (config : List ℕ) (number : ℕ) (show : ShowOf) (w : WorldOf) : Type 0 where
+pub record IsWatched (files : List ℕ → FileOf) (config : SourceOf) (number : ℕ) (show : ShowOf) (w : WorldOf) : Type 0 where
   pub named : IsNamed files config number w
-  pub apart : IsApart files show (config ∷ named.setup.config.packages)
+  pub apart : IsApart files show (config.path ∷ named.setup.config.packages)
 
 -- The report is written of what an update leaves of the world that a configuration's file is of, and what looks on showed what it
 -- is to show, saw each turn, had no fault, was told of no link, and was let end. This session of that world is the first that isn't
 -- Done, or none is.
-pub record ReportsUpdate (files : List ℕ → FileOf) (config : List ℕ) (number : ℕ) (show : ShowOf) (watched : WatchOf) (before now : OutputOf) (undone : Option Undone) : Type 0 where
+pub record ReportsUpdate (files : List ℕ → FileOf) (config : SourceOf) (number : ℕ) (show : ShowOf) (watched : WatchOf) (before now : OutputOf) (undone : Option Undone) : Type 0 where
   pub world : WorldOf
   pub begins : IsWatched files config number show world
   pub shown : watched.shows ≡ shown_of show
@@ -270,10 +282,11 @@ pub record ReportsUpdate (files : List ℕ → FileOf) (config : List ℕ) (numb
   pub let_end : watched.has_ended ≡ true
   pub undone_is : undone ≡ undone_in left
   pub recorded : IfSome watched.recording (IsRecorded world left)
+  pub kept_up : AreKeptUp watched.history left.history
   pub written : Prints before now (report_in show.form left)
 
 -- It is written of what was reached, and where a link failed, what looks on was told whose.
-pub record ReportsReached (files : List ℕ → FileOf) (config : List ℕ) (number : ℕ) (show : ShowOf) (told : RunFault) (watched : WatchOf) (before now : OutputOf) : Type 0 where
+pub record ReportsReached (files : List ℕ → FileOf) (config : SourceOf) (number : ℕ) (show : ShowOf) (told : RunFault) (watched : WatchOf) (before now : OutputOf) : Type 0 where
   pub world : WorldOf
   pub begins : IsWatched files config number show world
   pub shown : watched.shows ≡ shown_of show
@@ -286,7 +299,7 @@ pub record ReportsReached (files : List ℕ → FileOf) (config : List ℕ) (num
   pub written : Prints before now (report_in show.form left)
 
 -- A beginning of it is.
-pub record BreaksReport (files : List ℕ → FileOf) (config : List ℕ) (number : ℕ) (show : ShowOf) (told : RunFault) (before now : OutputOf) : Type 0 where
+pub record BreaksReport (files : List ℕ → FileOf) (config : SourceOf) (number : ℕ) (show : ShowOf) (told : RunFault) (before now : OutputOf) : Type 0 where
   pub is : told ≡ faults.Output
   pub world : WorldOf
   pub begins : IsWatched files config number show world
@@ -296,27 +309,27 @@ pub record BreaksReport (files : List ℕ → FileOf) (config : List ℕ) (numbe
   pub begun : FailsToPrint before now (report_in show.form left)
 
 -- Before a link is opened, what looks on doesn't begin.
-pub record LacksTrace (files : List ℕ → FileOf) (config : List ℕ) (number : ℕ) (show : ShowOf) (refuses : List ℕ → Bool) (told : RunFault) (watched : WatchOf) : Type 0 where
+pub record LacksTrace (files : List ℕ → FileOf) (config : SourceOf) (number : ℕ) (show : ShowOf) (refuses : List ℕ → Bool) (told : RunFault) (watched : WatchOf) : Type 0 where
   pub world : WorldOf
   pub named : IsNamed files config number world
-  pub barred : IsBarred files refuses show (config ∷ named.setup.config.packages) told watched
+  pub barred : IsBarred files refuses show (config.path ∷ named.setup.config.packages) told watched
 
 -- No link to a device of the configuration is opened.
-pub record LacksLink (files : List ℕ → FileOf) (config : List ℕ) (number : ℕ) (show : ShowOf) (lacks : ℕ → Bool) (told : RunFault) : Type 0 where
+pub record LacksLink (files : List ℕ → FileOf) (config : SourceOf) (number : ℕ) (show : ShowOf) (lacks : ℕ → Bool) (told : RunFault) : Type 0 where
   pub world : WorldOf
   pub begins : IsWatched files config number show world
   pub unlinked : IsUnlinked world lacks told
 
--- Nothing is written: memory was refused, or there is no world, no package, no trace or no link.
-pub record ReportsNothing (files : List ℕ → FileOf) (config : List ℕ) (number : ℕ) (show : ShowOf) (refuses : List ℕ → Bool) (lacks : ℕ → Bool) (told : RunFault) (watched : WatchOf) (before now : OutputOf) : Type 0 where
+-- Nothing is written: memory was refused, or there is no world, no package, no store, no trace or no link.
+pub record ReportsNothing (files : List ℕ → FileOf) (config : SourceOf) (number : ℕ) (show : ShowOf) (refuses : List ℕ → Bool) (lacks : ℕ → Bool) (told : RunFault) (watched : WatchOf) (before now : OutputOf) : Type 0 where
   pub kept : now ≡ before
   pub cause :
       (told ≡ faults.Memory)
-      ⊎ (SetupFails files config told
-      ⊎ (((told ≡ faults.NoPackage) × LacksPackage files config number) ⊎ (LacksTrace files config number show refuses told watched ⊎ LacksLink files config number show lacks told)))
+      ⊎ (SetupFails files config.path told
+      ⊎ (((told ≡ faults.NoPackage) × LacksPackage files config.path number) ⊎ (StoresFail files config told ⊎ (LacksTrace files config number show refuses told watched ⊎ LacksLink files config number show lacks told))))
 
 -- How an update ends that doesn't end well.
-abbrev pub UpdateEnds : (files : List ℕ → FileOf) (config : List ℕ) (number : ℕ) (show : ShowOf) (refuses : List ℕ → Bool) (lacks : ℕ → Bool) (told : RunFault) (watched : WatchOf) (before now : OutputOf) → Type 0
+abbrev pub UpdateEnds : (files : List ℕ → FileOf) (config : SourceOf) (number : ℕ) (show : ShowOf) (refuses : List ℕ → Bool) (lacks : ℕ → Bool) (told : RunFault) (watched : WatchOf) (before now : OutputOf) → Type 0
 UpdateEnds files config number show refuses lacks told watched before now =
     ReportsReached files config number show told watched before now
     ⊎ (BreaksReport files config number show told before now ⊎ ReportsNothing files config number show refuses lacks told watched before now)

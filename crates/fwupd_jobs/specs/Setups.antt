@@ -1,16 +1,17 @@
 -- What the jobs on worlds begin with: the configuration in a file, and the packages in the files that it names.
 use Rattle.std.specs.Global.{Global}
-use Rattle.std.specs.Prelude.{ℕ, ◌≡◌, ◌≢◌, ◌<◌, ◌++◌, ◌⊎◌, Bool, true, List, [], ◌∷◌, Option, None, Some, Result, Ok, Err, IfSome, IsOk, String, length, string_bytes}
+use Rattle.std.specs.Prelude.{ℕ, ◌≡◌, ◌≢◌, ◌<◌, ◌++◌, ◌⊎◌, Bool, true, false, List, [], ◌∷◌, Option, None, Some, Result, Ok, Err, IfSome, IsOk, IsSomeAnd, String, length, option_map, string_bytes}
 use Rattle.fw_package.specs.Package.{PackageText}
 use Rattle.fw_package.specs.Reading.{package_of}
 use Rattle.fw_package.specs.declared.fault.PackageFault.{PackageFault}
-use Rattle.fw_script.specs.Configs.{ConfigOf, config_of}
+use Rattle.fw_script.specs.Configs.{ConfigOf, DeviceConfigOf, config_of}
 use Rattle.fw_script.specs.declared.faults.ScriptCause.{ScriptCause}
 use Rattle.fw_script.specs.declared.faults.ScriptCause.TheVariants as causes
 use Rattle.fw_script.specs.declared.faults.ScriptFault.{ScriptFault}
 use Rattle.fw_world.specs.Headline.{new_world}
 use Rattle.fw_world.specs.Worlds.{WorldOf}
 use Rattle.fw_setup.specs.Nodes.{nodes_made}
+use Rattle.fw_setup.specs.Stocks.{AreStocked, IsUnopened, StoresOf}
 use Rattle.fwupd_jobs.specs.declared.faults.RunFault.{RunFault}
 use Rattle.fwupd_jobs.specs.declared.faults.RunFault.TheVariants as faults
 use Rattle.fwupd_jobs.specs.declared.files.FileFault.{FileFault}
@@ -160,13 +161,33 @@ pub record PackagesFail (files : List ℕ → FileOf) (paths : List (List ℕ)) 
   pub read : ArePackages files before packages
   pub fails : PackageFails files path fault
 
--- a configuration's file, its packages, and the world that they are of before its first step
-pub record IsSetup (files : List ℕ → FileOf) (path : List ℕ) (w : WorldOf) : Type 0 where
+-- What nodes are made of: the configuration in the file of a path, and what is known of the stores of its devices, where they have some.
+pub record SourceOf : Type 0 where
+  pub path : List ℕ
+  pub stores : Option StoresOf
+
+-- stores of which nothing is known
+abbrev pub any_stores : StoresOf
+any_stores = record { is_known = false; files = λ device name. None }
+
+-- a configuration with the stores in a folder, where one is named
+abbrev pub source_of : ((root : List ℕ) → StoresOf) → (root : Option (List ℕ)) → (path : List ℕ) → SourceOf
+source_of stores root path = record { path = path; stores = option_map stores root }
+
+-- the devices of a configuration, with what their stores keep, where they have some
+abbrev pub AreDevices : Option StoresOf → (configured devices : List DeviceConfigOf) → Type 0
+AreDevices None configured devices = devices ≡ configured
+AreDevices (Some s) configured devices = AreStocked s configured devices
+
+-- a configuration's file, its packages, what the stores of its devices keep, and the world that they are of before its first step
+pub record IsSetup (files : List ℕ → FileOf) (source : SourceOf) (w : WorldOf) : Type 0 where
   pub config : ConfigOf
   pub packages : List PackageText
-  pub says : Says config_of (files path) config
+  pub devices : List DeviceConfigOf
+  pub says : Says config_of (files source.path) config
   pub are : ArePackages files config.packages packages
-  pub world : w ≡ new_world config.agent (nodes_made config.unit config.agent.eid config.devices) packages
+  pub stocked : AreDevices source.stores config.devices devices
+  pub world : w ≡ new_world config.agent (nodes_made config.unit config.agent.eid devices) packages
 
 -- why there is none
 pub record PackagesOfFail (files : List ℕ → FileOf) (path : List ℕ) (fault : RunFault) : Type 0 where
@@ -176,6 +197,24 @@ pub record PackagesOfFail (files : List ℕ → FileOf) (path : List ℕ) (fault
 
 abbrev pub SetupFails : (files : List ℕ → FileOf) → (path : List ℕ) → RunFault → Type 0
 SetupFails files path fault = TextFails config_of files path fault ⊎ PackagesOfFail files path fault
+
+-- it is told of the first of these devices whose store isn't opened
+abbrev pub TellsUnopened : StoresOf → List DeviceConfigOf → RunFault → Type 0
+TellsUnopened s devices (faults.Store device why) = IsUnopened s devices (record { device = device; why = why })
+TellsUnopened s devices fault = ⊥
+
+-- a fault is told of a store
+abbrev pub TellsStore : RunFault → Type 0
+TellsStore (faults.Store device why) = Unit {0}
+TellsStore fault = ⊥
+
+-- The configuration and its packages are there, and the store of a device isn't opened.
+pub record StoresFail (files : List ℕ → FileOf) (source : SourceOf) (fault : RunFault) : Type 0 where
+  pub config : ConfigOf
+  pub says : Says config_of (files source.path) config
+  pub packages : List PackageText
+  pub are : ArePackages files config.packages packages
+  pub unopened : IsSomeAnd source.stores (λ s. TellsUnopened s config.devices fault)
 
 -- The configuration in a file names no package of this number.
 pub record LacksPackage (files : List ℕ → FileOf) (path : List ℕ) (number : ℕ) : Type 0 where

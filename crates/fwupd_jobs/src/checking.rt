@@ -1,8 +1,10 @@
 //! Updating the devices of a configuration, where each session may have to be Done in the end.
 
-ghost use Rattle.std.specs.Prelude.{◌≡◌, ◌⊎◌, IfErr, OnOk};
+ghost use Rattle.std.specs.Prelude.{◌≡◌, ◌⊎◌, IfErr, OnOk, option_map};
+ghost use Rattle.fw_setup.specs.Stocks.{stores_in};
 ghost use Rattle.fwupd_jobs.specs.Checked.{CheckedEnds, ReportsChecked};
 ghost use Rattle.fwupd_jobs.specs.Running.{IsUnwritten, show_of};
+ghost use Rattle.fwupd_jobs.specs.Setups.{TellsStore, source_of};
 
 use crate::faults::RunFault;
 use crate::files::Files;
@@ -11,6 +13,8 @@ use crate::running::Watch;
 use crate::sessions::undone_fault;
 use crate::updating::{Wires, update_files};
 use fw_edge::Link;
+use fw_setup::Stores;
+use fw_store::Folder;
 use fwupd_words::{Order, Show};
 use std::alloc::Global;
 use std::io::Write;
@@ -22,10 +26,20 @@ use std::io::Write;
 /// Those of `update_files`. `Session`, where that is asked for, of the first session in configured order that isn't Done: the report is
 /// written.
 #[tactic(auto, using(crate::proofs::Checks::checking))]
-pub fn update_checked<F: Files, L: Link + Drop, S: Wires<L>, V: Watch, W: Write + Drop>(
+pub fn update_checked<
+    F: Files,
+    D: Folder + Drop,
+    T: Stores<D>,
+    L: Link + Drop,
+    S: Wires<L>,
+    V: Watch,
+    W: Write + Drop,
+>(
     alloc: Global,
     files: &F,
+    stores: &T,
     config: &str,
+    store: Option<&str>,
     order: Order,
     folder: &str,
     show: Show<'_>,
@@ -33,14 +47,15 @@ pub fn update_checked<F: Files, L: Link + Drop, S: Wires<L>, V: Watch, W: Write 
     watch: &mut V,
     output: &mut Output<W>,
 ) -> Result<(), RunFault>
-    ensures ok { OnOk result (ReportsChecked (F.holds files.now) config.now order (show_of show.entry) (V.watched watch.new) output.old output.new) }
-    ensures fault { IfErr result (λ e. CheckedEnds (F.holds files.now) config.now order (show_of show.entry) (V.refuses watch.old) (S.lacks wires.old folder.now) e (V.watched watch.new) output.old output.new) }
+    ensures ok { OnOk result (ReportsChecked (F.holds files.now) (source_of (stores_in (T.is_known stores.now) (T.files stores.now)) (option_map (λ p. p.now) store.entry) config.now) order (show_of show.entry) (V.watched watch.new) output.old output.new) }
+    ensures fault { IfErr result (λ e. CheckedEnds (F.holds files.now) (source_of (stores_in (T.is_known stores.now) (T.files stores.now)) (option_map (λ p. p.now) store.entry) config.now) order (show_of show.entry) (V.refuses watch.old) (S.lacks wires.old folder.now) e (V.watched watch.new) output.old output.new) }
     ensures untouched { IfErr result (λ e. (watch.new ≡ watch.old) ⊎ IsUnwritten e (V.watched watch.new).fault) }
+    ensures unopened { IfErr result (λ e. TellsStore e → (watch.new ≡ watch.old) × (wires.new ≡ wires.old)) }
 {
     let number = order.number;
     let roughness = order.roughness;
     let undone = match update_files(
-        alloc, files, config, number, folder, roughness, show, wires, watch, output,
+        alloc, files, stores, config, store, number, folder, roughness, show, wires, watch, output,
     ) {
         Ok(undone) => undone,
         Err(fault) => return Err(fault),

@@ -1,12 +1,14 @@
 //! Why a run ends with status 1.
 
-ghost use Rattle.std.specs.Prelude.{◌≡◌};
+ghost use Rattle.std.specs.Prelude.{◌≡◌, ◌⊎◌};
 ghost use Rattle.fwupd_jobs.specs.Inspected.{told_as};
 ghost use Rattle.fwupd_jobs.specs.Running.{MayEnd, told_of};
 
 use fw_edge::EdgeFault;
 use fw_package::PackageFault;
 use fw_script::ScriptFault;
+use fw_setup::Unopened;
+use fw_store::OpenFault;
 use fw_world::StepFault;
 use fwupd_base::{AnswerFault, InspectFault};
 use thiserror::Error;
@@ -32,6 +34,9 @@ pub enum RunFault {
     /// No package is configured.
     #[error("package: none")]
     NoPackage,
+    /// The store of the device with this endpoint identifier isn't opened.
+    #[error("store: {0}: {1}")]
+    Store(u8, OpenFault),
     /// The socket of the device with this endpoint identifier can't be made.
     #[error("socket: {0}")]
     Socket(u8),
@@ -47,6 +52,9 @@ pub enum RunFault {
     /// The steps of a run can't be recorded.
     #[error("record")]
     Record,
+    /// The lines of what happens in a run can't be written in the history of the stores.
+    #[error("history")]
+    History,
     /// The checker found something wrong with a run of a soak.
     #[error("soak: Violation")]
     Violation,
@@ -82,5 +90,15 @@ pub fn edge_fault(fault: EdgeFault) -> RunFault
     match fault {
         EdgeFault::Memory => RunFault::Memory,
         _ => RunFault::Edge(fault),
+    }
+}
+
+/// Why a device's store isn't opened.
+pub fn store_fault(unopened: Unopened) -> RunFault
+    ensures { (result ≡ RunFault.Memory) ⊎ (result ≡ RunFault.Store unopened.device unopened.why) }
+{
+    match unopened.why {
+        OpenFault::Memory => RunFault::Memory,
+        why => RunFault::Store(unopened.device, why),
     }
 }

@@ -1,6 +1,7 @@
 //! A job: what the words of a command line ask for, over any files, reader, links, onlooker and output.
 
 ghost use Rattle.std.specs.Prelude.{◌≡◌, ◌⊎◌, IfErr, OnOk};
+ghost use Rattle.fw_setup.specs.Stocks.{stores_in};
 ghost use Rattle.fwupd_jobs.specs.Jobs.{IsDone, JobEnds};
 ghost use Rattle.fwupd_jobs.specs.Running.{IsUnwritten};
 
@@ -18,7 +19,9 @@ use crate::running::Watch;
 use crate::soaking::soak_file;
 use crate::updating::Wires;
 use fw_edge::Link;
+use fw_setup::Stores;
 use fw_soak::Onlooker;
+use fw_store::Folder;
 use fwupd_words::Job;
 use std::alloc::Global;
 use std::io::{Read, Write};
@@ -29,6 +32,8 @@ use std::io::{Read, Write};
 /// Those of the job: of `Output::answer`, `inspect_file`, `replay_files`, `update_checked`, `build_file`, `plan_file`, `soak_file` or `sel_file`.
 pub fn perform_job<
     F: Files,
+    D: Folder + Drop,
+    T: Stores<D>,
     R: Read,
     L: Link + Drop,
     S: Wires<L>,
@@ -41,6 +46,7 @@ pub fn perform_job<
     alloc: Global,
     job: &Job<'_>,
     files: &F,
+    stores: &T,
     reader: &mut R,
     wires: &mut S,
     watch: &mut V,
@@ -48,18 +54,18 @@ pub fn perform_job<
     places: &mut P,
     output: &mut Output<W>,
 ) -> Result<(), RunFault>
-    ensures ok { OnOk result (IsDone job.now (F.holds files.now) (R.remaining reader.old) (R.remaining reader.new) (V.watched watch.new) (P.is_known places.old) (P.held places.new) output.old output.new) }
-    ensures fault { IfErr result (λ e. JobEnds job.now (F.holds files.now) (V.refuses watch.old) (S.lacks wires.old) (R.remaining reader.old) (R.remaining reader.new) e (V.watched watch.new) (P.is_known places.old) (P.held places.new) output.old output.new) }
+    ensures ok { OnOk result (IsDone job.now (F.holds files.now) (stores_in (T.is_known stores.now) (T.files stores.now)) (R.remaining reader.old) (R.remaining reader.new) (V.watched watch.new) (P.is_known places.old) (P.held places.new) output.old output.new) }
+    ensures fault { IfErr result (λ e. JobEnds job.now (F.holds files.now) (stores_in (T.is_known stores.now) (T.files stores.now)) (V.refuses watch.old) (S.lacks wires.old) (R.remaining reader.old) (R.remaining reader.new) e (V.watched watch.new) (P.is_known places.old) (P.held places.new) output.old output.new) }
     ensures untouched { IfErr result (λ e. (watch.new ≡ watch.old) ⊎ IsUnwritten e (V.watched watch.new).fault) }
 {
     match job {
         Job::Answer(endpoint) => output.answer(alloc, reader, endpoint),
         Job::Inspect(path, form) => inspect_file(alloc, files, path, *form, output),
         Job::Replay(config, schedule, show) => replay_files(
-            alloc, files, config, schedule, *show, watch, output,
+            alloc, files, stores, config, show.store, schedule, *show, watch, output,
         ),
         Job::Run(config, folder, order, show) => update_checked(
-            alloc, files, config, *order, folder, *show, wires, watch, output,
+            alloc, files, stores, config, show.store, *order, folder, *show, wires, watch, output,
         ),
         Job::Build(spec, file) => build_file(alloc, files, spec, file, places),
         Job::Sel(path) => sel_file(alloc, files, path, output),

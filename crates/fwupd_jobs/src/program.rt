@@ -3,6 +3,7 @@
 ghost use Rattle.std.specs.Prelude.{◌≡◌, ◌≢◌, ◌⊎◌, ◌≤◌, IfErr};
 ghost use Rattle.std.specs.Process.{exit_status};
 ghost use Rattle.clap.specs.Values.{kind_of};
+ghost use Rattle.fw_setup.specs.Stocks.{stores_in};
 ghost use Rattle.fwupd_jobs.specs.Jobs.{StatusSays, SystemSays};
 
 use crate::explaining::explain;
@@ -19,7 +20,9 @@ use crate::watching::Onlookers;
 use crate::words::words;
 use clap::error::ErrorKind;
 use fw_edge::Link;
+use fw_setup::{Stores, SystemStores};
 use fw_soak::Onlooker;
+use fw_store::Folder;
 use fwupd_words::{Job, parse};
 use std::io::{self, Read, Write};
 use std::process::ExitCode;
@@ -39,6 +42,8 @@ pub(crate) fn failed(rt: &HostRuntime, fault: &RunFault) -> ExitCode
 /// where it isn't, and its fault is printed, with what helps to find its cause below it on a terminal.
 fn status<
     F: Files,
+    D: Folder + Drop,
+    T: Stores<D>,
     R: Read,
     L: Link + Drop,
     S: Wires<L>,
@@ -51,6 +56,7 @@ fn status<
     rt: &HostRuntime,
     job: &Job<'_>,
     files: &F,
+    stores: &T,
     reader: &mut R,
     wires: &mut S,
     watch: &mut V,
@@ -58,12 +64,13 @@ fn status<
     places: &mut P,
     output: &mut Output<W>,
 ) -> ExitCode
-    ensures { StatusSays (exit_status result) job.now (F.holds files.now) (V.refuses watch.old) (S.lacks wires.old) (R.remaining reader.old) (R.remaining reader.new) (V.watched watch.new) (P.is_known places.old) (P.held places.new) output.old output.new }
+    ensures { StatusSays (exit_status result) job.now (F.holds files.now) (stores_in (T.is_known stores.now) (T.files stores.now)) (V.refuses watch.old) (S.lacks wires.old) (R.remaining reader.old) (R.remaining reader.new) (V.watched watch.new) (P.is_known places.old) (P.held places.new) output.old output.new }
 {
     match perform_job(
         rt.alloc(),
         job,
         files,
+        stores,
         reader,
         wires,
         watch,
@@ -94,6 +101,7 @@ fn run<W: Write + Drop>(rt: &HostRuntime, job: &Job<'_>, output: &mut Output<W>)
         rt,
         job,
         &files,
+        &SystemStores::new(rt),
         &mut reader,
         &mut sockets,
         &mut onlookers,

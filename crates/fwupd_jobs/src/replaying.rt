@@ -1,26 +1,32 @@
 //! Replaying a schedule on the nodes of a configuration.
 
-ghost use Rattle.std.specs.Prelude.{◌≡◌, ◌<◌, ◌⊎◌, ◌∷◌, IfErr, IfOk, IfSome, None, OnOk, Some, length, map, slice_get, string_bytes, take, true};
+ghost use Rattle.std.specs.Prelude.{◌≡◌, ◌<◌, ◌≤◌, ◌-◌, ◌^◌, ◌⊎◌, ◌∷◌, IfErr, IfOk, IfSome, None, OnErr, OnOk, Some, length, map, option_map, slice_get, string_bytes, take, true};
+ghost use Rattle.fw_edge.specs.Links.{Rises};
+ghost use Rattle.fw_script.specs.ScheduleLines.{all_steps, step_said};
 ghost use Rattle.fw_script.specs.Seen.{device_of};
 ghost use Rattle.fw_script.specs.Whole.{AreWhole};
-ghost use Rattle.fw_world.specs.Headline.{Run, new_world};
+ghost use Rattle.fw_world.specs.Headline.{Leads, Run, new_world};
 ghost use Rattle.fw_world.specs.Replays.{Refuses};
+ghost use Rattle.fw_world.specs.Worlds.{full_tick};
 ghost use Rattle.fw_setup.specs.Nodes.{nodes_made};
+ghost use Rattle.fw_setup.specs.Stocks.{stores_in};
 ghost use Rattle.fwupd_jobs.specs.Replayed.{IsReplayed, ReplayEnds, ReportsReplay};
 ghost use Rattle.fwupd_jobs.specs.Running.{IsApart, IsBarred, IsUnwritten, show_of, shown_of};
+ghost use Rattle.fwupd_jobs.specs.Setups.{source_of};
 
 use crate::faults::RunFault;
 use crate::files::{Files, is_one_path};
 use crate::output::Output;
 use crate::running::{Watch, WatchFault, watch_fault};
-use crate::setups::{configuration, package_files, packages_in, schedule};
+use crate::setups::{configuration, package_files, packages_in, read_kept, schedule};
 use crate::updating::begin_apart;
 use fd_core::Bank;
 use fw_json::report_in;
 use fw_package::Package;
-use fw_script::{Config, DeviceConfig};
-use fw_setup::opening_world;
-use fw_world::{Step, StepFault, World, packets_are_safe, replay};
+use fw_script::{Config, DeviceConfig, LineSteps, NextStep, ScheduleLine};
+use fw_setup::{Stores, opening_world};
+use fw_store::Folder;
+use fw_world::{Missed, Step, StepFault, World, packets_are_safe};
 use fwupd_base::Form;
 use fwupd_words::Show;
 use mctp_ctl::Endpoint;
@@ -40,48 +46,73 @@ pub struct Outcome {
     pub watched: Result<(), WatchFault>,
 }
 
-/// Takes these steps one after another, up to the first that isn't taken. What looks on sees the world after each; a fault of its own
-/// ends nothing, and stays its own.
+/// The step that comes next: one that a line says, or this tick that all nodes count.
+fn lent<'s>(next: NextStep<'s>, tick: &'s Step) -> &'s Step
+    requires { tick.now ≡ full_tick }
+    ensures { result.now ≡ step_said next.entry }
+{
+    match next {
+        NextStep::Said(step) => step,
+        NextStep::Tick => tick,
+    }
+}
+
+/// Takes a step. What looks on sees the world after it where packets are traced; a fault of its own ends nothing, and stays its own.
 ///
 /// # Errors
-/// The number of the step that isn't taken, counted from 0, and why.
-fn replay_seen<B: Bank + Drop, V: Watch>(
+/// Why the step isn't taken. Nothing has changed then.
+fn take_seen<B: Bank + Drop, V: Watch>(
     world: &mut World<'_, B>,
-    steps: &[Step],
+    step: &Step,
+    is_traced: bool,
     watch: &mut V,
-) -> Result<(), (usize, StepFault)>
-    ensures ok { OnOk result (Run world.old steps.now world.new) }
-    ensures stopped { IfErr result (λ e. (e.0 < length steps.now) × Run world.old (take e.0 steps.now) world.new × IfSome (slice_get steps.now e.0) (λ s. Refuses world.new s e.1)) }
+) -> Result<(), StepFault>
+    ensures taken { OnOk result (Leads world.old step.now world.new) }
+    ensures refused { IfErr result (λ e. Refuses world.old step.now e) }
+    ensures kept { OnErr result (world.new ≡ world.old) }
     ensures same { (V.watched watch.new).shows ≡ (V.watched watch.old).shows }
-    ensures seen { OnOk result ((V.watched watch.old).seen ≡ 0 → (V.watched watch.new).seen ≡ length steps.now) }
-    ensures seen_before { IfErr result (λ e. (V.watched watch.old).seen ≡ 0 → (V.watched watch.new).seen ≡ e.0) }
+    ensures seen { OnOk result (is_traced ≡ true → Rises (V.watched watch.old).seen (V.watched watch.new).seen) }
+    ensures unseen { OnErr result ((V.watched watch.new).seen ≡ (V.watched watch.old).seen) }
 {
-    for (i, step) in steps.iter().enumerate() {
-        match world.step(step) {
-            Ok(()) => {}
-            Err(fault) => return Err((i, fault)),
-        }
+    match world.step(step) {
+        Ok(()) => {}
+        Err(fault) => return Err(fault),
+    }
+    if is_traced {
         let _ = watch.see(world);
     }
     Ok(())
 }
 
-/// Takes these steps, each seen by what looks on where packets are traced.
-fn replay_by<B: Bank + Drop, V: Watch>(
+/// Takes the steps of these lines, one after another, up to the first that isn't taken. What looks on sees the world after each where
+/// packets are traced.
+///
+/// # Errors
+/// The number of the step that isn't taken, counted from 0, and why.
+fn replay_lines<B: Bank + Drop, V: Watch>(
     world: &mut World<'_, B>,
-    steps: &[Step],
+    lines: &[ScheduleLine],
     is_traced: bool,
     watch: &mut V,
 ) -> Result<(), (usize, StepFault)>
-    ensures ok { OnOk result (Run world.old steps.now world.new) }
-    ensures stopped { IfErr result (λ e. (e.0 < length steps.now) × Run world.old (take e.0 steps.now) world.new × IfSome (slice_get steps.now e.0) (λ s. Refuses world.new s e.1)) }
+    requires countable { length (all_steps lines.now) ≤ 2 ^ 64 - 1 }
+    ensures ok { OnOk result (Run world.old (all_steps lines.now) world.new) }
+    ensures stopped { IfErr result (λ e. (e.0 < length (all_steps lines.now)) × Run world.old (take e.0 (all_steps lines.now)) world.new × IfSome (slice_get (all_steps lines.now) e.0) (λ s. Refuses world.new s e.1)) }
     ensures same { (V.watched watch.new).shows ≡ (V.watched watch.old).shows }
-    ensures seen { OnOk result (is_traced ≡ true → (V.watched watch.old).seen ≡ 0 → (V.watched watch.new).seen ≡ length steps.now) }
+    ensures seen { OnOk result (is_traced ≡ true → (V.watched watch.old).seen ≡ 0 → (V.watched watch.new).seen ≡ length (all_steps lines.now)) }
+    ensures seen_before { IfErr result (λ e. is_traced ≡ true → (V.watched watch.old).seen ≡ 0 → (V.watched watch.new).seen ≡ e.0) }
 {
-    if is_traced {
-        return replay_seen(world, steps, watch);
+    let tick = Step::Tick(Missed::new());
+    let mut steps = LineSteps::of(lines);
+    let mut taken = 0;
+    while let Some(next) = steps.next() {
+        match take_seen(world, lent(next, &tick), is_traced, watch) {
+            Ok(()) => {}
+            Err(fault) => return Err((taken, fault)),
+        }
+        taken += 1;
     }
-    replay(world, steps)
+    Ok(())
 }
 
 /// Replays a schedule on the nodes of a configuration, in a network with its transmission unit, and lets what looks on end.
@@ -94,12 +125,13 @@ pub fn replayed<'a, V: Watch>(
     agent: Endpoint,
     devices: Vec<DeviceConfig>,
     packages: &'a [Package<'a>],
-    steps: &[Step],
+    lines: &[ScheduleLine],
     show: Show<'_>,
     watch: &mut V,
 ) -> Result<Outcome, AllocError>
-    requires { AreWhole agent.eid (map device_of devices.items) }
-    ensures replayed { IfOk result (λ r. IsReplayed (new_world agent (nodes_made unit agent.eid (map device_of devices.items)) packages.now) steps.now r.fault show.entry.form r.report.items) }
+    requires whole { AreWhole agent.eid (map device_of devices.items) }
+    requires countable { length (all_steps lines.now) ≤ 2 ^ 64 - 1 }
+    ensures replayed { IfOk result (λ r. IsReplayed (new_world agent (nodes_made unit agent.eid (map device_of devices.items)) packages.now) (all_steps lines.now) r.fault show.entry.form r.report.items) }
     ensures same { OnOk result ((V.watched watch.new).shows ≡ (V.watched watch.old).shows) }
     ensures ended { OnOk result ((V.watched watch.new).has_ended ≡ true) }
     ensures unseen { IfOk result (λ r. IfErr r.watched (λ e. (V.watched watch.new).fault ≡ Some e)) }
@@ -107,7 +139,7 @@ pub fn replayed<'a, V: Watch>(
 {
     packets_are_safe();
     let mut world = opening_world(alloc, unit, agent, devices, packages)?;
-    let fault = match replay_by(&mut world, steps, show.trace.is_some(), watch) {
+    let fault = match replay_lines(&mut world, lines, show.trace.is_some(), watch) {
         Ok(()) => None,
         Err(fault) => Some(fault),
     };
@@ -152,26 +184,29 @@ fn begin_replay<F: Files, V: Watch>(
 }
 
 /// Replays the schedule in a file on the nodes of the configuration in another, and writes in a form the report of what that leaves.
-/// Where packets are traced, they are seen after each step; the report is the same.
+/// Where a folder of stores is named, each device begins with the images that its store keeps, which is only read. Where packets are
+/// traced, they are seen after each step; the report is the same.
 ///
 /// # Errors
-/// The first fault, in this order: of the configuration's file, of the packages that it names, one after the other, and of the
-/// schedule's file; `Trace`, `Log` or `Record` where what looks on can't begin, or would write over one of these files or over
+/// The first fault, in this order: of the configuration's file, of the packages that it names, one after the other, `Store` of the
+/// first device whose store can't be read, and of the schedule's file; `Trace`, `Log` or `Record` where what looks on can't begin, or would write over one of these files or over
 /// another of its own. `Step` where a step isn't
 /// taken, whose number counts from 1: the report is then of the world before it. `Trace`, `Log` or `Record` where what looked on couldn't write:
 /// the report is written all the same. `Output` where the report isn't written whole: a beginning of it may be. `Memory` where memory
 /// is refused: nothing is written then, unless it was what looked on that lacked it.
-pub fn replay_files<F: Files, V: Watch, W: Write + Drop>(
+pub fn replay_files<F: Files, D: Folder + Drop, T: Stores<D>, V: Watch, W: Write + Drop>(
     alloc: Global,
     files: &F,
+    stores: &T,
     config: &str,
+    store: Option<&str>,
     steps: &str,
     show: Show<'_>,
     watch: &mut V,
     output: &mut Output<W>,
 ) -> Result<(), RunFault>
-    ensures ok { OnOk result (ReportsReplay (F.holds files.now) config.now steps.now (show_of show.entry) (V.watched watch.new) output.old output.new) }
-    ensures fault { IfErr result (λ e. ReplayEnds (F.holds files.now) config.now steps.now (show_of show.entry) (V.refuses watch.old) e (V.watched watch.new) output.old output.new) }
+    ensures ok { OnOk result (ReportsReplay (F.holds files.now) (source_of (stores_in (T.is_known stores.now) (T.files stores.now)) (option_map (λ p. p.now) store.entry) config.now) steps.now (show_of show.entry) (V.watched watch.new) output.old output.new) }
+    ensures fault { IfErr result (λ e. ReplayEnds (F.holds files.now) (source_of (stores_in (T.is_known stores.now) (T.files stores.now)) (option_map (λ p. p.now) store.entry) config.now) steps.now (show_of show.entry) (V.refuses watch.old) e (V.watched watch.new) output.old output.new) }
     ensures untouched { IfErr result (λ e. (watch.new ≡ watch.old) ⊎ IsUnwritten e (V.watched watch.new).fault) }
 {
     let Config {
@@ -191,6 +226,11 @@ pub fn replay_files<F: Files, V: Watch, W: Write + Drop>(
         Ok(packages) => packages,
         Err(fault) => return Err(fault),
     };
+    let mut devices = devices;
+    match read_kept(alloc, stores, store, &mut devices) {
+        Ok(()) => {}
+        Err(fault) => return Err(fault),
+    }
     let script = match schedule(alloc, files, steps) {
         Ok(script) => script,
         Err(fault) => return Err(fault),

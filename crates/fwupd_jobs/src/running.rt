@@ -3,6 +3,7 @@
 ghost use Rattle.std.specs.Prelude.{[], ◌≡◌, ◌≢◌, ◌-◌, ◌^◌, ◌⊎◌, Bool, Err, IfErr, IfSome, List, None, OnOk, Some, length, map, true, ℕ};
 ghost use Rattle.fw_edge.specs.Ledgers.{AllSent, packet_counts};
 ghost use Rattle.fw_edge.specs.Links.{Rises};
+ghost use Rattle.fwupd_jobs.specs.Histories.{AreKeptUp, IsFresh, KeepsUp};
 ghost use Rattle.fwupd_jobs.specs.Recordings.{Closes, IsNew, IsRecorded, Notes, NotesRun};
 ghost use Rattle.fwupd_jobs.specs.Running.{AreToldOf, IsCaused, IsRefusedStart, IsUnwritten, IsUpdated, MayEnd, MayRefuse, Starts, StepsLead, StepsSeen, Updates, show_of, shown_of, starts_of, told_by, told_of, watch_of};
 
@@ -10,7 +11,7 @@ use crate::faults::{RunFault, edge_fault};
 use fd_core::Bank;
 use fw_edge::{EdgeFault, Link, drive};
 use fw_script::schedules_read_back;
-use fw_world::{Step, StepFault, World};
+use fw_world::{Step, StepFault, World, moments_are_tied};
 use fwupd_words::Show;
 use std::alloc::Global;
 
@@ -26,6 +27,8 @@ pub enum WatchFault {
     Unlogged,
     /// The steps that it records can't be written.
     Unrecorded,
+    /// The history of the stores can't be written.
+    Unkept,
     /// Memory was refused.
     Memory,
 }
@@ -42,12 +45,13 @@ pub trait Watch {
     /// Begins to show what is asked for.
     ///
     /// # Errors
-    /// A file that the packets, the log's records or the steps are to be written to is refused, or `Memory`. It is known before which
-    /// files may be refused.
+    /// A file that the packets, the log's records, the steps or what happens are to be written to is refused, or `Memory`. It is known
+    /// before which files may be refused.
     fn begin(&mut self, show: Show<'_>) -> Result<(), WatchFault>
         ensures shows { OnOk result ((watched self.new).shows ≡ shown_of (show_of show.entry)) }
         ensures anew { OnOk result (((watched self.new).seen ≡ 0) × ((watched self.new).lost ≡ None)) }
         ensures recording { OnOk result (IfSome (watched self.new).recording IsNew) }
+        ensures history { OnOk result (IfSome (watched self.new).history IsFresh) }
         ensures err { IfErr result (λ e. (watched self.new).fault ≡ Some e) }
         ensures refused { IfErr result (λ e. e ≢ WatchFault.Memory → MayRefuse (refuses self.old) (show_of show.entry) (told_by e)) };
 
@@ -60,11 +64,12 @@ pub trait Watch {
         ensures err { IfErr result (λ e. (watched self.new).fault ≡ Some e) }
         ensures first { IfSome (watched self.old).fault (λ f. result ≡ Err f) }
         ensures noted { OnOk result (Notes (watched self.old).recording (watched self.new).recording steps.now) }
+        ensures history { (watched self.new).history ≡ (watched self.old).history }
         ensures same { (watched self.new).shows ≡ (watched self.old).shows }
         ensures seen { (watched self.new).seen ≡ (watched self.old).seen }
         ensures lost { (watched self.new).lost ≡ (watched self.old).lost };
 
-    /// Sees what a turn left.
+    /// Sees what a turn left. What happened in it is written in the history before the next turn, and not before it has happened.
     ///
     /// # Errors
     /// The fault that it had; else that what it tells of the turn can't be written, or that memory is refused.
@@ -75,7 +80,8 @@ pub trait Watch {
         ensures same { (watched self.new).shows ≡ (watched self.old).shows }
         ensures seen { Rises (watched self.old).seen (watched self.new).seen }
         ensures lost { (watched self.new).lost ≡ (watched self.old).lost }
-        ensures recording { (watched self.new).recording ≡ (watched self.old).recording };
+        ensures recording { (watched self.new).recording ≡ (watched self.old).recording }
+        ensures history { OnOk result (KeepsUp (watched self.old).history (watched self.new).history world.now.history) };
 
     /// Is told that the link of this device failed.
     fn lose(&mut self, device: u8)
@@ -84,6 +90,7 @@ pub trait Watch {
         ensures same { (watched self.new).shows ≡ (watched self.old).shows }
         ensures seen { (watched self.new).seen ≡ (watched self.old).seen }
         ensures recording { (watched self.new).recording ≡ (watched self.old).recording }
+        ensures history { (watched self.new).history ≡ (watched self.old).history }
         ensures ended { (watched self.new).has_ended ≡ (watched self.old).has_ended };
 
     /// The run has ended, and has left this world, of whose log the records are written where that is asked for.
@@ -98,6 +105,7 @@ pub trait Watch {
         ensures seen { (watched self.new).seen ≡ (watched self.old).seen }
         ensures lost { (watched self.new).lost ≡ (watched self.old).lost }
         ensures closed { OnOk result (Closes (watched self.old).recording (watched self.new).recording) }
+        ensures history { (watched self.new).history ≡ (watched self.old).history }
         ensures ended { (watched self.new).has_ended ≡ true };
 }
 
@@ -110,6 +118,7 @@ pub fn watch_fault(fault: WatchFault) -> RunFault
         WatchFault::Unwritten => RunFault::Trace,
         WatchFault::Unlogged => RunFault::Log,
         WatchFault::Unrecorded => RunFault::Record,
+        WatchFault::Unkept => RunFault::History,
         WatchFault::Memory => RunFault::Memory,
     }
 }
@@ -124,6 +133,7 @@ fn start_all<B: Bank + Drop>(
     ensures started { OnOk result (Starts number world.old world.new) }
     ensures listed { OnOk result (steps.new.items ≡ starts_of number world.old.sites) }
     ensures same { world.new.sites ≡ world.old.sites }
+    ensures history { world.new.history ≡ world.old.history }
     ensures reached { StepsLead number world.old world.new }
     ensures unseen_steps { StepsSeen number world.old world.new 0 }
     ensures fault { IfErr result MayEnd }
@@ -158,6 +168,7 @@ fn see_turn<B: Bank + Drop, V: Watch>(
     ensures ok { OnOk result ((V.watched watch.new).fault ≡ None) }
     ensures err { IfErr result (λ e. (V.watched watch.new).fault ≡ Some e) }
     ensures noted { OnOk result (Notes (V.watched watch.old).recording (V.watched watch.new).recording steps.now) }
+    ensures history { OnOk result (KeepsUp (V.watched watch.old).history (V.watched watch.new).history world.now.history) }
     ensures same { (V.watched watch.new).shows ≡ (V.watched watch.old).shows }
     ensures seen { Rises (V.watched watch.old).seen (V.watched watch.new).seen }
     ensures lost { (V.watched watch.new).lost ≡ (V.watched watch.old).lost }
@@ -206,6 +217,7 @@ pub fn update_all<B: Bank + Drop, L: Link, V: Watch>(
     ensures devices { length links.new ≡ length world.new.sites }
     ensures unwritten { IfErr result (λ e. IsUnwritten e (V.watched watch.new).fault) }
     ensures noted { OnOk result (NotesRun world.old world.new (V.watched watch.old).recording (V.watched watch.new).recording) }
+    ensures history { OnOk result (AreKeptUp (V.watched watch.old).history world.old.history → AreKeptUp (V.watched watch.new).history world.new.history) }
     ensures same { (V.watched watch.new).shows ≡ (V.watched watch.old).shows }
     ensures turns { OnOk result ((V.watched watch.old).seen ≡ 0 → Updates number world.old world.new (V.watched watch.new).seen) }
     ensures sees { (V.watched watch.old).seen ≡ 0 → StepsSeen number world.old world.new (V.watched watch.new).seen }
@@ -213,6 +225,7 @@ pub fn update_all<B: Bank + Drop, L: Link, V: Watch>(
 {
     let mut steps = Vec::new(alloc);
     schedules_read_back();
+    moments_are_tied();
     let started = start_all(world, number, &mut steps);
     let noted = watch.note(steps.as_slice());
     match started {
@@ -257,6 +270,7 @@ pub fn update_watched<B: Bank + Drop, L: Link, V: Watch>(
     ensures reached { StepsLead number world.old world.new }
     ensures seen { OnOk result ((V.watched watch.new).fault ≡ None) }
     ensures recorded { OnOk result (IfSome (V.watched watch.old).recording IsNew → IfSome (V.watched watch.new).recording (IsRecorded world.old world.new)) }
+    ensures history { OnOk result (AreKeptUp (V.watched watch.old).history world.old.history → AreKeptUp (V.watched watch.new).history world.new.history) }
     ensures ended { (V.watched watch.new).has_ended ≡ true }
     ensures devices { length links.new ≡ length world.new.sites }
     ensures same { (V.watched watch.new).shows ≡ (V.watched watch.old).shows }

@@ -3,6 +3,7 @@
 ghost use Rattle.std.specs.Prelude.{◌≡◌, None};
 ghost use Rattle.fwupd_jobs.specs.Running.{watch_of};
 ghost use Rattle.fwupd_jobs.specs.Sessions.{TellsUndone, is_done, undone_in, undone_word};
+ghost use Rattle.fwupd_jobs.specs.Setups.{TellsStore};
 
 use crate::faults::RunFault;
 use fd_core::Bank;
@@ -58,6 +59,7 @@ fn undone_word(state: Option<SessionState>) -> &'static str
 pub fn undone_fault(undone: Undone) -> RunFault
     ensures tells { TellsUndone undone result }
     ensures other { watch_of result ≡ None }
+    ensures store { TellsStore result → ⊥ }
 {
     RunFault::Session(undone.eid, undone_word(undone.state))
 }

@@ -1,19 +1,25 @@
-//! What the jobs on worlds begin with: a configuration, and the packages that it names.
+//! What the jobs on worlds begin with: a configuration, the packages that it names, and what the stores of its devices keep.
 
-ghost use Rattle.std.specs.Prelude.{◌≡◌, ◌⊎◌, IfErr, IfOk, IsOk, Ok, map, string_bytes};
+ghost use Rattle.std.specs.Prelude.{◌≡◌, ◌≤◌, ◌-◌, ◌^◌, ◌⊎◌, IfErr, IfOk, IsOk, IsSomeAnd, Ok, OnOk, length, map, option_map, string_bytes, ℕ};
 ghost use Rattle.std.specs.List.{AllByRecursion};
 ghost use Rattle.fw_package.specs.Reading.{package_of};
 ghost use Rattle.fw_script.specs.Configs.{config_of};
+ghost use Rattle.fw_script.specs.ScheduleLines.{all_steps};
 ghost use Rattle.fw_script.specs.Schedules.{script_of};
 ghost use Rattle.fw_script.specs.Seen.{config_seen, device_of};
 ghost use Rattle.fw_script.specs.Whole.{AreWhole};
-ghost use Rattle.fwupd_jobs.specs.Setups.{ArePacked, IsPacked, IsUnreadable, PackageFails, PackagesFail, Says, TextFails, TextFault, misread_told, unread_told};
+ghost use Rattle.fw_setup.specs.Stocks.{AreStocked, stores_in};
+ghost use Rattle.fwupd_jobs.specs.Setups.{AreDevices, ArePacked, IsPacked, IsUnreadable, PackageFails, PackagesFail, Says, TellsUnopened, TextFails, TextFault, misread_told, unread_told};
 
-use crate::faults::RunFault;
+use crate::faults::{RunFault, store_fault};
 use crate::files::{FileFault, Files};
 use fw_package::Package;
-use fw_script::{Config, ScriptCause, ScriptFault, read_config, read_schedule};
-use fw_world::Step;
+use fw_script::{
+    Config, DeviceConfig, ScheduleLine, ScriptCause, ScriptFault, read_config, read_lines,
+    step_count,
+};
+use fw_setup::{StoreBanks, Stores, open_stores, read_stores};
+use fw_store::Folder;
 use std::alloc::{AllocError, Global};
 
 /// What is told of a file of this name that isn't read; without memory for its name, that.
@@ -72,23 +78,32 @@ pub fn configuration<F: Files>(alloc: Global, files: &F, path: &str) -> Result<C
     }
 }
 
-/// The steps of the schedule in the file of a path.
+/// The lines of the schedule in the file of a path, whose steps 64 bits can count.
 ///
 /// # Errors
-/// The file can't be read, its text's first fault, or `Memory`.
+/// The file can't be read, its text's first fault, or `Memory`: also where it says more steps than any memory holds.
 #[tactic(auto, using(crate::proofs::Packed::unread_text))]
-pub fn schedule<F: Files>(alloc: Global, files: &F, path: &str) -> Result<Vec<Step>, RunFault>
-    ensures says { IfOk result (λ steps. Says script_of (F.holds files.now path.now) steps.items) }
+pub fn schedule<F: Files>(
+    alloc: Global,
+    files: &F,
+    path: &str,
+) -> Result<Vec<ScheduleLine>, RunFault>
+    ensures says { IfOk result (λ lines. Says script_of (F.holds files.now path.now) (all_steps lines.items)) }
+    ensures countable { IfOk result (λ lines. length (all_steps lines.items) ≤ 2 ^ 64 - 1) }
     ensures fault { IfErr result (λ e. (e ≡ RunFault.Memory) ⊎ TextFails script_of (F.holds files.now) path.now e) }
 {
     let text = match files.contents(alloc, path) {
         Ok(text) => text,
         Err(fault) => return Err(read_fault(alloc, path, fault)),
     };
-    match read_schedule(alloc, &text) {
-        Ok(steps) => Ok(steps),
-        Err(fault) => Err(text_fault(alloc, path, fault)),
+    let lines = match read_lines(alloc, &text) {
+        Ok(lines) => lines,
+        Err(fault) => return Err(text_fault(alloc, path, fault)),
+    };
+    if step_count(&lines).is_none() {
+        return Err(RunFault::Memory);
     }
+    Ok(lines)
 }
 
 /// The bytes of the package in the file of a path.
@@ -152,4 +167,52 @@ pub fn packages_in<'p>(alloc: Global, contents: &'p [Vec<u8>]) -> Result<Vec<Pac
         };
     }
     Ok(packages)
+}
+
+/// Puts what the stores in a folder keep, where one is named, in the places of the images that these devices are configured with. The folder
+/// is only read.
+///
+/// # Errors
+/// `Store` of the first device whose store can't be read, and `Memory`.
+#[tactic(auto, using(crate::proofs::Packed::told_unopened))]
+pub(crate) fn read_kept<D: Folder + Drop, T: Stores<D>>(
+    alloc: Global,
+    stores: &T,
+    root: Option<&str>,
+    devices: &mut Vec<DeviceConfig>,
+) -> Result<(), RunFault>
+    ensures devices { OnOk result (AreDevices (option_map (stores_in (T.is_known stores.now) (T.files stores.now)) (option_map (λ p. p.now) root.entry)) (map device_of devices.old.items) (map device_of devices.new.items)) }
+    ensures whole { OnOk result ((agent : ℕ) → AreWhole agent (map device_of devices.old.items) → AreWhole agent (map device_of devices.new.items)) }
+    ensures fault { IfErr result (λ e. (e ≡ RunFault.Memory)
+        ⊎ IsSomeAnd (option_map (stores_in (T.is_known stores.now) (T.files stores.now)) (option_map (λ p. p.now) root.entry)) (λ s. TellsUnopened s (map device_of devices.old.items) e)) }
+{
+    let Some(root) = root else {
+        return Ok(());
+    };
+    match read_stores(alloc, stores, root, devices.as_mut_slice()) {
+        Ok(()) => Ok(()),
+        Err(unopened) => Err(store_fault(unopened)),
+    }
+}
+
+/// Opens the stores in a folder, puts what they keep in the places of the images that these devices are configured with, and makes banks
+/// over them.
+///
+/// # Errors
+/// `Store` of the first device whose store isn't opened, and `Memory`.
+#[tactic(auto, using(crate::proofs::Packed::told_unopened))]
+pub(crate) fn open_kept<D: Folder + Drop, T: Stores<D>>(
+    alloc: Global,
+    stores: &T,
+    root: &str,
+    devices: &mut Vec<DeviceConfig>,
+) -> Result<StoreBanks<D>, RunFault>
+    ensures stocked { OnOk result (AreStocked (stores_in (T.is_known stores.now) (T.files stores.now) root.now) (map device_of devices.old.items) (map device_of devices.new.items)) }
+    ensures whole { OnOk result ((agent : ℕ) → AreWhole agent (map device_of devices.old.items) → AreWhole agent (map device_of devices.new.items)) }
+    ensures fault { IfErr result (λ e. (e ≡ RunFault.Memory) ⊎ TellsUnopened (stores_in (T.is_known stores.now) (T.files stores.now) root.now) (map device_of devices.old.items) e) }
+{
+    match open_stores(alloc, stores, root, devices.as_mut_slice()) {
+        Ok(banks) => Ok(banks),
+        Err(unopened) => Err(store_fault(unopened)),
+    }
 }

@@ -3,11 +3,14 @@
 ghost use Rattle.std.specs.Prelude.{◌≡◌, ◌∷◌, ◌⊎◌, Bool, false, IfErr, IfOk, IfSome, IsSomeAnd, List, None, OnOk, length, map, option_map, string_bytes, true, ℕ};
 ghost use Rattle.std.specs.List.{AllByRecursion};
 ghost use Rattle.fw_json.specs.Forms.{report_in};
+ghost use Rattle.fw_setup.specs.Stocks.{stores_in};
+ghost use Rattle.fw_world.specs.Headline.{IsOpeningWorld};
 ghost use Rattle.fwupd_jobs.specs.Outputs.{FailsToPrint, Prints};
 ghost use Rattle.fwupd_jobs.specs.Sessions.{undone_in};
-ghost use Rattle.fwupd_jobs.specs.Setups.{IsApartFrom, IsOver};
+ghost use Rattle.fwupd_jobs.specs.Setups.{IsApartFrom, IsOver, SourceOf, TellsStore, source_of};
+ghost use Rattle.fwupd_jobs.specs.Histories.{AreKeptUp, IsFresh};
 ghost use Rattle.fwupd_jobs.specs.Recordings.{IsNew, IsRecorded};
-ghost use Rattle.fwupd_jobs.specs.Running.{AreLinked, AreToldOf, DrivingEnds, IsApart, IsApartFromUsed, IsBarred, IsCaused, IsLost, IsOverUsed, IsUnlinked, IsUnwritten, IsUpdated, NamesLost, ReportsUpdate, StepsLead, StepsSeen, UpdateEnds, Updates, show_of, shown_of};
+ghost use Rattle.fwupd_jobs.specs.Running.{AreLinked, AreToldOf, DrivingEnds, IsApart, IsApartFromUsed, IsBarred, IsCaused, IsLost, IsNamed, IsOverUsed, IsUnlinked, IsUnwritten, IsUpdated, NamesLost, ReportsUpdate, StepsLead, StepsSeen, UpdateEnds, Updates, show_of, shown_of};
 
 use crate::faults::RunFault;
 use crate::files::{Files, is_read, is_same_file};
@@ -15,12 +18,13 @@ use crate::numbering::is_numbered;
 use crate::output::Output;
 use crate::running::{Watch, WatchFault, update_watched, watch_fault};
 use crate::sessions::{Undone, first_undone};
-use crate::setups::{configuration, package_files, packages_in};
+use crate::setups::{configuration, open_kept, package_files, packages_in};
 use fd_core::Bank;
 use fw_edge::{EdgeFault, Link, Rough, Roughness};
 use fw_json::report_in;
 use fw_script::Config;
-use fw_setup::opening_world;
+use fw_setup::{Stores, opening_world, opening_world_over};
+use fw_store::Folder;
 use fw_world::{World, packets_are_safe};
 use fwupd_base::Form;
 use fwupd_words::Show;
@@ -143,6 +147,7 @@ pub(crate) fn begin_apart<F: Files, V: Watch>(
     ensures shows { OnOk result ((V.watched watch.new).shows ≡ shown_of (show_of show.entry)) }
     ensures anew { OnOk result (((V.watched watch.new).seen ≡ 0) × ((V.watched watch.new).lost ≡ None)) }
     ensures recording { OnOk result (IfSome (V.watched watch.new).recording IsNew) }
+    ensures history { OnOk result (IfSome (V.watched watch.new).history IsFresh) }
     ensures apart { OnOk result (IsApart (F.holds files.now) (show_of show.entry) (config.now ∷ map (λ p. string_bytes p) packages.now)) }
     ensures untouched { IfErr result (λ e. (watch.new ≡ watch.old) ⊎ IsUnwritten e (V.watched watch.new).fault) }
     ensures fault { IfErr result (λ e. (e ≡ RunFault.Memory)
@@ -209,6 +214,7 @@ fn update_told<B: Bank + Drop, L: Link, V: Watch>(
     ensures reached { StepsLead number world.old world.new }
     ensures seen { OnOk result ((V.watched watch.new).fault ≡ None) }
     ensures recorded { OnOk result (IfSome (V.watched watch.old).recording IsNew → IfSome (V.watched watch.new).recording (IsRecorded world.old world.new)) }
+    ensures history { OnOk result (AreKeptUp (V.watched watch.old).history world.old.history → AreKeptUp (V.watched watch.new).history world.new.history) }
     ensures ended { (V.watched watch.new).has_ended ≡ true }
     ensures same { (V.watched watch.new).shows ≡ (V.watched watch.old).shows }
     ensures turns { OnOk result ((V.watched watch.old).seen ≡ 0 → Updates number world.old world.new (V.watched watch.new).seen) }
@@ -244,6 +250,7 @@ fn update_over<B: Bank + Drop, L: Link + Drop, S: Wires<L>, V: Watch, W: Write +
     ensures updated { OnOk result (IsUpdated number world.old world.new) }
     ensures seen { OnOk result ((V.watched watch.new).fault ≡ None) }
     ensures recorded { OnOk result (IfSome (V.watched watch.old).recording IsNew → IfSome (V.watched watch.new).recording (IsRecorded world.old world.new)) }
+    ensures history { OnOk result (AreKeptUp (V.watched watch.old).history world.old.history → AreKeptUp (V.watched watch.new).history world.new.history) }
     ensures let_end { OnOk result ((V.watched watch.new).has_ended ≡ true) }
     ensures turns { OnOk result ((V.watched watch.old).seen ≡ 0 → Updates number world.old world.new (V.watched watch.new).seen) }
     ensures lost { IfErr result (λ e. e ≡ RunFault.Edge EdgeFault.Frame → NamesLost world.new (V.watched watch.new).lost) }
@@ -277,19 +284,14 @@ fn update_over<B: Bank + Drop, L: Link + Drop, S: Wires<L>, V: Watch, W: Write +
     }
 }
 
-/// Updates the devices of the configuration in a file with its package of this number, from 1 on, each over a link of its own, as rough
-/// as asked for, and writes the report of what that leaves. It gives the first session in configured order that isn't Done then.
-///
-/// # Errors
-/// The first fault, in this order: of the configuration's file; `NoPackage` where it names no package of this number; of the packages that it
-/// names, one after the other; `Trace`, `Log` or `Record` where what looks on can't begin, or would write over one of these files or another
-/// of its own; `Socket` where a link isn't opened. `Edge` where a link failed or the clock stands at its end, and `Trace`, `Log` or `Record`
-/// where what looks on can't write: the report is then of the world that was reached. `Output` where the report isn't written whole: a
-/// beginning of it may be. `Memory` where memory is refused: nothing is written then.
-pub fn update_files<F: Files, L: Link + Drop, S: Wires<L>, V: Watch, W: Write + Drop>(
+/// Lets what looks on begin, updates each device of a world that is new with the package of this number over a link of its own, and writes
+/// the report of what that leaves. The world is that of the configuration in a file, which names these packages.
+fn update_new<F: Files, B: Bank + Drop, L: Link + Drop, S: Wires<L>, V: Watch, W: Write + Drop>(
     alloc: Global,
     files: &F,
     config: &str,
+    packages: &[String],
+    world: &mut World<'_, B>,
     number: usize,
     folder: &str,
     roughness: Roughness,
@@ -298,9 +300,66 @@ pub fn update_files<F: Files, L: Link + Drop, S: Wires<L>, V: Watch, W: Write + 
     watch: &mut V,
     output: &mut Output<W>,
 ) -> Result<Option<Undone>, RunFault>
-    ensures ok { IfOk result (λ undone. ReportsUpdate (F.holds files.now) config.now number (show_of show.entry) (V.watched watch.new) output.old output.new undone) }
-    ensures fault { IfErr result (λ e. UpdateEnds (F.holds files.now) config.now number (show_of show.entry) (V.refuses watch.old) (S.lacks wires.old folder.now) e (V.watched watch.new) output.old output.new) }
+    requires { IsOpeningWorld world.old }
+    ensures ok { IfOk result (λ undone. (source : SourceOf) (named : IsNamed (F.holds files.now) source number world.old) → source.path ≡ config.now
+        → named.setup.config.packages ≡ map (λ p. string_bytes p) packages.now
+        → ReportsUpdate (F.holds files.now) source number (show_of show.entry) (V.watched watch.new) output.old output.new undone) }
+    ensures fault { IfErr result (λ e. (source : SourceOf) (named : IsNamed (F.holds files.now) source number world.old) → source.path ≡ config.now
+        → named.setup.config.packages ≡ map (λ p. string_bytes p) packages.now
+        → UpdateEnds (F.holds files.now) source number (show_of show.entry) (V.refuses watch.old) (S.lacks wires.old folder.now) e (V.watched watch.new) output.old output.new) }
     ensures untouched { IfErr result (λ e. (watch.new ≡ watch.old) ⊎ IsUnwritten e (V.watched watch.new).fault) }
+    ensures stores { IfErr result (λ e. TellsStore e → ⊥) }
+{
+    packets_are_safe();
+    match begin_apart(files, config, packages, show, watch) {
+        Ok(()) => {}
+        Err(fault) => return Err(fault),
+    }
+    match update_over(
+        alloc, world, number, folder, roughness, show.form, wires, watch, output,
+    ) {
+        Ok(undone) => Ok(undone),
+        Err(fault) => Err(fault),
+    }
+}
+
+/// Updates the devices of the configuration in a file with its package of this number, from 1 on, each over a link of its own, as rough
+/// as asked for, and writes the report of what that leaves. It gives the first session in configured order that isn't Done then. Where a
+/// folder of stores is named, each device begins with the images that its store keeps, and keeps there those that it activates.
+///
+/// # Errors
+/// The first fault, in this order: of the configuration's file; `NoPackage` where it names no package of this number; of the packages that it
+/// names, one after the other; `Store` of the first device whose store isn't opened; `Trace`, `Log`, `Record` or `History` where what looks on
+/// can't begin, or would write over one of these files or another of its own; `Socket` where a link isn't opened. `Edge` where a link failed or
+/// the clock stands at its end, and `Trace`, `Log`, `Record` or `History` where what looks on can't write: the report is then of the world that
+/// was reached. `Output` where the report isn't written whole: a beginning of it may be. `Memory` where memory is refused: nothing is written
+/// then.
+pub fn update_files<
+    F: Files,
+    D: Folder + Drop,
+    T: Stores<D>,
+    L: Link + Drop,
+    S: Wires<L>,
+    V: Watch,
+    W: Write + Drop,
+>(
+    alloc: Global,
+    files: &F,
+    stores: &T,
+    config: &str,
+    store: Option<&str>,
+    number: usize,
+    folder: &str,
+    roughness: Roughness,
+    show: Show<'_>,
+    wires: &mut S,
+    watch: &mut V,
+    output: &mut Output<W>,
+) -> Result<Option<Undone>, RunFault>
+    ensures ok { IfOk result (λ undone. ReportsUpdate (F.holds files.now) (source_of (stores_in (T.is_known stores.now) (T.files stores.now)) (option_map (λ p. p.now) store.entry) config.now) number (show_of show.entry) (V.watched watch.new) output.old output.new undone) }
+    ensures fault { IfErr result (λ e. UpdateEnds (F.holds files.now) (source_of (stores_in (T.is_known stores.now) (T.files stores.now)) (option_map (λ p. p.now) store.entry) config.now) number (show_of show.entry) (V.refuses watch.old) (S.lacks wires.old folder.now) e (V.watched watch.new) output.old output.new) }
+    ensures untouched { IfErr result (λ e. (watch.new ≡ watch.old) ⊎ IsUnwritten e (V.watched watch.new).fault) }
+    ensures unopened { IfErr result (λ e. TellsStore e → (watch.new ≡ watch.old) × (wires.new ≡ wires.old)) }
 {
     let Config {
         agent,
@@ -322,16 +381,57 @@ pub fn update_files<F: Files, L: Link + Drop, S: Wires<L>, V: Watch, W: Write + 
         Ok(packages) => packages,
         Err(fault) => return Err(fault),
     };
-    let Ok(mut world) = opening_world(alloc, unit, agent, devices, packages.as_slice()) else {
+    let Some(root) = store else {
+        let Ok(mut world) = opening_world(alloc, unit, agent, devices, packages.as_slice()) else {
+            return Err(RunFault::Memory);
+        };
+        match update_new(
+            alloc,
+            files,
+            config,
+            paths.as_slice(),
+            &mut world,
+            number,
+            folder,
+            roughness,
+            show,
+            wires,
+            watch,
+            output,
+        ) {
+            Ok(undone) => return Ok(undone),
+            Err(fault) => return Err(fault),
+        }
+    };
+    let mut devices = devices;
+    let mut banks = match open_kept(alloc, stores, root, &mut devices) {
+        Ok(banks) => banks,
+        Err(fault) => return Err(fault),
+    };
+    // Each store was opened for the device that it is taken for, so no bank is lacking but for memory.
+    let Ok(mut world) = opening_world_over(
+        alloc,
+        unit,
+        agent,
+        devices.as_slice(),
+        packages.as_slice(),
+        &mut banks,
+    ) else {
         return Err(RunFault::Memory);
     };
-    packets_are_safe();
-    match begin_apart(files, config, paths.as_slice(), show, watch) {
-        Ok(()) => {}
-        Err(fault) => return Err(fault),
-    }
-    match update_over(
-        alloc, &mut world, number, folder, roughness, show.form, wires, watch, output,
+    match update_new(
+        alloc,
+        files,
+        config,
+        paths.as_slice(),
+        &mut world,
+        number,
+        folder,
+        roughness,
+        show,
+        wires,
+        watch,
+        output,
     ) {
         Ok(undone) => Ok(undone),
         Err(fault) => Err(fault),

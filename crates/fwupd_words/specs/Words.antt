@@ -54,12 +54,14 @@ pub record AsksKept (words : Found) (show : Show) : Type 0 where
   pub trace : option_map (λ path. path.now) show.trace ≡ first_value words (codes "trace")
   pub trace_form : AsksTraceForm words show.trace_form
   pub log : option_map (λ path. path.now) show.log ≡ first_value words (codes "sel")
+  pub store : option_map (λ path. path.now) show.store ≡ first_value words (codes "store")
   pub form : AsksForm words show.form
 
--- and whether there is progress
+-- and whether there is progress, and what happens is written in the history of the stores
 pub record AsksShow (words : Found) (show : Show) : Type 0 where
   pub quiet : AsksFlag words (codes "quiet") show.is_quiet
   pub record_path : option_map (λ path. path.now) show.record ≡ first_value words (codes "record")
+  pub history : option_map (λ path. path.now) show.history ≡ first_value words (codes "store")
   pub kept : AsksKept words show
 
 -- The endpoint that answers.
@@ -103,7 +105,7 @@ abbrev pub Asks : (name : List ℕ) → Found → Job → Type 0
 Asks name words (jobs.Answer endpoint) = (name ≡ codes "answer") × AsksEndpoint words endpoint
 Asks name words (jobs.Inspect path form) = (name ≡ codes "inspect") × (path.now ≡ text_under words (codes "FILE")) × AsksForm words form
 Asks name words (jobs.Replay config schedule show) =
-    (name ≡ codes "replay") × (config.now ≡ text_under words (codes "CONFIG")) × (schedule.now ≡ text_under words (codes "SCHEDULE")) × (show.is_quiet ≡ true) × AsksKept words show
+    (name ≡ codes "replay") × (config.now ≡ text_under words (codes "CONFIG")) × (schedule.now ≡ text_under words (codes "SCHEDULE")) × (show.is_quiet ≡ true) × (show.history ≡ None) × AsksKept words show
 Asks name words (jobs.Run config folder order show) =
     (name ≡ codes "run") × (config.now ≡ text_under words (codes "CONFIG")) × (folder.now ≡ text_under words (codes "FOLDER")) × AsksOrder words order × AsksShow words show
 Asks name words (jobs.Sel file) = (name ≡ codes "sel") × (file.now ≡ text_under words (codes "FILE"))

@@ -71,6 +71,10 @@ pub struct Show<'a> {
     pub log: Option<&'a str>,
     /// The file that each step is written to as it is taken, as a schedule, if there is one.
     pub record: Option<&'a str>,
+    /// The folder of the devices' stores, if their images last. A replay only reads it.
+    pub store: Option<&'a str>,
+    /// The folder of stores in whose history it is written what happens, if that is: that of a run, not of a replay.
+    pub history: Option<&'a str>,
     /// The form of its report.
     pub form: Form,
 }

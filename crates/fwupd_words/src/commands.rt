@@ -4,7 +4,8 @@ use crate::helps::{
     ANSWER_HELP, BUILD_HELP, INSPECT_HELP, PLAN_HELP, REPLAY_HELP, RUN_HELP, SEL_HELP, SOAK_HELP,
 };
 use crate::options::{
-    json_option, log_option, package_option, trace_form_option, trace_option, with_roughness,
+    json_option, log_option, package_option, store_option, trace_form_option, trace_option,
+    with_roughness,
 };
 use clap::{Arg, ArgAction, Command, value_parser};
 use std::alloc::Global;
@@ -78,6 +79,10 @@ fn replay_command<'a>(alloc: Global) -> Result<Command<'a>, clap::Error> {
         .arg(trace_option(alloc))?
         .arg(trace_form_option(alloc))?
         .arg(log_option(alloc))?
+        .arg(store_option(
+            alloc,
+            "Reads what runs from a folder, in which nothing is written",
+        ))?
         .arg(json_option(alloc))?
         .arg(config)?
         .arg(schedule)?;
@@ -121,6 +126,7 @@ fn run_command<'a>(alloc: Global) -> Result<Command<'a>, clap::Error> {
         .arg(trace_form_option(alloc))?
         .arg(log_option(alloc))?
         .arg(record)?
+        .arg(store_option(alloc, "Keeps what runs in a folder, and begins with it"))?
         .arg(json_option(alloc))?
         .arg(config)?
         .arg(folder)?;

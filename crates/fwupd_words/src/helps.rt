@@ -88,9 +88,12 @@ and activated, in order.
 --trace writes the packets that each step sent behind it, and --sel the log's records; both are as in
 'fwupd run --help'. The report is the same with them and without.
 
+--store begins with the images that 'fwupd run --store' has left there. The folder is only read: what
+the schedule activates isn't kept. Its faults are those of 'fwupd run --help'.
+
 Status: 0; 1 if standard error says 'fwupd: PATH: line N: FAULT', 'fwupd: package: FAULT',
-'fwupd: step N: FAULT', 'fwupd: FILE: unreadable', 'fwupd: trace', 'fwupd: sel', 'fwupd: output' or
-'fwupd: memory'; 2 for wrong usage.";
+'fwupd: step N: FAULT', 'fwupd: FILE: unreadable', 'fwupd: store: EID: FAULT', 'fwupd: trace',
+'fwupd: sel', 'fwupd: output' or 'fwupd: memory'; 2 for wrong usage.";
 
 /// What stands below the help of `run`.
 pub(crate) const RUN_HELP: &str = "\
@@ -99,6 +102,7 @@ Examples:
   fwupd run --check examples/one.config . && echo updated
   fwupd run --quiet --trace out/packets examples/one.config .
   fwupd run --loss 20 --delay 3 --seed 7 --record out/kept examples/one.config .
+  fwupd run --store out/store examples/one.config .
 
 CONFIG and the report are those of 'fwupd replay --help'.
 
@@ -109,13 +113,21 @@ in hexadecimal digits; with --trace-format text what each packet says, with its 
 a turn is a second. --sel writes the event log's records, 16 bytes each, for 'fwupd sel'. --record
 writes a line for each step, as a schedule: 'fwupd replay CONFIG FILE' then prints the same report.
 
+--store makes images last: each that is activated is a file in STORE/EID, which is made, and the text
+STORE/EID/active says which of them run. A run begins with what the runs before it have left, where
+they left any, in the place of CONFIG's images. In STORE/history stand the report's lines of what was
+applied, recorded and activated in all runs: those of a turn are on the disk before the next.
+
 --loss, --duplicate and --delay make the links bad on purpose. A packet that is lost never comes; one
 that comes twice is late each time by chance; and one that is late is held back for 0 to N turns.
 
 Faults: 'package: none' if CONFIG names fewer packages; 'socket: EID' if FOLDER/EID.sock can't be
 made, or is there already; after the report, 'edge: Frame' if a socket failed, 'edge: Step' at the
-end of the clock, and 'trace', 'sel' or 'record' if that file can't be written. If it can't be made,
-or is one that is read, the same, and nothing is run. With --check, after the report, 'session EID: WORD' of the first session in
+end of the clock, and 'trace', 'sel', 'record' or 'history' if that file can't be written. If it
+can't be made, or is one that is read, the same, and nothing is run. So it is with 'store: EID:
+damaged' if 'active' isn't as it was written, or an image that it names; 'store: EID: foreign' if it
+names a component that CONFIG doesn't have; and 'store: EID: unreadable' if the folder can't be read
+or made: nothing of it is touched. With --check, after the report, 'session EID: WORD' of the first session in
 configured order that isn't Done: the cause of its failure, or where it stands.
 
 Limits: 80000 turns of one tick each. Three images of 1 MiB take about 66000.

@@ -34,6 +34,14 @@ pub(crate) fn log_option<'a>(alloc: Global) -> Arg<'a> {
         .help("Writes the event log's records to a file in the end")
 }
 
+/// The option that names the folder of the devices' stores.
+pub(crate) fn store_option<'a>(alloc: Global, help: &'static str) -> Arg<'a> {
+    Arg::new(alloc, "store")
+        .long("store")
+        .value_name("STORE")
+        .help(help)
+}
+
 /// The option that asks for JSON.
 pub(crate) fn json_option<'a>(alloc: Global) -> Arg<'a> {
     Arg::new(alloc, "json")

@@ -73,9 +73,10 @@ fn trace_form_in(matches: &ArgMatches<'_>) -> TraceForm
     }
 }
 
-/// What the words of `run` or `replay` ask to be shown, with progress or without.
-fn show_in<'a>(matches: &ArgMatches<'a>, is_quiet: bool) -> Show<'a>
+/// What the words of `run` or `replay` ask to be shown, with progress or without, and with the history of the stores in a folder.
+fn show_in<'a>(matches: &ArgMatches<'a>, is_quiet: bool, history: Option<&'a str>) -> Show<'a>
     ensures quiet { result.is_quiet ≡ is_quiet }
+    ensures history { result.history ≡ history.entry }
     ensures record { option_map (λ path. path.now) result.record ≡ first_value (found_of matches.now) (codes "record") }
     ensures kept { AsksKept (found_of matches.now) result }
 {
@@ -85,6 +86,8 @@ fn show_in<'a>(matches: &ArgMatches<'a>, is_quiet: bool) -> Show<'a>
         trace_form: trace_form_in(matches),
         log: matches.get_str("sel"),
         record: matches.get_str("record"),
+        store: matches.get_str("store"),
+        history,
         form: form_in(matches),
     }
 }
@@ -165,7 +168,7 @@ fn job_of<'a>(alloc: Global, name: &str, matches: &ArgMatches<'a>) -> Result<Job
         "replay" => Ok(Job::Replay(
             text_under(matches, "CONFIG"),
             text_under(matches, "SCHEDULE"),
-            show_in(matches, true),
+            show_in(matches, true, None),
         )),
         "plan" => Ok(Job::Plan(
             text_under(matches, "CONFIG"),
@@ -176,7 +179,7 @@ fn job_of<'a>(alloc: Global, name: &str, matches: &ArgMatches<'a>) -> Result<Job
             text_under(matches, "CONFIG"),
             text_under(matches, "FOLDER"),
             order_in(matches),
-            show_in(matches, matches.get_flag("quiet")),
+            show_in(matches, matches.get_flag("quiet"), matches.get_str("store")),
         )),
         "soak" => Ok(Job::Soak(
             text_under(matches, "CONFIG"),

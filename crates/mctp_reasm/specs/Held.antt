@@ -9,6 +9,8 @@ use Rattle.mctp_reasm.specs.declared.outcomes.DropCause.{DropCause}
 use Rattle.mctp_reasm.specs.declared.outcomes.DropCause.TheVariants as causes
 use Rattle.mctp_reasm.specs.declared.outcomes.Fed.{Fed}
 use Rattle.mctp_reasm.specs.declared.outcomes.Fed.TheVariants as outcomes
+use Rattle.mctp_reasm.specs.declared.outcomes.Taken.{Taken}
+use Rattle.mctp_reasm.specs.declared.outcomes.Taken.TheVariants as takens
 
 -- the packets that are held, and the ticks since the last of them came
 pub record Held : Type 0 where
@@ -88,6 +90,17 @@ held_as _ last ps = None
 -- what comes of a packet
 abbrev pub fed : «Unit» → Option Held → PacketOf → Fed
 fed u held p = fed_as (cause_of u held p) p.head.eom (message_of p.head (joined held p))
+
+-- what comes of it, where a message that it ends was written elsewhere
+abbrev pub told : Taken → (written : MessageOf) → Fed
+told takens.Open written = outcomes.Open
+told takens.Whole written = outcomes.Whole written
+told (takens.Dropped cause) written = outcomes.Dropped cause
+
+-- where no message ended, what lay there lies there still
+abbrev pub LiesThere : Taken → (before after : MessageOf) → Type 0
+LiesThere takens.Whole before after = Prim.Unit {0}
+LiesThere _ before after = after ≡ before
 
 -- what is held after it
 abbrev pub held_after : «Unit» → Option Held → PacketOf → Option Held

@@ -14,6 +14,10 @@ pub record MessageOf : Type 0 where
   pub tag : ℕ
   pub bytes : List ℕ
 
+-- a place for a message before one is written into it
+abbrev pub blank : MessageOf
+blank = record { dest = 0; source = 0; to = false; tag = 0; bytes = 0 ∷ [] }
+
 -- the most bytes of a message: four packets
 abbrev pub message_limit : «Unit» → ℕ
 message_limit u = MAX_PACKETS * bytes_of u

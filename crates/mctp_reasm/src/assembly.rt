@@ -2,15 +2,14 @@
 
 ghost use Rattle.std.specs.Prelude.{◌≡◌, ◌≢◌, ◌<◌, ◌≤◌, ◌↔◌, ◌⊎◌, ◌%◌, ◌++◌, ◌∷◌, [], length, Option, Some, None, true, false, IfNone};
 ghost use Rattle.mctp_reasm.specs.Pieces.{IsMessage, MessageOf, packet_of, pieces};
-ghost use Rattle.mctp_reasm.specs.Held.{IsHeld, IsOfSame, Joins, base_of, cause_of, fed, held_after, held_tick, joined, message_of, next_cause, packets_of, start_cause};
+ghost use Rattle.mctp_reasm.specs.Held.{IsHeld, IsOfSame, Joins, LiesThere, base_of, cause_of, fed, held_after, held_tick, joined, message_of, next_cause, packets_of, start_cause, told};
 ghost use Rattle.mctp_wire.specs.Units.{bytes_of};
 
 use crate::messages::{MAX_MESSAGE, MAX_PACKETS, Message};
-use crate::outcomes::{DropCause, Fed};
+use crate::outcomes::{DropCause, Fed, Taken};
 use arrayvec::ArrayVec;
 use mctp_wire::{Packet, Unit};
 use std::marker::Model;
-use std::mem;
 
 /// Sequence numbers are counted modulo this.
 const SEQUENCE_NUMBERS: u8 = 4;
@@ -154,15 +153,21 @@ impl Assembly {
         ensures after { self.new ≡ record self.old { held = held_after self.old.unit self.old.held (packet_of packet.now.head packet.now.body.now) } }
         ensures exact { (m : MessageOf) → IsMessage self.old.unit m → (result ≡ Fed.Whole m) ↔ (joined self.old.held (packet_of packet.now.head packet.now.body.now) ≡ pieces self.old.unit m) }
     {
-        self.add(packet)
+        let mut whole = Message::blank();
+        match self.take(packet, &mut whole) {
+            Taken::Open => Fed::Open,
+            Taken::Whole => Fed::Whole(whole),
+            Taken::Dropped(cause) => Fed::Dropped(cause),
+        }
     }
 
-    /// Hears a packet, and says what its tests found.
-    fn add(&mut self, packet: &Packet<'_>) -> Fed
+    /// Hears a packet as `feed` does. A message that it makes whole is written into `whole`, which else stays as it is.
+    pub(crate) fn take(&mut self, packet: &Packet<'_>, whole: &mut Message) -> Taken
         requires body { (1 ≤ length packet.now.body.now) × (length packet.now.body.now ≤ bytes_of self.old.unit) }
         requires tag { packet.now.head.tag ≤ 7 }
         requires same { (packet.now.head.som ≡ true) ⊎ IsOfSame (packets_of self.old.held) packet.now.head }
-        ensures answer { result ≡ fed self.old.unit self.old.held (packet_of packet.now.head packet.now.body.now) }
+        ensures answer { told result whole.new ≡ fed self.old.unit self.old.held (packet_of packet.now.head packet.now.body.now) }
+        ensures whole { LiesThere result whole.old whole.new }
         ensures after { self.new ≡ record self.old { held = held_after self.old.unit self.old.held (packet_of packet.now.head packet.now.body.now) } }
         ensures lawful { IsHeld self.old.unit self.old.held }
         ensures joins { IfNone (cause_of self.old.unit self.old.held (packet_of packet.now.head packet.now.body.now)) (Joins (base_of self.old.held packet.now.head) packet.now.head) }
@@ -172,34 +177,33 @@ impl Assembly {
             self.clear();
         }
         if let Some(cause) = cause {
-            return Fed::Dropped(cause);
+            return Taken::Dropped(cause);
         }
         if packet.head.eom {
-            return Fed::Whole(self.finish(packet));
+            self.finish(packet, whole);
+            return Taken::Whole;
         }
         self.append(packet);
-        Fed::Open
+        Taken::Open
     }
 
-    /// The message that ends with this packet.
+    /// Writes the message that ends with this packet.
     #[tactic(auto, using(crate::proofs::Opened::held))]
-    fn finish(&mut self, packet: &Packet<'_>) -> Message
+    fn finish(&mut self, packet: &Packet<'_>, whole: &mut Message)
         requires room { length (packets_of self.old.held) < MAX_PACKETS }
         requires body { (1 ≤ length packet.now.body.now) × (length packet.now.body.now ≤ bytes_of self.old.unit) }
         requires tag { packet.now.head.tag ≤ 7 }
-        ensures whole { result ≡ message_of packet.now.head (packets_of self.old.held ++ packet_of packet.now.head packet.now.body.now ∷ []) }
+        ensures whole { whole.new ≡ message_of packet.now.head (packets_of self.old.held ++ packet_of packet.now.head packet.now.body.now ∷ []) }
         ensures empty { self.new ≡ record self.old { held = None } }
     {
-        let mut bytes = mem::replace(&mut self.bytes, ArrayVec::new());
-        let _ = bytes.try_extend_from_slice(packet.body);
-        self.pieces = 0;
-        Message {
-            dest: packet.head.dest,
-            source: packet.head.source,
-            to: packet.head.to,
-            tag: packet.head.tag,
-            bytes,
-        }
+        whole.dest = packet.head.dest;
+        whole.source = packet.head.source;
+        whole.to = packet.head.to;
+        whole.tag = packet.head.tag;
+        whole.bytes.clear();
+        let _ = whole.bytes.try_extend_from_slice(self.bytes.as_slice());
+        let _ = whole.bytes.try_extend_from_slice(packet.body);
+        self.clear();
     }
 
     /// One more body of the message that is held.

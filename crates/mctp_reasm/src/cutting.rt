@@ -1,6 +1,6 @@
 //! Messages into packets.
 
-ghost use Rattle.std.specs.Prelude.{◌≡◌, ◌<◌, ◌≤◌, length, map};
+ghost use Rattle.std.specs.Prelude.{◌≡◌, ◌<◌, ◌≤◌, length, map, option_map, slice_get};
 ghost use Rattle.mctp_reasm.specs.Pieces.{message_route, pieces, piece, spelled};
 
 use crate::messages::{MAX_PACKETS, Message};
@@ -25,6 +25,28 @@ fn piece_of(message: &Message, number: u8, last: bool, body: &[u8]) -> RawPacket
     let mut packet = RawPacket::new();
     mctp_wire::encode(&head, body, &mut packet);
     packet
+}
+
+/// The packet of one piece of a message, counted from 0, as `split` cuts it; none where the message has no such piece.
+#[tactic(auto, using(crate::proofs::Cuts::cuts))]
+pub fn piece_at(unit: Unit, message: &Message, number: u8) -> Option<RawPacket>
+    ensures { option_map (λ p. p.items) result ≡ slice_get (map spelled (pieces unit message.now)) number }
+{
+    let size = unit.bytes();
+    let bytes = message.bytes();
+    let start = usize::from(number) * size;
+    if usize::from(number) >= MAX_PACKETS {
+        return None;
+    }
+    if start >= bytes.len() {
+        return None;
+    }
+    let (_, rest) = bytes.split_at(start);
+    if rest.len() <= size {
+        return Some(piece_of(message, number, true, rest));
+    }
+    let (body, _) = rest.split_at(size);
+    Some(piece_of(message, number, false, body))
 }
 
 /// Cuts a message into its packets, at most four (DSP0236, section 8): its bytes cut at each transmission

@@ -1,13 +1,13 @@
 //! The messages that a node hears from a peer, put together from their packets (DSP0236, section 8).
 
 ghost use Rattle.std.specs.Prelude.{◌≡◌, ◌≤◌, None, Some, false, length, map, true};
-ghost use Rattle.mctp_reasm.specs.Held.{IsOfSame, held_tick, packets_of};
+ghost use Rattle.mctp_reasm.specs.Held.{IsOfSame, LiesThere, held_tick, packets_of, told};
 ghost use Rattle.mctp_reasm.specs.Pieces.{packet_of};
 ghost use Rattle.mctp_reasm.specs.Inboxes.{AreOf, fed_at, held_at, held_in, held_with, is_for, none_held, packet_for, ticked};
 ghost use Rattle.mctp_wire.specs.Packet.{IsRead, spelling};
 ghost use Rattle.mctp_wire.specs.Units.{bytes_of};
 
-use crate::{Assembly, Fed};
+use crate::{Assembly, Message, Taken};
 use mctp_wire::{Head, Packet, Unit};
 use std::marker::Model;
 
@@ -103,16 +103,18 @@ impl Inbox {
         self.is_for(&packet.head)
     }
 
-    /// Feeds a packet for this node to the assembly of its tag, and tells what came of it.
+    /// Feeds a packet for this node to the assembly of its tag, and tells what came of it. A message that it makes whole is
+    /// written into `whole`, which else stays as it is.
     #[tactic(auto, using(crate::proofs::Routes::routes))]
-    pub fn feed(&mut self, packet: &Packet<'_>) -> Fed
+    pub fn feed(&mut self, packet: &Packet<'_>, whole: &mut Message) -> Taken
         requires mine { is_for self.old.own self.old.peer self.old.to packet.now.head ≡ true }
         requires body { (1 ≤ length packet.now.body.now) × (length packet.now.body.now ≤ bytes_of self.old.unit) }
         requires tag { packet.now.head.tag ≤ 7 }
-        ensures answer { result ≡ fed_at self.old.unit self.old.held (packet_of packet.now.head packet.now.body.now) }
+        ensures answer { told result whole.new ≡ fed_at self.old.unit self.old.held (packet_of packet.now.head packet.now.body.now) }
+        ensures whole { LiesThere result whole.old whole.new }
         ensures after { self.new ≡ record self.old { held = held_with self.old.unit self.old.held (packet_of packet.now.head packet.now.body.now) } }
     {
-        feed_to(self.unit, &mut self.places, packet)
+        feed_to(self.unit, &mut self.places, packet, whole)
     }
 
     /// A tick passes: each assembly grows older, and ends in the ninth tick after its last packet.
@@ -135,15 +137,16 @@ fn tick_all(places: &mut [Assembly])
 
 /// Feeds a packet to the assembly of its tag.
 #[tactic(auto, using(crate::proofs::Places::places))]
-fn feed_to(unit: Unit, places: &mut [Assembly], packet: &Packet<'_>) -> Fed
+fn feed_to(unit: Unit, places: &mut [Assembly], packet: &Packet<'_>, whole: &mut Message) -> Taken
     requires places { length places.old ≡ 8 }
     requires unit { AreOf unit places.old }
     requires body { (1 ≤ length packet.now.body.now) × (length packet.now.body.now ≤ bytes_of unit) }
     requires tag { packet.now.head.tag ≤ 7 }
     requires same { IsOfSame (packets_of (held_at (held_in places.old) packet.now.head.tag)) packet.now.head }
-    ensures answer { result ≡ fed_at unit (held_in places.old) (packet_of packet.now.head packet.now.body.now) }
+    ensures answer { told result whole.new ≡ fed_at unit (held_in places.old) (packet_of packet.now.head packet.now.body.now) }
+    ensures whole { LiesThere result whole.old whole.new }
     ensures after { held_in places.new ≡ held_with unit (held_in places.old) (packet_of packet.now.head packet.now.body.now) }
     ensures unit { AreOf unit places.new }
 {
-    places[usize::from(packet.head.tag)].feed(packet)
+    places[usize::from(packet.head.tag)].take(packet, whole)
 }

@@ -9,8 +9,8 @@ mod messages;
 mod outcomes;
 
 pub use assembly::Assembly;
-pub use cutting::split;
+pub use cutting::{piece_at, split};
 pub use inbox::{Inbox, TAGS};
 pub use laws::{feeds_next, feeds_other, pieces_of_a_message};
 pub use messages::{MAX_MESSAGE, MAX_PACKETS, Message, MessageFault};
-pub use outcomes::{DropCause, Fed};
+pub use outcomes::{DropCause, Fed, Taken};

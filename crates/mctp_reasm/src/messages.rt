@@ -47,7 +47,7 @@ pub enum MessageFault {
 
 impl Message {
     ghost use Rattle.std.specs.Prelude.{◌≡◌, ◌<◌, ◌≤◌, ◌↔◌, length, IfOk, IsErrOf};
-    ghost use Rattle.mctp_reasm.specs.Pieces.{message_limit};
+    ghost use Rattle.mctp_reasm.specs.Pieces.{blank, message_limit};
     ghost use Rattle.mctp_reasm.specs.declared.messages.TheConstants.{MAX_MESSAGE};
 
     /// A message of these bytes in a network with this transmission unit, its type byte first, under a tag of 0 to 7.
@@ -85,6 +85,21 @@ impl Message {
         })
     }
 
+    /// A place for a message to be written into: one byte 0, from endpoint 0 to endpoint 0.
+    pub fn blank() -> Message
+        ensures { result ≡ blank }
+    {
+        let mut bytes = ArrayVec::new();
+        bytes.push(0);
+        Message {
+            dest: 0,
+            source: 0,
+            to: false,
+            tag: 0,
+            bytes,
+        }
+    }
+
     /// The endpoint that the message goes to.
     pub fn dest(&self) -> u8
         ensures { result ≡ self.now.dest }
@@ -120,6 +135,18 @@ impl Message {
         ensures lawful { (1 ≤ length self.now.bytes) × (length self.now.bytes ≤ MAX_MESSAGE) }
     {
         self.bytes.as_slice()
+    }
+
+    /// Writes another message into this place.
+    pub fn copy_from(&mut self, other: &Message)
+        ensures { self.new ≡ other.now }
+    {
+        self.dest = other.dest;
+        self.source = other.source;
+        self.to = other.to;
+        self.tag = other.tag;
+        self.bytes.clear();
+        let _ = self.bytes.try_extend_from_slice(other.bytes.as_slice());
     }
 
     /// The same message once more.

@@ -33,3 +33,14 @@ pub enum Fed {
     /// The packet was dropped.
     Dropped(DropCause),
 }
+
+/// What comes of a packet, as `Fed` has it, where a message that the packet ends is written elsewhere.
+#[derive(Clone, Copy, Debug, PartialEq, Eq)]
+pub enum Taken {
+    /// The packet was taken; its message goes on.
+    Open,
+    /// The packet ends a message, which was written.
+    Whole,
+    /// The packet was dropped.
+    Dropped(DropCause),
+}

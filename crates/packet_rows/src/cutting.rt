@@ -1,7 +1,22 @@
 //! Messages cut into packets.
 
-use mctp_reasm::{Message, split};
-use mctp_wire::Unit;
+use mctp_reasm::{Message, piece_at, split};
+use mctp_wire::{RawPacket, Unit};
+
+/// Whether these are the packets that are cut one by one, by their numbers.
+fn are_pieces(unit: Unit, message: &Message, packets: &[RawPacket]) -> bool {
+    for number in 0..=4 {
+        match (
+            piece_at(unit, message, number),
+            packets.get(usize::from(number)),
+        ) {
+            (Some(piece), Some(packet)) if piece.as_slice() == packet.as_slice() => {}
+            (None, None) => {}
+            _ => return false,
+        }
+    }
+    true
+}
 
 /// Whether a message of this many bytes is cut into packets with these fourth bytes, and so many bytes in the last.
 fn is_cut(unit: Unit, size: usize, flags: &[u8], last: usize) -> bool {
@@ -21,7 +36,7 @@ fn is_cut(unit: Unit, size: usize, flags: &[u8], last: usize) -> bool {
         }
         end = body.len();
     }
-    packets.len() == flags.len() && end == last
+    packets.len() == flags.len() && end == last && are_pieces(unit, &message, packets.as_slice())
 }
 
 /// The unit, the sizes of messages, the fourth bytes of their packets, and the last one's number of bytes.

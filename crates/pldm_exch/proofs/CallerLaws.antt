@@ -6,11 +6,9 @@ use Rattle.std.proofs.lemmas.Bool.Decides.{eqb_tells}
 use Rattle.std.proofs.lemmas.List.{get_or-set_other}
 use Rattle.mctp_reasm.specs.Pieces.{MessageOf}
 use Rattle.pldm_exch.specs.Rests.{AreRests, fallen, no_rests}
-use Rattle.pldm_exch.specs.Caller.{CallerState, IsCaller, IsOpen, Open, answer_body, answer_heard, begun, caller_tick, closed_by, fresh, heard_as, older, opened, request_message, rest_at, sends_at, ticked}
+use Rattle.pldm_exch.specs.Caller.{CallTickOf, CallerState, IsCaller, IsOpen, Open, answer_body, answer_heard, begun, caller_tick, closed_by, fresh, heard_as, older, opened, request_message, rest_at, sends_at, ticked}
 use Rattle.pldm_exch.specs.Laws.{AreAnswered, CallerStep, CallersStayLawful, EightRequestsRest, Exchange, IsSending, OpenRequestsRepeat, RestsChange, RestsOutlastSendings, after_ticks, caller_after, caller_run, each_tick, exchanged, repeats_under, tick_at, ticks_in}
 use Rattle.pldm_exch.specs.Laws.{Abandon, Begin, Hear, Tick}
-use Rattle.pldm_exch.specs.declared.caller.CallTick.{CallTick}
-use Rattle.pldm_exch.specs.declared.caller.CallTick.TheVariants.{Send}
 use Rattle.pldm_exch.proofs.Callers.{abandoned_is, begun_is, below_8, bool_cases, fresh_is, heard_is, tick_is}
 use Rattle.pldm_exch.proofs.Resting.{rest_fallen, rest_set, rests_fall}
 
@@ -91,21 +89,21 @@ run_keeps c (s ∷ ss) u low h =
     omega (arith, one, more, sum)
 
 -- the message that a tick sends
-message_in : MessageOf → CallTick → MessageOf
-message_in m (Send sent) = sent
+message_in : MessageOf → CallTickOf → MessageOf
+message_in m (CallTickOf.Send sent) = sent
 message_in m _ = m
 
 open_tag : (c : CallerState) (o : Open) → IsOpen c o → o.message.tag ≡ o.tag
 open_tag c o h = ap (λ m. m.tag) h.message ∙ (ap (λ n. n % 8) h.identifier ∙ sym h.tag)
 
 -- a sending sets the rest
-sent_rest : (c : CallerState) (o : Option Open) (m : MessageOf) → IsCaller c → IfSome o (IsOpen c) → (ticked c o).1 ≡ Send m → (m.tag < 8) × (rest_at (ticked c o).0 m.tag ≡ 40)
+sent_rest : (c : CallerState) (o : Option Open) (m : MessageOf) → IsCaller c → IfSome o (IsOpen c) → (ticked c o).1 ≡ CallTickOf.Send m → (m.tag < 8) × (rest_at (ticked c o).0 m.tag ≡ 40)
 unfolding message_in
 sent_rest c None m h open_is e = absurd (cc)
 sent_rest c (Some o) m h open_is e = elim (bool_cases (sends_at (o.age + 1))) [
   | inl due ↦
       let low : o.tag < 8 = rw open_is.tag (below_8 ((c.number + 31) % 32)) in
-      let sent : (ticked c (Some o)).1 ≡ Send o.message = rw due refl in
+      let sent : (ticked c (Some o)).1 ≡ CallTickOf.Send o.message = rw due refl in
       let tag : m.tag ≡ o.tag = ap (λ t. (message_in m t).tag) (sym e ∙ sent) ∙ open_tag c o open_is in
       rw (due, tag) (low, rest_set (fallen c.rests) o.tag low (rests_fall c.rests h.rests))
   | inr other ↦ elim (eqb_tells (o.age + 1) 18) [

@@ -4,10 +4,8 @@ use Rattle.std.proofs.lemmas.Bool.{cases_lt, lt-ltb, le-ltb, le-leb, lt-leb}
 use Rattle.std.proofs.lemmas.Bool.Decides.{eqb_tells}
 use Rattle.std.proofs.lemmas.List.{get_or-set_same, get_or-set_other}
 use Rattle.mctp_reasm.specs.Pieces.{MessageOf}
-use Rattle.pldm_exch.specs.Kept.{AreKept, AreKeptFrom, IsKept, Kept, answerer_tick, asked_as, identifier_of, kept_as, kept_at, kept_tick, kept_with, none_kept}
+use Rattle.pldm_exch.specs.Kept.{AreKept, AreKeptFrom, AskedOf, IsKept, Kept, answerer_tick, asked_as, identifier_of, kept_as, kept_at, kept_tick, kept_with, none_kept}
 use Rattle.pldm_exch.specs.Laws.{AnswersAreKept, AnswersStayLawful, KeptChange, RepeatsAnswerTheRequest, kept_after}
-use Rattle.pldm_exch.specs.declared.answerer.Asked.{Asked}
-use Rattle.pldm_exch.specs.declared.answerer.Asked.TheVariants.{Again, New}
 
 -- what is true of all kept answers stays true
 pub none_are : AreKept none_kept
@@ -54,18 +52,18 @@ pub stay_lawful : AnswersStayLawful
 stay_lawful = record { first = none_are; keep = keep_are; tick = tick_are }
 
 -- what comes again
-answer_in : MessageOf → Asked → MessageOf
-answer_in m (Again answer) = answer
-answer_in m New = m
+answer_in : MessageOf → AskedOf → MessageOf
+answer_in m (AskedOf.Again answer) = answer
+answer_in m AskedOf.New = m
 
-again_as : (place : ℕ) (o : Option Kept) (identifier : Option ℕ) (answer : MessageOf) → IfSome o (IsKept place) → asked_as o identifier ≡ Again answer
+again_as : (place : ℕ) (o : Option Kept) (identifier : Option ℕ) (answer : MessageOf) → IfSome o (IsKept place) → asked_as o identifier ≡ AskedOf.Again answer
     → (answer.tag ≡ place) × (identifier_of answer ≡ identifier)
 unfolding answer_in
 again_as place None identifier answer h e = absurd (cc)
 again_as place (Some k) None answer h e = absurd (cc)
 again_as place (Some k) (Some identifier) answer h e = elim (eqb_tells k.identifier identifier) [
   | inl same ↦
-      let again : asked_as (Some k) (Some identifier) ≡ Again k.reply = rw same.0 refl in
+      let again : asked_as (Some k) (Some identifier) ≡ AskedOf.Again k.reply = rw same.0 refl in
       let is : answer ≡ k.reply = ap (answer_in answer) (sym e ∙ again) in
       (ap (λ m. m.tag) is ∙ h.tag, ap identifier_of is ∙ (h.identifier ∙ ap Some same.1))
   | inr other ↦ let no = rw other.0 at e in absurd (cc)

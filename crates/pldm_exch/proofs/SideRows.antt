@@ -8,9 +8,7 @@ use Rattle.pldm_base.specs.Header.{pldm_of}
 use Rattle.pldm_exch.specs.Caller.{CallerState, Heard, Open, answer_body, answer_heard, closed_by, heard_as}
 use Rattle.pldm_base.specs.declared.header.PldmFault.{PldmFault}
 use Rattle.pldm_base.specs.declared.header.PldmHead.{PldmHead}
-use Rattle.pldm_exch.specs.Kept.{Kept, request_heard}
-use Rattle.pldm_exch.specs.declared.answerer.Asked.{Asked}
-use Rattle.pldm_exch.specs.declared.answerer.Asked.TheVariants as asks
+use Rattle.pldm_exch.specs.Kept.{AskedOf, Kept, request_heard}
 use Rattle.pldm_exch.specs.Ends.{AnsweringOf, AskingOf}
 use Rattle.pldm_exch.specs.Sides.{TakerRow, answering_row, asker_answered, asking_after, asking_row, learnt_in, requests_in, taker_asked, taker_read}
 
@@ -56,9 +54,9 @@ pub whole_request : (t : AnsweringOf) (bytes : List ℕ) (p : PacketOf) (m : Mes
     → answering_row t bytes ≡ taker_read (held_with t.unit t.requests p) t.kept m (pldm_of m.bytes)
 whole_request t bytes p m found whole = rw (sym found, sym whole) refl
 
-asked_in : (requests : List (Option Held)) (m : MessageOf) (h : PldmHead) (body : List ℕ) (a : Asked) → requests_in (taker_asked requests m h body a) ≡ requests
-asked_in requests m h body (asks.Again answer) = refl
-asked_in requests m h body asks.New = refl
+asked_in : (requests : List (Option Held)) (m : MessageOf) (h : PldmHead) (body : List ℕ) (a : AskedOf) → requests_in (taker_asked requests m h body a) ≡ requests
+asked_in requests m h body (AskedOf.Again answer) = refl
+asked_in requests m h body AskedOf.New = refl
 
 read_if : (b : Bool) (requests : List (Option Held)) (m : MessageOf) (row : TakerRow) → requests_in row ≡ requests → requests_in (if b then row else TakerRow.Strays requests m) ≡ requests
 read_if true requests m row e = e

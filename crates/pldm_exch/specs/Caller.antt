@@ -135,6 +135,12 @@ heard_as c (Some o) m = closed_by c o (answer_body o m)
 abbrev pub answer_heard : CallerState → MessageOf → CallerState × Option Heard
 answer_heard c m = heard_as c c.asked m
 
+-- what a tick asks of the node: nothing, or that this message is sent again; or the open request was given up
+pub data CallTickOf : Type 0 where
+  Nothing : CallTickOf
+  Send : (message : MessageOf) → CallTickOf
+  GaveUp : CallTickOf
+
 -- the ages at which an open request is sent again
 abbrev pub sends_at : ℕ → Bool
 sends_at age = (age == 6) || (age == 12)
@@ -142,20 +148,33 @@ sends_at age = (age == 6) || (age == 12)
 abbrev pub older : Open → Open
 older o = record o { age = o.age + 1 }
 
-abbrev pub ticked : CallerState → Option Open → CallerState × CallTick
-ticked c None = (record c { rests = fallen c.rests }, ticks.Nothing)
+abbrev pub ticked : CallerState → Option Open → CallerState × CallTickOf
+ticked c None = (record c { rests = fallen c.rests }, CallTickOf.Nothing)
 ticked c (Some o) =
     if sends_at (o.age + 1) then (
       record c { rests = slice_set (fallen c.rests) o.tag 40; asked = Some (older o) },
-      ticks.Send o.message,
+      CallTickOf.Send o.message,
     )
-    else if o.age + 1 == 18 then (record c { rests = fallen c.rests; asked = None }, ticks.GaveUp)
-    else (record c { rests = fallen c.rests; asked = Some (older o) }, ticks.Nothing)
+    else if o.age + 1 == 18 then (record c { rests = fallen c.rests; asked = None }, CallTickOf.GaveUp)
+    else (record c { rests = fallen c.rests; asked = Some (older o) }, CallTickOf.Nothing)
 
 -- A tick: all rests fall, and the open request grows older. At 6 and at 12 ticks the same message is sent again, and
 -- its tag rests anew; at 18 the request is given up without an answer.
-abbrev pub caller_tick : CallerState → CallerState × CallTick
+abbrev pub caller_tick : CallerState → CallerState × CallTickOf
 caller_tick c = ticked c c.asked
+
+-- what it asks, without the message
+abbrev pub tick_word : CallTickOf → CallTick
+tick_word CallTickOf.Nothing = ticks.Nothing
+tick_word (CallTickOf.Send m) = ticks.Send
+tick_word CallTickOf.GaveUp = ticks.GaveUp
+
+-- what it asks, where the message is that of the request which is open then
+abbrev pub tick_of : CallTick → Option Open → CallTickOf
+tick_of ticks.Nothing o = CallTickOf.Nothing
+tick_of ticks.Send None = CallTickOf.Nothing
+tick_of ticks.Send (Some o) = CallTickOf.Send o.message
+tick_of ticks.GaveUp o = CallTickOf.GaveUp
 
 -- what is true of each open request: it is the last that began, it is at most 17 ticks old and unanswered, its message
 -- is that of a request with this identifier, type and command, and its tag rests 40 ticks less those since its last

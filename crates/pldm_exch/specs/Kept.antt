@@ -13,6 +13,16 @@ pub record Kept : Type 0 where
   pub reply : MessageOf
   pub age : ℕ
 
+-- what a request asks for: it is new, or this answer to it is kept
+pub data AskedOf : Type 0 where
+  New : AskedOf
+  Again : (answer : MessageOf) → AskedOf
+
+-- that, as the code has it
+abbrev pub asked_of : Asked → AskedOf
+asked_of asks.New = AskedOf.New
+asked_of (asks.Again answer) = AskedOf.Again answer.now
+
 -- eight tags without an answer
 abbrev pub none_kept : List (Option Kept)
 none_kept = replicate 8 None
@@ -30,12 +40,12 @@ abbrev pub identifier_of : MessageOf → Option ℕ
 identifier_of m = identifier_in (pldm_of m.bytes)
 
 -- a kept answer for a request with this identifier
-abbrev pub asked_as : Option Kept → Option ℕ → Asked
-asked_as (Some k) (Some identifier) = if k.identifier == identifier then asks.Again k.reply else asks.New
-asked_as _ _ = asks.New
+abbrev pub asked_as : Option Kept → Option ℕ → AskedOf
+asked_as (Some k) (Some identifier) = if k.identifier == identifier then AskedOf.Again k.reply else AskedOf.New
+asked_as _ _ = AskedOf.New
 
 -- A request is heard: its answer is there again where its tag keeps its identifier, and else it is new.
-abbrev pub request_heard : List (Option Kept) → MessageOf → Asked
+abbrev pub request_heard : List (Option Kept) → MessageOf → AskedOf
 request_heard kept m = asked_as (kept_at kept m.tag) (identifier_of m)
 
 abbrev pub kept_as : List (Option Kept) → MessageOf → Option ℕ → List (Option Kept)

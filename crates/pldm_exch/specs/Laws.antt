@@ -1,11 +1,8 @@
--- What layers above rely on: callers and answerers over any number of calls and ticks.
+-- What layers above rely on: callers and answerers over any number of calls and CallTickOf.
 use Rattle.std.specs.Prelude.{◌≡◌, ◌<◌, ◌≤◌, ℕ, zero, suc, ◌+◌, ◌-◌, ◌==◌, ◌&&◌, Bool, true, false, nat_le, if◌then◌else◌, List, [], ◌∷◌, length, Option, Some, None}
 use Rattle.mctp_reasm.specs.Pieces.{MessageOf}
-use Rattle.pldm_exch.specs.Caller.{CallerState, IsCaller, Open, abandoned, answer_heard, begun, caller_tick, fresh, may_begin, next_tag, rest_at, sends_at}
-use Rattle.pldm_exch.specs.Kept.{AreKept, Kept, answerer_tick, identifier_of, kept_at, kept_tick, kept_with, none_kept, request_heard}
-use Rattle.pldm_exch.specs.declared.answerer.Asked.TheVariants as asks
-use Rattle.pldm_exch.specs.declared.caller.CallTick.{CallTick}
-use Rattle.pldm_exch.specs.declared.caller.CallTick.TheVariants as ticks
+use Rattle.pldm_exch.specs.Caller.{CallTickOf, CallerState, IsCaller, Open, abandoned, answer_heard, begun, caller_tick, fresh, may_begin, next_tag, rest_at, sends_at}
+use Rattle.pldm_exch.specs.Kept.{AreKept, AskedOf, Kept, answerer_tick, identifier_of, kept_at, kept_tick, kept_with, none_kept, request_heard}
 
 -- a call of a caller that may change it
 pub data CallerStep : Type 0 where
@@ -37,7 +34,7 @@ abbrev pub IsSending : CallerState → CallerStep → MessageOf → Type 0
 IsSending c (Begin pldm_type command body) m = (begun c pldm_type command body).1 ≡ m
 IsSending c (Hear _) m = ⊥
 IsSending c Abandon m = ⊥
-IsSending c Tick m = (caller_tick c).1 ≡ ticks.Send m
+IsSending c Tick m = (caller_tick c).1 ≡ CallTickOf.Send m
 
 -- What is true of a fresh caller is true of it after any calls: above all, an open request is the last that began, and
 -- at most 17 ticks old.
@@ -73,12 +70,12 @@ after_ticks zero c = c
 after_ticks (suc n) c = (caller_tick (after_ticks n c)).0
 
 -- what the next tick says of a request that is open for so many ticks
-abbrev pub tick_at : ℕ → MessageOf → CallTick
+abbrev pub tick_at : ℕ → MessageOf → CallTickOf
 tick_at age m =
-    if age + 1 == 6 then ticks.Send m
-    else if age + 1 == 12 then ticks.Send m
-    else if age + 1 == 18 then ticks.GaveUp
-    else ticks.Nothing
+    if age + 1 == 6 then CallTickOf.Send m
+    else if age + 1 == 12 then CallTickOf.Send m
+    else if age + 1 == 18 then CallTickOf.GaveUp
+    else CallTickOf.Nothing
 
 -- A request that isn't answered is sent in the call that begins it, in the sixth tick and in the twelfth, and is given
 -- up in the 18th; in each other tick before that nothing happens.
@@ -116,7 +113,7 @@ EightRequestsRest =
     (own peer : ℕ) (xs : List Exchange) → length xs ≡ 8 → AreAnswered (fresh own peer) xs
     → (each_tick (fresh own peer) xs).rests ≡ 33 ∷ 34 ∷ 35 ∷ 36 ∷ 37 ∷ 38 ∷ 39 ∷ 40 ∷ []
 
--- What is true of no kept answers stays true: eight places, answers of their tags, none older than 24 ticks.
+-- What is true of no kept answers stays true: eight places, answers of their tags, none older than 24 CallTickOf.
 pub record AnswersStayLawful : Type 0 where
   pub first : AreKept none_kept
   pub keep : (kept : List (Option Kept)) (m : MessageOf) → AreKept kept → AreKept (kept_with kept m)
@@ -125,7 +122,7 @@ pub record AnswersStayLawful : Type 0 where
 -- What comes again answers the very request: it carries its tag and its identifier.
 abbrev pub RepeatsAnswerTheRequest : Type 0
 RepeatsAnswerTheRequest =
-    (kept : List (Option Kept)) (request answer : MessageOf) → AreKept kept → request_heard kept request ≡ asks.Again answer
+    (kept : List (Option Kept)) (request answer : MessageOf) → AreKept kept → request_heard kept request ≡ AskedOf.Again answer
     → (answer.tag ≡ request.tag) × (identifier_of answer ≡ identifier_of request)
 
 -- so many ticks

@@ -23,7 +23,7 @@ pub record RequestOf : Type 0 where
   pub head : PldmHead
   pub body : List ℕ
 
--- the body of what was read
+-- the body of what was read; what is no PLDM message has none
 abbrev pub body_in : Result (PldmHead × List ℕ) PldmFault → List ℕ
 body_in (Ok r) = r.1
 body_in (Err fault) = []

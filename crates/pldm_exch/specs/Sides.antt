@@ -1,22 +1,18 @@
 -- What each end of an exchange makes of a packet and of a tick, a row a case.
-use Rattle.std.specs.Prelude.{ℕ, ◌-◌, ◌==◌, nat_le, Bool, true, false, if◌then◌else◌, List, map, Option, Some, None, Result, Ok, Err}
+use Rattle.std.specs.Prelude.{ℕ, ◌≡◌, ◌-◌, ◌==◌, nat_le, Bool, true, false, if◌then◌else◌, List, map, Option, Some, None, Result, Ok, Err}
 use Rattle.mctp_wire.specs.declared.unit.Unit.{«Unit»}
 use Rattle.mctp_reasm.specs.Held.{Held, held_tick}
 use Rattle.mctp_reasm.specs.Inboxes.{fed_at, held_with, packet_for}
 use Rattle.mctp_reasm.specs.Pieces.{MessageOf, PacketOf}
 use Rattle.mctp_reasm.specs.declared.outcomes.Fed.{Fed}
 use Rattle.mctp_reasm.specs.declared.outcomes.Fed.TheVariants as outcomes
-use Rattle.pldm_base.specs.Header.{pldm_of}
+use Rattle.pldm_base.specs.Header.{IsHead, pldm_of}
 use Rattle.pldm_base.specs.declared.header.PldmFault.{PldmFault}
 use Rattle.pldm_base.specs.declared.header.PldmHead.{PldmHead}
-use Rattle.pldm_exch.specs.Caller.{CallerState, Heard, answer_heard, caller_tick}
+use Rattle.pldm_exch.specs.Caller.{CallTickOf, CallerState, Heard, answer_heard, caller_tick}
 use Rattle.pldm_exch.specs.Ends.{AnsweringOf, AskerOf, AskingOf, TakerOf, asker_of, taker_of}
-use Rattle.pldm_exch.specs.Kept.{Kept, answerer_tick, kept_with, request_heard}
-use Rattle.pldm_exch.specs.Requests.{RequestOf, reply_message}
-use Rattle.pldm_exch.specs.declared.answerer.Asked.{Asked}
-use Rattle.pldm_exch.specs.declared.answerer.Asked.TheVariants as asks
-use Rattle.pldm_exch.specs.declared.caller.CallTick.{CallTick}
-use Rattle.pldm_exch.specs.declared.caller.CallTick.TheVariants as ticks
+use Rattle.pldm_exch.specs.Kept.{AskedOf, Kept, answerer_tick, kept_with, request_heard}
+use Rattle.pldm_exch.specs.Requests.{RequestOf, body_in, reply_message}
 use Rattle.pldm_exch.specs.declared.request.Brought.{Brought}
 use Rattle.pldm_exch.specs.declared.request.Brought.TheVariants as brings
 
@@ -32,9 +28,9 @@ pub data TakerRow : Type 0 where
   Strays : (requests : List (Option Held)) → (message : MessageOf) → TakerRow
 
 -- a request: new, or there again
-abbrev pub taker_asked : List (Option Held) → MessageOf → PldmHead → List ℕ → Asked → TakerRow
-taker_asked requests m head body (asks.Again answer) = TakerRow.Repeats requests answer
-taker_asked requests m head body asks.New = TakerRow.TakesUp requests m head body
+abbrev pub taker_asked : List (Option Held) → MessageOf → PldmHead → List ℕ → AskedOf → TakerRow
+taker_asked requests m head body (AskedOf.Again answer) = TakerRow.Repeats requests answer
+taker_asked requests m head body AskedOf.New = TakerRow.TakesUp requests m head body
 
 -- a whole message: a PLDM request, or a stray
 abbrev pub taker_read : List (Option Held) → List (Option Kept) → MessageOf → Result (PldmHead × List ℕ) PldmFault → TakerRow
@@ -93,10 +89,10 @@ pub data AskerTick : Type 0 where
   -- the open request was given up
   GivesUp : AskerOf → AskerTick
 
-abbrev pub asker_called : AskerOf → CallTick → AskerTick
-asker_called a ticks.Nothing = AskerTick.Waits a
-asker_called a (ticks.Send m) = AskerTick.Resends a m
-asker_called a ticks.GaveUp = AskerTick.GivesUp a
+abbrev pub asker_called : AskerOf → CallTickOf → AskerTick
+asker_called a CallTickOf.Nothing = AskerTick.Waits a
+asker_called a (CallTickOf.Send m) = AskerTick.Resends a m
+asker_called a CallTickOf.GaveUp = AskerTick.GivesUp a
 
 -- A tick that it counts: a deaf count falls by one, and if it is still above 0 nothing else happens; then what is held
 -- of replies grows older, and so do its requests.
@@ -136,6 +132,20 @@ abbrev pub learnt_in : AskerRow → Option Heard
 learnt_in (AskerRow.Ignores replies) = None
 learnt_in (AskerRow.Learns replies caller heard) = Some heard
 
+-- that answer, where it lies in a message: the command that it answers, and the message's body
+abbrev pub heard_in : (command : ℕ) → MessageOf → Heard
+heard_in command m = record { command = command; reply = body_in (pldm_of m.bytes) }
+
+-- what lies in a place for messages after a packet: the message that it made whole, and else what lay there
+abbrev pub written : Fed → (before : MessageOf) → MessageOf
+written (outcomes.Whole m) before = m
+written outcomes.Open before = before
+written (outcomes.Dropped cause) before = before
+
+abbrev pub lies_after : «Unit» → List (Option Held) → Option PacketOf → (before : MessageOf) → MessageOf
+lies_after u held None before = before
+lies_after u held (Some p) before = written (fed_at u held p) before
+
 -- that node after a packet
 abbrev pub asking_after : AskingOf → AskerRow → AskingOf
 asking_after a (AskerRow.Ignores replies) = record a { replies = replies }
@@ -148,12 +158,18 @@ pub data BroughtOf : Type 0 where
   New : (request : RequestOf) → BroughtOf
   Strays : (message : MessageOf) → BroughtOf
 
--- that, as the code has it
-abbrev pub brought_of : Brought → BroughtOf
-brought_of brings.Nothing = BroughtOf.Nothing
-brought_of (brings.Again answer) = BroughtOf.Again answer
-brought_of (brings.New request) = BroughtOf.New request
-brought_of (brings.Strays message) = BroughtOf.Strays message
+-- that, as the code has it, with the message beside it
+abbrev pub brought_of : Brought → MessageOf → BroughtOf
+brought_of brings.Nothing m = BroughtOf.Nothing
+brought_of brings.Again m = BroughtOf.Again m
+brought_of (brings.New head) m = BroughtOf.New (record { message = m; head = head; body = body_in (pldm_of m.bytes) })
+brought_of brings.Strays m = BroughtOf.Strays m
+
+-- the head of a new request is that of a PLDM message; where nothing is brought, the message beside it is as it was
+abbrev pub IsBrought : Brought → (before after : MessageOf) → Type 0
+IsBrought brings.Nothing before after = after ≡ before
+IsBrought (brings.New head) before after = IsHead head
+IsBrought _ before after = Prim.Unit {0}
 
 -- what it is by the row
 abbrev pub brought_in : TakerRow → BroughtOf

@@ -1,7 +1,7 @@
 //! Answers that are kept for requests that come again.
 
 ghost use Rattle.std.specs.Prelude.{◌≡◌};
-ghost use Rattle.pldm_exch.specs.Kept.{AreKept, answerer_tick, kept_tick, kept_with, none_kept, request_heard};
+ghost use Rattle.pldm_exch.specs.Kept.{AreKept, answerer_tick, asked_of, kept_tick, kept_with, none_kept, request_heard};
 
 use crate::times::HOLD;
 use mctp_reasm::{Message, TAGS};
@@ -24,12 +24,12 @@ impl Model for Answer {
 }
 
 /// What a request asks for.
-#[derive(Drop)]
-pub enum Asked {
+#[derive(Clone, Copy)]
+pub enum Asked<'k> {
     /// It is new: it is to be taken, and its answer to be kept.
     New,
     /// It came again: this answer, which was kept, is to be sent again, and nothing else is to be done.
-    Again(Message),
+    Again(&'k Message),
 }
 
 /// The kept answers of one direction: at most one a tag, each for 24 ticks.
@@ -63,8 +63,8 @@ impl Answerer {
     /// Hears a request: its answer comes again exactly where its tag keeps one for its identifier. A message that is no
     /// PLDM message has no identifier, and is new.
     #[tactic(auto, using(crate::proofs::Keeping::keeping))]
-    pub fn on_request(&self, request: &Message) -> Asked
-        ensures value { result ≡ request_heard self.now request.now }
+    pub fn on_request(&self, request: &Message) -> Asked<'_>
+        ensures value { asked_of result ≡ request_heard self.now request.now }
         ensures lawful { AreKept self.now }
     {
         let Some(answer) = &self.places[request.tag() as usize] else {
@@ -76,7 +76,7 @@ impl Answerer {
         if head.instance != answer.identifier {
             return Asked::New;
         }
-        Asked::Again(answer.reply.again())
+        Asked::Again(&answer.reply)
     }
 
     /// Keeps an answer, in the place of what its tag kept: its tag and its identifier are those of its request. A message

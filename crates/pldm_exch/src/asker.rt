@@ -1,14 +1,15 @@
 //! The end of a node that asks a peer.
 
-ghost use Rattle.std.specs.Prelude.{◌≡◌, ◌≤◌, List, ℕ, is_some, length, option_map, true};
+ghost use Rattle.std.specs.Prelude.{◌≡◌, ◌≤◌, List, ℕ, false, is_some, length, option_map, true};
+ghost use Rattle.mctp_reasm.specs.Inboxes.{packet_for};
 ghost use Rattle.mctp_wire.specs.Packet.{IsRead, spelling};
 ghost use Rattle.pldm_base.specs.Limits.{reply_limit};
-ghost use Rattle.pldm_exch.specs.Caller.{abandoned, asking, begun, caller_tick, is_quiet, may_begin};
+ghost use Rattle.pldm_exch.specs.Caller.{abandoned, asking, begun, caller_tick, is_quiet, may_begin, tick_of, tick_word};
 ghost use Rattle.pldm_exch.specs.Ends.{asking_new, asking_older};
-ghost use Rattle.pldm_exch.specs.Sides.{asking_after, asking_row, learnt_in};
+ghost use Rattle.pldm_exch.specs.Sides.{asking_after, asking_row, heard_in, learnt_in, lies_after};
 
-use crate::caller::{CallTick, Caller, ReplyIn};
-use mctp_reasm::{Fed, Inbox, Message};
+use crate::caller::{CallTick, Caller};
+use mctp_reasm::{Inbox, Message, Taken};
 use mctp_wire::{Packet, Unit};
 use pldm_base::TYPE_FIRMWARE_UPDATE;
 use std::marker::Model;
@@ -79,6 +80,13 @@ impl Asker {
         self.caller.open_request()
     }
 
+    /// The message of the request that waits for its reply.
+    pub fn open_message(&self) -> Option<&Message>
+        ensures { option_map (λ m. m.now) result ≡ option_map (λ o. o.message) self.now.caller.asked }
+    {
+        self.caller.open_message()
+    }
+
     /// Whether nothing of the last request can come any more: none is open, and the last one was answered, or its tag has
     /// rested.
     pub fn is_quiet(&self) -> bool
@@ -113,26 +121,33 @@ impl Asker {
         self.caller.abandon();
     }
 
-    /// Hears a packet: the reply that is learnt, if the packet makes the open request's reply whole. One that is none of
-    /// the peer's replies changes nothing.
+    /// Hears a packet: the command whose reply is learnt, if the packet makes the open request's reply whole. A message that
+    /// the packet makes whole is written into `message`, which else stays as it is; what is learnt is that message's body. A
+    /// packet that is none of the peer's replies changes nothing.
     #[tactic(auto, using(crate::proofs::SideRows::rows))]
-    pub fn hear(&mut self, packet: &Packet<'_>) -> Option<ReplyIn>
+    pub fn hear(&mut self, packet: &Packet<'_>, message: &mut Message) -> Option<u8>
         requires read { IsRead packet.now }
-        ensures learnt { option_map (λ r. record { command = r.command; reply = r.reply.items }) result ≡ learnt_in (asking_row self.old (spelling packet.now)) }
+        ensures learnt { option_map (λ command. heard_in command message.new) result ≡ learnt_in (asking_row self.old (spelling packet.now)) }
+        ensures message { message.new ≡ lies_after self.old.unit self.old.replies (packet_for self.old.unit self.old.own self.old.peer false (spelling packet.now)) message.old }
         ensures after { self.new ≡ asking_after self.old (asking_row self.old (spelling packet.now)) }
     {
         if !self.inbox.hears(packet) {
             return None;
         }
-        let Fed::Whole(message) = self.inbox.feed(packet) else {
+        let Taken::Whole = self.inbox.feed(packet, message) else {
             return None;
         };
-        self.caller.on_answer(&message)
+        let Some(heard) = self.caller.on_answer(message) else {
+            return None;
+        };
+        Some(heard.command)
     }
 
-    /// A tick passes: what is held grows older, and the open request is sent again or given up.
+    /// A tick passes: what is held grows older, and the open request is sent again or given up. The message to send is the
+    /// open one's then.
     pub fn tick(&mut self) -> CallTick
-        ensures answer { result ≡ (caller_tick self.old.caller).1 }
+        ensures answer { result ≡ tick_word (caller_tick self.old.caller).1 }
+        ensures message { tick_of result self.new.caller.asked ≡ (caller_tick self.old.caller).1 }
         ensures after { self.new ≡ asking_older self.old }
     {
         self.inbox.tick();

@@ -2,14 +2,14 @@
 
 ghost use Rattle.std.specs.Prelude.{◌≡◌, ◌≤◌, ◌%◌, length, List, ℕ, IfSome, IsSome, IsSomeAnd, option_map, is_some, true};
 ghost use Rattle.pldm_base.specs.Limits.{reply_limit};
-ghost use Rattle.pldm_exch.specs.Caller.{IsAnswerTo, IsCaller, abandoned, answer_body, answer_heard, asking, begun, caller_tick, fresh, is_answer_head, is_quiet, may_begin, sends_at};
+ghost use Rattle.pldm_exch.specs.Caller.{IsAnswerTo, IsCaller, abandoned, answer_body, answer_heard, asking, begun, caller_tick, fresh, is_answer_head, is_quiet, may_begin, sends_at, tick_of, tick_word};
 ghost use Rattle.pldm_exch.specs.Fields.{open_of};
 
 use crate::rests::Rests;
 use crate::times::{GIVEN_UP, RETRY};
 use mctp_reasm::{Message, TAGS};
 use mctp_wire::Unit;
-use pldm_base::{MAX_REPLY, PldmHead, Reply};
+use pldm_base::{MAX_REPLY, PldmHead};
 use std::marker::Model;
 
 /// Requests of a direction are numbered modulo this: an instance identifier has five bits (DSP0240).
@@ -70,21 +70,21 @@ impl OpenRequest {
 }
 
 /// What an answer brings.
-#[derive(Drop)]
-pub struct ReplyIn {
+#[derive(Clone, Copy)]
+pub struct ReplyIn<'m> {
     /// The command that it answers.
     pub command: u8,
-    /// What follows the header: the completion code and the fields.
-    pub reply: Reply,
+    /// What follows the header, where it lies in the message: the completion code and the fields.
+    pub reply: &'m [u8],
 }
 
 /// What a tick asks of the node.
-#[derive(Drop)]
+#[derive(Clone, Copy, Debug, PartialEq, Eq)]
 pub enum CallTick {
     /// Nothing is to be sent.
     Nothing,
-    /// The open request is sent again: this message.
-    Send(Message),
+    /// The message of the open request is sent again.
+    Send,
     /// The open request was given up without an answer.
     GaveUp,
 }
@@ -148,6 +148,16 @@ impl Caller {
             return None;
         };
         Some((open.head.command, body))
+    }
+
+    /// The message of the open request.
+    pub fn open_message(&self) -> Option<&Message>
+        ensures { option_map (λ m. m.now) result ≡ option_map (λ o. o.message) self.now.asked }
+    {
+        let Some(open) = &self.asked else {
+            return None;
+        };
+        Some(&open.message)
     }
 
     /// Whether nothing of the last request can come any more: no request is open, and the last one was answered, or its
@@ -214,20 +224,18 @@ impl Caller {
     /// Hears a message. Where it is an answer to the open request it closes that, and what it brings is given out: TO
     /// and Rq are clear, and tag, identifier, type and command are the request's. Any other message changes nothing.
     #[tactic(auto, using(crate::proofs::Callers::callers))]
-    pub fn on_answer(&mut self, message: &Message) -> Option<ReplyIn>
-        ensures answer { option_map (λ r. record { command = r.command; reply = r.reply.items }) result ≡ (answer_heard self.old message.now).1 }
+    pub fn on_answer<'m>(&mut self, message: &'m Message) -> Option<ReplyIn<'m>>
+        ensures answer { option_map (λ r. record { command = r.command; reply = r.reply.now }) result ≡ (answer_heard self.old message.now).1 }
         ensures after { self.new ≡ (answer_heard self.old message.now).0 }
-        ensures found { IfSome result (λ r. IsSomeAnd self.old.asked (λ o. IsAnswerTo o message.now r.reply.items × (r.command ≡ o.command))) }
+        ensures found { IfSome result (λ r. IsSomeAnd self.old.asked (λ o. IsAnswerTo o message.now r.reply.now × (r.command ≡ o.command))) }
         ensures only { (body : List ℕ) → IsSomeAnd self.old.asked (λ o. IsAnswerTo o message.now body) → IsSome result }
     {
         let Some(open) = &self.asked else {
             return None;
         };
-        let Some(body) = open.answer_in(message) else {
+        let Some(reply) = open.answer_in(message) else {
             return None;
         };
-        let mut reply = Reply::new();
-        let _ = reply.try_extend_from_slice(body);
         let command = open.head.command;
         self.asked = None;
         self.answered = true;
@@ -242,10 +250,12 @@ impl Caller {
         let _ = self.asked.take();
     }
 
-    /// A tick passes. The open request is sent again 6 and 12 ticks after it began, and given up after 18.
+    /// A tick passes. The open request is sent again 6 and 12 ticks after it began, and given up after 18. The message to
+    /// send is the open one's then.
     #[tactic(auto, using(crate::proofs::Callers::callers))]
     pub fn tick(&mut self) -> CallTick
-        ensures answer { result ≡ (caller_tick self.old).1 }
+        ensures answer { result ≡ tick_word (caller_tick self.old).1 }
+        ensures message { tick_of result self.new.asked ≡ (caller_tick self.old).1 }
         ensures after { self.new ≡ (caller_tick self.old).0 }
     {
         self.rests.tick();
@@ -254,9 +264,8 @@ impl Caller {
         };
         open.age += 1;
         if open.is_due() {
-            let message = open.message.again();
-            self.rests.start(message.tag());
-            return CallTick::Send(message);
+            self.rests.start(open.message.tag());
+            return CallTick::Send;
         }
         if open.age == GIVEN_UP {
             self.asked = None;

@@ -2,14 +2,15 @@
 
 ghost use Rattle.std.specs.Prelude.{◌≡◌, ◌≤◌, length, true};
 ghost use Rattle.mctp_wire.specs.Packet.{IsRead, spelling};
+ghost use Rattle.mctp_reasm.specs.Pieces.{MessageOf};
 ghost use Rattle.pldm_base.specs.Header.{IsHead, pldm_of};
 ghost use Rattle.pldm_exch.specs.Ends.{answering_new, answering_older};
-ghost use Rattle.pldm_exch.specs.Sides.{answered_with, answering_row, brought_in, brought_of, requests_in, taker_read};
+ghost use Rattle.pldm_exch.specs.Sides.{IsBrought, answered_with, answering_row, brought_in, brought_of, requests_in, taker_read};
 ghost use Rattle.pldm_exch.specs.Requests.{reply_message};
 
 use crate::answerer::{Answerer, Asked};
 use crate::request::{Brought, Request};
-use mctp_reasm::{Fed, Inbox, Message};
+use mctp_reasm::{Inbox, Message, Taken};
 use mctp_wire::{Packet, Unit};
 use pldm_base::{MAX_REPLY, PldmHead};
 use std::marker::Model;
@@ -66,48 +67,52 @@ impl Taker {
         self.inbox.peer()
     }
 
-    /// Hears a packet, and tells what is to be done if the packet makes a message whole. One that is none of the peer's
-    /// requests changes nothing.
+    /// Hears a packet, and tells what is to be done if the packet makes a message whole: what the answer speaks of is written
+    /// into `message`, which stays as it is where nothing is to be done. A packet that is none of the peer's requests changes
+    /// nothing.
     #[tactic(auto, using(crate::proofs::SideRows::rows))]
-    pub fn hear(&mut self, packet: &Packet<'_>) -> Brought
+    pub fn hear(&mut self, packet: &Packet<'_>, message: &mut Message) -> Brought
         requires read { IsRead packet.now }
-        ensures brought { brought_of result ≡ brought_in (answering_row self.old (spelling packet.now)) }
+        ensures brought { brought_of result message.new ≡ brought_in (answering_row self.old (spelling packet.now)) }
+        ensures message { IsBrought result message.old message.new }
         ensures after { self.new ≡ record self.old { requests = requests_in (answering_row self.old (spelling packet.now)) } }
     {
         if !self.inbox.hears(packet) {
             return Brought::Nothing;
         }
-        let Fed::Whole(message) = self.inbox.feed(packet) else {
+        let Taken::Whole = self.inbox.feed(packet, message) else {
             return Brought::Nothing;
         };
         self.read(message)
     }
 
-    /// What a whole message brings.
+    /// What a whole message brings: its kept answer takes its place where it came again.
     #[tactic(auto, using(crate::proofs::SideRows::rows))]
-    fn read(&self, message: Message) -> Brought
-        ensures { brought_of result ≡ brought_in (taker_read self.now.requests self.now.kept message (pldm_of message.bytes)) }
+    fn read(&self, message: &mut Message) -> Brought
+        ensures brought { brought_of result message.new ≡ brought_in (taker_read self.now.requests self.now.kept message.old (pldm_of message.old.bytes)) }
+        ensures message { (before : MessageOf) → IsBrought result before message.new }
     {
         let Ok((head, _)) = pldm_base::decode(message.bytes()) else {
-            return Brought::Strays(message);
+            return Brought::Strays;
         };
         if !head.rq {
-            return Brought::Strays(message);
+            return Brought::Strays;
         }
-        if let Asked::Again(answer) = self.answerer.on_request(&message) {
-            return Brought::Again(answer);
+        if let Asked::Again(answer) = self.answerer.on_request(message) {
+            message.copy_from(answer);
+            return Brought::Again;
         }
-        Brought::New(Request { message, head })
+        Brought::New(head)
     }
 
     /// Answers a new request with a completion code and fields of at most `MAX_REPLY` bytes: the message to send, which is
     /// kept. That the message fits the transmission unit is the node's to see to.
-    pub fn answer(&mut self, request: &Request, reply: &[u8]) -> Message
+    pub fn answer(&mut self, request: &Request<'_>, reply: &[u8]) -> Message
         requires { length reply.now ≤ MAX_REPLY }
         ensures answer { result ≡ reply_message request.now.message request.now.head reply.now }
         ensures after { self.new ≡ answered_with self.old request.now reply.now }
     {
-        let answer = reply_to(&request.message, &request.head, reply);
+        let answer = reply_to(request.message, &request.head, reply);
         self.answerer.keep(&answer);
         answer
     }

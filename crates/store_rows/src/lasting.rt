@@ -1,9 +1,13 @@
 //! What a store in a folder keeps, whatever fails.
 
-use crate::folders::{Failing, TestFolder};
+ghost use Rattle.std.specs.Prelude.{◌≡◌, IfOk, Ok};
+ghost use Rattle.fw_store.specs.Changes.{files_of};
+ghost use Rattle.fw_store.specs.Opening.{found_in};
+
 use fd_core::{Key, Label};
 use fw_store::{
-    Entry, FolderStore, Kept, OpenFault, Store, Stored, active_text, open_store, read_active,
+    Entry, Failing, Folder, FolderFault, FolderStore, Kept, KnownFolder, MemStore, OpenFault,
+    Store, Stored, active_text, open_store, read_active, read_store,
 };
 use fwup_wire::{Text, Version};
 use std::alloc::Global;
@@ -41,8 +45,29 @@ fn are(images: &[Stored], first: &[u8], second: &[u8]) -> bool {
     }
 }
 
+/// The files of a folder, and how many there are.
+fn count(alloc: Global, folder: &KnownFolder) -> Result<usize, FolderFault> {
+    Ok(folder.names(alloc)?.len())
+}
+
+/// The folder, in which no more call fails.
+fn sound(folder: &KnownFolder) -> Result<KnownFolder, Fail> {
+    Ok(folder.after(folder.count())?)
+}
+
+/// What a folder keeps over some images, as it is read.
+fn found(
+    alloc: Global,
+    folder: &KnownFolder,
+    components: &[Kept<'_>],
+) -> Result<MemStore, OpenFault>
+    ensures { IfOk result (λ s. found_in components.now (files_of folder.now.changes.items) ≡ Ok s.images.items) }
+{
+    read_store(alloc, folder, components)
+}
+
 /// Opens a store over AA and BB BB.
-fn open(alloc: Global, folder: TestFolder) -> Result<FolderStore<TestFolder>, OpenFault> {
+fn open(alloc: Global, folder: KnownFolder) -> Result<FolderStore<KnownFolder>, OpenFault> {
     let label = label(1, 1, b"a");
     let components = [
         Kept {
@@ -60,7 +85,7 @@ fn open(alloc: Global, folder: TestFolder) -> Result<FolderStore<TestFolder>, Op
 }
 
 /// Keeps these bytes of both components.
-fn keep<'a>(store: &mut FolderStore<TestFolder>, first: &'a [u8], second: &'a [u8]) -> bool {
+fn keep<'a>(store: &mut FolderStore<KnownFolder>, first: &'a [u8], second: &'a [u8]) -> bool {
     let label = label(2, 1, b"b");
     let images = [
         Kept {
@@ -81,12 +106,12 @@ fn keep<'a>(store: &mut FolderStore<TestFolder>, first: &'a [u8], second: &'a [u
 fn lasts(alloc: Global, call: u32, failing: Failing) -> Result<bool, Fail> {
     let mut store = open(
         alloc,
-        TestFolder::new(alloc, call.saturating_add(4), failing),
+        KnownFolder::new(alloc, call.saturating_add(4), failing),
     )?;
     let begun = keep(&mut store, &[1], &[2, 2]);
     let kept = keep(&mut store, &[3, 3, 3], &[4, 4, 4, 4]);
     let after = are(store.images(), &[3, 3, 3], &[4, 4, 4, 4]);
-    let again = open(alloc, store.folder().copied()?)?;
+    let again = open(alloc, sound(store.folder())?)?;
     let found = are(again.images(), &[3, 3, 3], &[4, 4, 4, 4]);
     let before = are(again.images(), &[1], &[2, 2]);
     Ok(
@@ -94,7 +119,7 @@ fn lasts(alloc: Global, call: u32, failing: Failing) -> Result<bool, Fail> {
             && kept == after
             && (found || before)
             && (found || !kept)
-            && again.folder().count() == 3,
+            && count(alloc, again.folder())? == 3,
     )
 }
 
@@ -108,10 +133,66 @@ fn a_call_that_fails_leaves_the_images_before_or_after(rt: HostRuntime) -> Resul
     Ok(())
 }
 
+/// Whether a crash after each call leaves what was kept before or what is kept after, and never again what was kept before once it
+/// left that.
+fn stands(alloc: Global, call: u32, failing: Failing) -> Result<bool, Fail> {
+    let mut store = open(
+        alloc,
+        KnownFolder::new(alloc, call.saturating_add(4), failing),
+    )?;
+    let mut stands = keep(&mut store, &[1], &[2, 2]);
+    let first = store.folder().count();
+    let _ = keep(&mut store, &[3, 3, 3], &[4, 4, 4, 4]);
+    let mut has_come = false;
+    for calls in first..store.folder().count().saturating_add(1) {
+        let again = open(alloc, store.folder().after(calls)?)?;
+        let is_before = are(again.images(), &[1], &[2, 2]);
+        has_come = has_come || !is_before;
+        let is_one = if has_come {
+            are(again.images(), &[3, 3, 3], &[4, 4, 4, 4])
+        } else {
+            is_before
+        };
+        stands = stands && is_one;
+    }
+    let comes = call > 4 || (call == 4 && failing == Failing::After);
+    Ok(stands && has_come == comes)
+}
+
+#[test]
+fn a_crash_between_calls_leaves_the_images_before_or_after(rt: HostRuntime) -> Result<(), Fail> {
+    for call in 1..6 {
+        for failing in [Failing::Before, Failing::Half, Failing::After] {
+            assert!(rt; stands(rt.alloc(), call, failing)?);
+        }
+    }
+    Ok(())
+}
+
+#[test]
+fn what_is_read_is_what_was_kept(rt: HostRuntime) -> Result<(), Fail> {
+    let alloc = rt.alloc();
+    let mut store = open(alloc, KnownFolder::new(alloc, 0, Failing::Before))?;
+    assert!(rt; keep(&mut store, &[1, 2], &[3]));
+    let label = label(1, 1, b"a");
+    let components = [Kept {
+        key: SECOND,
+        label: &label,
+        bytes: &[0xBB],
+    }];
+    let read = found(alloc, store.folder(), &components);
+    assert!(rt; matches!(read, Err(OpenFault::Foreign)));
+    let none = KnownFolder::new(alloc, 0, Failing::Before);
+    let read = found(alloc, &none, &components)?;
+    assert!(rt; read.bytes(SECOND) == Some([0xBB].as_slice()));
+    assert!(rt; read.bytes(FIRST).is_none());
+    Ok(())
+}
+
 #[test]
 fn what_fails_once_can_be_kept_again(rt: HostRuntime) -> Result<(), Fail> {
     let alloc = rt.alloc();
-    let mut store = open(alloc, TestFolder::new(alloc, 2, Failing::Half))?;
+    let mut store = open(alloc, KnownFolder::new(alloc, 2, Failing::Half))?;
     assert!(rt; !keep(&mut store, &[1], &[2]));
     assert!(rt; are(store.images(), &[0xAA], &[0xBB, 0xBB]));
     assert!(rt; keep(&mut store, &[1], &[2]));
@@ -124,7 +205,7 @@ fn what_fails_once_can_be_kept_again(rt: HostRuntime) -> Result<(), Fail> {
 #[test]
 fn a_store_that_is_unsure_keeps_nothing_more(rt: HostRuntime) -> Result<(), Fail> {
     let alloc = rt.alloc();
-    let mut store = open(alloc, TestFolder::new(alloc, 4, Failing::After))?;
+    let mut store = open(alloc, KnownFolder::new(alloc, 4, Failing::After))?;
     assert!(rt; !keep(&mut store, &[1], &[2]));
     assert!(rt; !keep(&mut store, &[3], &[4]));
     assert!(rt; are(store.images(), &[0xAA], &[0xBB, 0xBB]));
@@ -176,17 +257,22 @@ fn each_byte_that_is_turned_is_told(rt: HostRuntime) -> Result<(), Fail> {
 }
 
 /// Whether a store whose file has these bytes is damaged, and nothing of it is touched.
-fn is_damaged(alloc: Global, folder: &TestFolder, name: &[u8], bytes: &[u8]) -> Result<bool, Fail> {
-    let mut folder = folder.copied()?;
-    folder.set(name, bytes)?;
-    folder.set(b"active.new", b"half")?;
+fn is_damaged(
+    alloc: Global,
+    folder: &KnownFolder,
+    name: &[u8],
+    bytes: &[u8],
+) -> Result<bool, Fail> {
+    let mut folder = sound(folder)?;
+    folder.write(name, bytes)?;
+    folder.write(b"active.new", b"half")?;
     Ok(matches!(open(alloc, folder), Err(OpenFault::Damaged)))
 }
 
 #[test]
 fn an_image_that_is_cut_or_turned_is_told(rt: HostRuntime) -> Result<(), Fail> {
     let alloc = rt.alloc();
-    let mut store = open(alloc, TestFolder::new(alloc, 0, Failing::Before))?;
+    let mut store = open(alloc, KnownFolder::new(alloc, 0, Failing::Before))?;
     assert!(rt; keep(&mut store, &[1, 2, 3], &[4]));
     let folder = store.into_folder();
     assert!(rt; is_damaged(alloc, &folder, b"10-1.1.image", &[1, 2])?);
@@ -200,7 +286,7 @@ fn an_image_that_is_cut_or_turned_is_told(rt: HostRuntime) -> Result<(), Fail> {
 #[test]
 fn what_active_does_not_name_is_removed(rt: HostRuntime) -> Result<(), Fail> {
     let alloc = rt.alloc();
-    let mut folder = TestFolder::new(alloc, 0, Failing::Before);
+    let mut folder = KnownFolder::new(alloc, 0, Failing::Before);
     for name in [
         b"10-1.7.image".as_slice(),
         b"active.new",
@@ -208,11 +294,11 @@ fn what_active_does_not_name_is_removed(rt: HostRuntime) -> Result<(), Fail> {
         b"010-1.7.image",
         b"10-1.7.image.txt",
     ] {
-        folder.set(name, b"x")?;
+        folder.write(name, b"x")?;
     }
     let store = open(alloc, folder)?;
     assert!(rt; are(store.images(), &[0xAA], &[0xBB, 0xBB]));
-    assert!(rt; store.folder().count() == 3);
+    assert!(rt; count(alloc, store.folder())? == 3);
     assert!(rt; store.folder().bytes(b"history").is_some());
     assert!(rt; store.folder().bytes(b"010-1.7.image").is_some());
     Ok(())
@@ -221,7 +307,7 @@ fn what_active_does_not_name_is_removed(rt: HostRuntime) -> Result<(), Fail> {
 #[test]
 fn a_store_of_another_configuration_is_foreign(rt: HostRuntime) -> Result<(), Fail> {
     let alloc = rt.alloc();
-    let mut store = open(alloc, TestFolder::new(alloc, 0, Failing::Before))?;
+    let mut store = open(alloc, KnownFolder::new(alloc, 0, Failing::Before))?;
     assert!(rt; keep(&mut store, &[1], &[2]));
     let label = label(1, 1, b"a");
     let components = [Kept {

@@ -6,6 +6,4 @@ mod banks;
 #[cfg(test)]
 mod failing;
 #[cfg(test)]
-mod folders;
-#[cfg(test)]
 mod lasting;

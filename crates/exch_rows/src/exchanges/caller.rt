@@ -65,11 +65,19 @@ impl Run {
 
     /// A tick passes.
     fn tick(&mut self) -> u8 {
-        match (self.caller.tick(), &self.request) {
-            (CallTick::Nothing, _) => self.state(),
-            (CallTick::Send(again), Some(request)) if again.bytes() == request.bytes() => b'S',
-            (CallTick::Send(_), _) => b'?',
-            (CallTick::GaveUp, _) => b'G',
+        match self.caller.tick() {
+            CallTick::Nothing => self.state(),
+            CallTick::Send if self.repeats() => b'S',
+            CallTick::Send => b'?',
+            CallTick::GaveUp => b'G',
+        }
+    }
+
+    /// Whether the message that is to be sent again is that of the last request.
+    fn repeats(&self) -> bool {
+        match (self.caller.open_message(), &self.request) {
+            (Some(again), Some(request)) => again.bytes() == request.bytes(),
+            _ => false,
         }
     }
 

@@ -40,8 +40,9 @@ pub(super) fn is_listed(table: &[Listed], key: Key) -> bool
     false
 }
 
-/// What stands against an image with this stamp, beside that of the image that runs.
-fn stamp_restriction(stamp: u32, active: u32) -> u8
+/// What stands against an image with this comparison stamp, beside that of the image that runs: no restriction, identical, or
+/// lower (DSP0267 1.0, ComponentComparisonStamp). A stamp that isn't used stands against nothing.
+pub fn stamp_restriction(stamp: u32, active: u32) -> u8
     ensures { result ≡ stamp_rule stamp active }
 {
     if stamp == NO_STAMP || active == NO_STAMP {

@@ -2,10 +2,8 @@
 use Rattle.std.proofs.Common.{◌≡◌, ◌∙◌, ◌≤◌, ◌<◌, ◌-◌, ◌++◌, ◌∷◌, [], true, List, map, refl, ap, arith}
 use Rattle.std.proofs.lemmas.Bool.{le-leb, lt-leb, ne_eqb}
 use Rattle.std.proofs.lemmas.Grind.{flat_map-append}
-use Rattle.pldm_exch.specs.Caller.{caller_tick}
+use Rattle.pldm_exch.specs.Caller.{CallTickOf, caller_tick}
 use Rattle.pldm_exch.specs.Sides.{asker_called}
-use Rattle.pldm_exch.specs.declared.caller.CallTick.{CallTick}
-use Rattle.pldm_exch.specs.declared.caller.CallTick.TheVariants as ticks
 use Rattle.fw_package.specs.Package.{PackageText}
 use Rattle.ua_core.specs.Session.{TimedOf}
 use Rattle.fw_node.specs.Agents.{again_packets, ended, ended_packets, grown, silent_by, waited}
@@ -14,12 +12,12 @@ use Rattle.fw_node.specs.Halves.{CoreOf, HalfOf, aged, called, half_ticks, idled
 use Rattle.fw_node.specs.Packets.{all_packets, packets_of, sent_by}
 use Rattle.fw_node.proofs.NodeTicks.{behind, last_behind}
 
-by_call : (packages : List PackageText) (h : HalfOf TimedOf) (t : CallTick)
+by_call : (packages : List PackageText) (h : HalfOf TimedOf) (t : CallTickOf)
     → called (session_core packages) (aged h) (asker_called (aged h).asker t)
     ≡ last_part (session_core packages) (idled (session_core packages) (record (aged h) { core = silent_by t h.core packages })) (sent_by t)
-by_call packages h ticks.Nothing = refl
-by_call packages h (ticks.Send m) = refl
-by_call packages h ticks.GaveUp = refl
+by_call packages h CallTickOf.Nothing = refl
+by_call packages h (CallTickOf.Send m) = refl
+by_call packages h CallTickOf.GaveUp = refl
 
 -- A half of the agent that hears after a tick: it grows older, waits, and ends the tick; what it sends again stands first.
 pub agent_half_ticks : (packages : List PackageText) (h : HalfOf TimedOf) → h.asker.deaf ≤ 1 → h.taker.deaf ≤ 1

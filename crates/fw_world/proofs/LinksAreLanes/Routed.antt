@@ -15,15 +15,11 @@ use Rattle.mctp_reasm.specs.declared.outcomes.Fed.TheVariants as outcomes
 use Rattle.pldm_base.specs.Header.{pldm_of}
 use Rattle.pldm_base.specs.declared.header.PldmFault.{PldmFault}
 use Rattle.pldm_base.specs.declared.header.PldmHead.{PldmHead}
-use Rattle.pldm_exch.specs.Caller.{CallerState, Heard, Open, answer_body, answer_heard, caller_tick, closed_by, heard_as, sends_at, ticked}
+use Rattle.pldm_exch.specs.Caller.{CallTickOf, CallerState, Heard, Open, answer_body, answer_heard, caller_tick, closed_by, heard_as, sends_at, ticked}
 use Rattle.pldm_exch.specs.Ends.{AskerOf, TakerOf}
-use Rattle.pldm_exch.specs.Kept.{Kept, answerer_tick, asked_as, identifier_of, kept_as, kept_tick, request_heard}
+use Rattle.pldm_exch.specs.Kept.{AskedOf, Kept, answerer_tick, asked_as, identifier_of, kept_as, kept_tick, request_heard}
 use Rattle.pldm_exch.specs.Requests.{reply_message}
 use Rattle.pldm_exch.specs.Sides.{AskerRow, AskerTick, TakerRow, asker_answered, asker_called, asker_counts, asker_fed, asker_packet, asker_row, asker_tick, taker_asked, taker_counts, taker_fed, taker_packet, taker_read, taker_row, taker_tick}
-use Rattle.pldm_exch.specs.declared.answerer.Asked.{Asked}
-use Rattle.pldm_exch.specs.declared.answerer.Asked.TheVariants as asks
-use Rattle.pldm_exch.specs.declared.caller.CallTick.{CallTick}
-use Rattle.pldm_exch.specs.declared.caller.CallTick.TheVariants as ticks
 use Rattle.exch_lane.specs.Lanes.{LaneOf, Sent, StepOf, lane_new, numbered}
 use Rattle.exch_lane.specs.Steps.{asker_does, asker_ticks, delivers, lane_after, lane_run, tick_begins, taker_does}
 use Rattle.exch_lane.specs.declared.step.End.{End}
@@ -49,12 +45,12 @@ pub record IsRouted (w : LaneOf) : Type 0 where
   pub answers : AnswersPeer w.asker_eid w.taker.kept
 
 -- what a tick of the requests sends again
-abbrev pub SendsTo : ℕ → CallTick → Type 0
-SendsTo peer (ticks.Send m) = m.dest ≡ peer
+abbrev pub SendsTo : ℕ → CallTickOf → Type 0
+SendsTo peer (CallTickOf.Send m) = m.dest ≡ peer
 SendsTo peer t = Prim.Unit {0}
 
 -- a tick of the requests
-abbrev TicksTo : ℕ → CallerState × CallTick → Type 0
+abbrev TicksTo : ℕ → CallerState × CallTickOf → Type 0
 TicksTo peer r = AsksPeer peer r.0 × SendsTo peer r.1
 
 ticked_to : (peer : ℕ) (c : CallerState) (o : Option Open) → AsksPeer peer c → IfSome o (λ x. x.message.dest ≡ peer) → TicksTo peer (ticked c o)
@@ -69,10 +65,10 @@ TickGoes peer (AskerTick.Waits a) = AsksPeer peer a.caller
 TickGoes peer (AskerTick.Resends a m) = AsksPeer peer a.caller × (m.dest ≡ peer)
 TickGoes peer (AskerTick.GivesUp a) = AsksPeer peer a.caller
 
-called_goes : (peer : ℕ) (a : AskerOf) (t : CallTick) → AsksPeer peer a.caller → SendsTo peer t → TickGoes peer (asker_called a t)
-called_goes peer a ticks.Nothing h k = h
-called_goes peer a (ticks.Send m) h k = (h, k)
-called_goes peer a ticks.GaveUp h k = h
+called_goes : (peer : ℕ) (a : AskerOf) (t : CallTickOf) → AsksPeer peer a.caller → SendsTo peer t → TickGoes peer (asker_called a t)
+called_goes peer a CallTickOf.Nothing h k = h
+called_goes peer a (CallTickOf.Send m) h k = (h, k)
+called_goes peer a CallTickOf.GaveUp h k = h
 
 pub tick_goes : (peer : ℕ) (a : AskerOf) → AsksPeer peer a.caller → TickGoes peer (asker_counts a)
 tick_goes peer a h =
@@ -154,19 +150,19 @@ TakesFrom peer (TakerRow.Repeats requests answer) = answer.dest ≡ peer
 TakesFrom peer (TakerRow.TakesUp requests m head body) = m.source ≡ peer
 TakesFrom peer row = Prim.Unit {0}
 
-abbrev AskedFrom : ℕ → Asked → Type 0
-AskedFrom peer (asks.Again answer) = answer.dest ≡ peer
-AskedFrom peer asks.New = Prim.Unit {0}
+abbrev AskedFrom : ℕ → AskedOf → Type 0
+AskedFrom peer (AskedOf.Again answer) = answer.dest ≡ peer
+AskedFrom peer AskedOf.New = Prim.Unit {0}
 
 asked_from : (peer : ℕ) (k : Option Kept) (identifier : Option ℕ) → IfSome k (λ x. x.reply.dest ≡ peer) → AskedFrom peer (asked_as k identifier)
 asked_from peer (Some k) (Some identifier) h = if_either (AskedFrom peer) (k.identifier == identifier) _ _ h tt
 asked_from peer (Some k) None h = tt
 asked_from peer None identifier h = tt
 
-taker_asked_from : (peer : ℕ) (requests : List (Option Held)) (m : MessageOf) (head : PldmHead) (body : List ℕ) (a : Asked) → m.source ≡ peer → AskedFrom peer a
+taker_asked_from : (peer : ℕ) (requests : List (Option Held)) (m : MessageOf) (head : PldmHead) (body : List ℕ) (a : AskedOf) → m.source ≡ peer → AskedFrom peer a
     → TakesFrom peer (taker_asked requests m head body a)
-taker_asked_from peer requests m head body (asks.Again answer) from h = h
-taker_asked_from peer requests m head body asks.New from h = from
+taker_asked_from peer requests m head body (AskedOf.Again answer) from h = h
+taker_asked_from peer requests m head body AskedOf.New from h = from
 
 taker_read_from : (peer : ℕ) (requests : List (Option Held)) (kept : List (Option Kept)) (m : MessageOf) (r : Result (PldmHead × List ℕ) PldmFault) → m.source ≡ peer → AnswersPeer peer kept
     → TakesFrom peer (taker_read requests kept m r)

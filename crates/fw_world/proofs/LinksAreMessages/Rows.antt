@@ -3,11 +3,9 @@ use Rattle.std.proofs.Common.{◌≡◌, ◌∙◌, ℕ, ◌+◌, ◌-◌, ◌==
 use Rattle.std.specs.Option.{option_map}
 use Rattle.mctp_reasm.specs.Held.{held_tick}
 use Rattle.mctp_reasm.specs.Pieces.{MessageOf}
-use Rattle.pldm_exch.specs.Caller.{CallerState, Open, asking, caller_tick, may_begin, sends_at, ticked}
+use Rattle.pldm_exch.specs.Caller.{CallTickOf, CallerState, Open, asking, caller_tick, may_begin, sends_at, ticked}
 use Rattle.pldm_exch.specs.Ends.{AskerOf, TakerOf}
 use Rattle.pldm_exch.specs.Sides.{AskerTick, asker_called, asker_counts, taker_counts}
-use Rattle.pldm_exch.specs.declared.caller.CallTick.{CallTick}
-use Rattle.pldm_exch.specs.declared.caller.CallTick.TheVariants as calls
 use Rattle.fwup_wire.specs.Values.{CommandOf}
 use Rattle.fw_node.specs.Halves.{CoreOf, HalfOf, begins_if, begins_wish, called, half_ticks, hears_if, unwished_abandoned, with_caller}
 
@@ -17,10 +15,10 @@ RowWaits (AskerTick.Waits a) o = option_map asking a.caller.asked ≡ o
 RowWaits (AskerTick.Resends a m) o = option_map asking a.caller.asked ≡ o
 RowWaits (AskerTick.GivesUp a) o = a.caller.asked ≡ None
 
-abbrev CallWaits : Option Open → CallTick → Option (ℕ × List ℕ) → Type 0
-CallWaits asked calls.Nothing o = option_map asking asked ≡ o
-CallWaits asked (calls.Send m) o = option_map asking asked ≡ o
-CallWaits asked calls.GaveUp o = asked ≡ None
+abbrev CallWaits : Option Open → CallTickOf → Option (ℕ × List ℕ) → Type 0
+CallWaits asked CallTickOf.Nothing o = option_map asking asked ≡ o
+CallWaits asked (CallTickOf.Send m) o = option_map asking asked ≡ o
+CallWaits asked CallTickOf.GaveUp o = asked ≡ None
 
 ticks_by : (c : CallerState) (o : Open) (again last : Bool) → sends_at (o.age + 1) ≡ again → ((o.age + 1) == 18) ≡ last
     → CallWaits (ticked c (Some o)).0.asked (ticked c (Some o)).1 (Some (asking o))
@@ -32,10 +30,10 @@ ticks_waiting : (c : CallerState) (o : Option Open) → c.asked ≡ o → CallWa
 ticks_waiting c None e = ap (option_map asking) e
 ticks_waiting c (Some o) e = ticks_by c o (sends_at (o.age + 1)) ((o.age + 1) == 18) refl refl
 
-call_row : (a : AskerOf) (tick : CallTick) (o : Option (ℕ × List ℕ)) → CallWaits a.caller.asked tick o → RowWaits (asker_called a tick) o
-call_row a calls.Nothing o k = k
-call_row a (calls.Send m) o k = k
-call_row a calls.GaveUp o k = k
+call_row : (a : AskerOf) (tick : CallTickOf) (o : Option (ℕ × List ℕ)) → CallWaits a.caller.asked tick o → RowWaits (asker_called a tick) o
+call_row a CallTickOf.Nothing o k = k
+call_row a (CallTickOf.Send m) o k = k
+call_row a CallTickOf.GaveUp o k = k
 
 abbrev counts_if : Bool → AskerOf → AskerTick
 counts_if true a = asker_called (record a { deaf = 0; caller = (caller_tick a.caller).0; replies = map held_tick a.replies }) (caller_tick a.caller).1
@@ -62,10 +60,10 @@ asker_in (AskerTick.Waits a) = a
 asker_in (AskerTick.Resends a m) = a
 asker_in (AskerTick.GivesUp a) = a
 
-called_deaf : (a : AskerOf) (tick : CallTick) → (asker_in (asker_called a tick)).deaf ≡ a.deaf
-called_deaf a calls.Nothing = refl
-called_deaf a (calls.Send m) = refl
-called_deaf a calls.GaveUp = refl
+called_deaf : (a : AskerOf) (tick : CallTickOf) → (asker_in (asker_called a tick)).deaf ≡ a.deaf
+called_deaf a CallTickOf.Nothing = refl
+called_deaf a (CallTickOf.Send m) = refl
+called_deaf a CallTickOf.GaveUp = refl
 
 abbrev pub deaf_after : Bool → ℕ → ℕ
 deaf_after true deaf = 0

@@ -5,6 +5,7 @@ ghost use Rattle.fwupd_jobs.specs.Setups.{any_file};
 
 use fd_core::Bank;
 use fw_edge::{Link, MemLink, Roughness, StreamLink};
+use fw_setup::SystemStores;
 use fw_world::{Step, World};
 use fwupd_base::Form;
 use fwupd_jobs::{
@@ -133,6 +134,7 @@ pub struct Counter {
     traced: Option<TraceForm>,
     is_logged: bool,
     is_recorded: bool,
+    has_history: bool,
     pub turns: usize,
     broken: usize,
     fault: Option<WatchFault>,
@@ -148,6 +150,7 @@ impl Counter {
             traced: None,
             is_logged: false,
             is_recorded: false,
+            has_history: false,
             turns: 0,
             broken,
             fault: None,
@@ -170,7 +173,7 @@ impl Counter {
 }
 
 impl Watch for Counter {
-    ghost watched = { λ c. record { fault = c.fault; shows = record { is_quiet = c.is_quiet; traced = c.traced; is_logged = c.is_logged; is_recorded = c.is_recorded }; has_ended = c.has_ended; seen = c.turns; lost = c.lost; recording = None } };
+    ghost watched = { λ c. record { fault = c.fault; shows = record { is_quiet = c.is_quiet; traced = c.traced; is_logged = c.is_logged; is_recorded = c.is_recorded; has_history = c.has_history }; has_ended = c.has_ended; seen = c.turns; lost = c.lost; recording = None; history = None } };
 
     ghost refuses = { λ c path. true };
 
@@ -193,6 +196,7 @@ impl Watch for Counter {
         };
         self.is_logged = show.log.is_some();
         self.is_recorded = show.record.is_some();
+        self.has_history = show.history.is_some();
         self.is_quiet = show.is_quiet;
         self.turns = 0;
         self.lost = None;
@@ -256,7 +260,9 @@ fn updated<'a, L: Link + Drop, S: Wires<L>>(
     let end = update_checked(
         rt.alloc(),
         &MemFiles { files: &files },
+        &SystemStores::new(rt),
         "c",
+        None,
         Order {
             number: 1,
             is_checked: true,
@@ -269,6 +275,8 @@ fn updated<'a, L: Link + Drop, S: Wires<L>>(
             trace_form: TraceForm::Hex,
             log: None,
             record: None,
+            store: None,
+            history: None,
             form: Form::Text,
         },
         wires,

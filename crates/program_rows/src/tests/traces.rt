@@ -1,6 +1,7 @@
 //! Captures, the lines of an event log, and replays that are looked on.
 
 use crate::tests::jobs::{Counter, MemFiles, WHOLE, outcome, package};
+use fw_setup::SystemStores;
 use fw_trace::{RecordsFault, capture_header, push_capture, records_text};
 use fwupd_base::Form;
 use fwupd_jobs::{Output, Show, TraceForm, replay_files, sel_file};
@@ -209,12 +210,16 @@ fn replayed<'a, 'b>(
         trace_form: TraceForm::Hex,
         log,
         record: None,
+        store: None,
+        history: None,
         form: Form::Text,
     };
     let end = replay_files(
         rt.alloc(),
         &MemFiles { files: &files },
+        &SystemStores::new(rt),
         "c",
+        None,
         "s",
         show,
         &mut watch,

@@ -1,7 +1,7 @@
 //! Schedules that are read.
 
 use fd_core::Verdict;
-use fw_script::read_schedule;
+use fw_script::{LineSteps, NextStep, read_lines, read_schedule, step_count};
 use fw_world::{LogRequest, Missed, Step};
 use std::test::Fail;
 
@@ -62,5 +62,28 @@ fn reads_each_step_and_skips_what_says_nothing(rt: HostRuntime) -> Result<(), Fa
         Step::Tick(Missed::new()),
     ];
     assert!(rt; steps.as_slice() == want.as_slice());
+    Ok(())
+}
+
+#[test]
+fn keeps_ticks_as_they_are_written(rt: HostRuntime) -> Result<(), Fail> {
+    let lines = read_lines(
+        rt.alloc(),
+        b"start 9 1
+tick 1000
+# nothing
+tick
+miss 8
+",
+    )?;
+    assert!(rt; lines.len() == 4);
+    assert!(rt; step_count(&lines) == Some(1003));
+    let mut steps = LineSteps::of(&lines);
+    assert!(rt; matches!(steps.next(), Some(NextStep::Said(Step::Start(9, 1)))));
+    for _tick in 0..1001 {
+        assert!(rt; matches!(steps.next(), Some(NextStep::Tick)));
+    }
+    assert!(rt; matches!(steps.next(), Some(NextStep::Said(step)) if *step == miss(&[8])));
+    assert!(rt; steps.next().is_none());
     Ok(())
 }

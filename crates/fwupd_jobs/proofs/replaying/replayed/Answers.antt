@@ -1,4 +1,5 @@
 use Rattle.std.proofs.Common.{map, subst, sym}
+use Rattle.fw_script.specs.ScheduleLines.{all_steps}
 use Rattle.fw_script.specs.Seen.{device_of}
 use Rattle.fw_world.specs.Headline.{new_world}
 use Rattle.fw_setup.specs.Nodes.{nodes_made}
@@ -9,10 +10,10 @@ use Rattle.fwupd_jobs.proofs.replaying.replayed.Goals as goal
 
 pub returns-clause-replayed : goal.returns-clause-replayed
 returns-clause-replayed g c =
-    replayed_by (new_world c.args.agent (nodes_made c.args.unit c.args.agent.eid (map device_of c.args.devices.items)) c.args.packages.now) c.in_ok-world.world c.replay_by.new.world c.args.steps.now
-    c.match-replay_by.fault c.args.show.form c.in_ok-report.report.items c.in_ok-world.ensures.made c.in_ok-world.ensures.opens c.packets_are_safe.ensures.law
-    (elim c.match-replay_by.branch [
-      | in-Ok h ↦ subst (λ f. Leaves c.in_ok-world.world c.args.steps.now f c.replay_by.new.world) (sym h.fault-is) h.in-Ok.ensures.ok
-      | in-Err h ↦ subst (λ f. Leaves c.in_ok-world.world c.args.steps.now f c.replay_by.new.world) (sym h.fault-is) h.in-Err.ensures.stopped
+    replayed_by (new_world c.args.agent (nodes_made c.args.unit c.args.agent.eid (map device_of c.args.devices.items)) c.args.packages.now) c.in_ok-world.world c.replay_lines.new.world (all_steps c.args.lines.now)
+    c.match-replay_lines.fault c.args.show.form c.in_ok-report.report.items c.in_ok-world.ensures.made c.in_ok-world.ensures.opens c.packets_are_safe.ensures.law
+    (elim c.match-replay_lines.branch [
+      | in-Ok h ↦ subst (λ f. Leaves c.in_ok-world.world (all_steps c.args.lines.now) f c.replay_lines.new.world) (sym h.fault-is) h.in-Ok.ensures.ok
+      | in-Err h ↦ subst (λ f. Leaves c.in_ok-world.world (all_steps c.args.lines.now) f c.replay_lines.new.world) (sym h.fault-is) h.in-Err.ensures.stopped
     ])
     c.in_ok-report.ensures

@@ -1,7 +1,9 @@
 use Rattle.std.proofs.Common.{◌∙◌, ◌+◌, arith, ap, inl, length, map, refl, subst, sym}
 use Rattle.fwupd_jobs.specs.Running.{StepsSeen, Updates, starts_of}
 use Rattle.fw_edge.specs.Ledgers.{AllSent, packet_counts}
+use Rattle.fw_world.specs.Moments.{added}
 use Rattle.fw_edge.proofs.Sending.{sent_none, sent_on}
+use Rattle.fwupd_jobs.proofs.Happened.{kept_on, kept_same}
 use Rattle.fwupd_jobs.proofs.Noted.{none_driven, run_begun, run_noted, run_still}
 use Rattle.fwupd_jobs.proofs.Started.{counted_alike, none_unwritten, seen_next, turned_apart, unwritten_by, updates_more, updates_none, updates_off, updates_reached, updates_seen, updates_seen_off, watched_apart}
 use Rattle.fw_edge.specs.declared.driving.EdgeFault.TheVariants as edges
@@ -21,6 +23,9 @@ loop-init g c = record {
   recorded =
       run_begun c.args.world.now c.start_all-started.new.world (g.V.Watch.watched c.args.watch.now).recording (g.V.Watch.watched c.note-noted.new.self).recording c.start_all-started.new.steps.items c.as_slice.result.now
       (starts_of c.args.number c.args.world.now.sites) c.as_slice.ensures.value c.in-Ok.ensures.listed c.in-Ok.ensures.started c.in-Ok-noted.ensures.noted;
+  history =
+      kept_same (g.V.Watch.watched c.args.watch.now).history (g.V.Watch.watched c.note-noted.new.self).history c.args.world.now.history c.start_all-started.new.world.history c.note-noted.ensures.history
+      c.start_all-started.ensures.history;
   shows = c.note-noted.ensures.same;
 }
 
@@ -83,6 +88,9 @@ loop-preserved g c = record {
       run_noted c.schedules_read_back.ensures.portions c.args.world.now c.loop.world c.drive.new.world (g.V.Watch.watched c.args.watch.now).recording (g.V.Watch.watched c.loop.watch).recording
       (g.V.Watch.watched c.see_turn.new.watch).recording c.loop.steps.items c.drive.new.steps.items c.as_slice-in-loop.result.now c.loop.invariant.recorded c.loop.invariant.none c.drive.ensures.drives.drives
       c.as_slice-in-loop.ensures.value c.in-Ok-see_turn.ensures.noted;
+  history = λ h.
+      kept_on (g.V.Watch.watched c.loop.watch).history (g.V.Watch.watched c.see_turn.new.watch).history c.loop.world.history c.drive.new.world.history (added c.loop.world c.drive.new.world) (c.loop.invariant.history h)
+      (c.moments_are_tied.ensures.grow c.loop.world c.drive.new.world c.drive.ensures.drives.drives.steps c.drive.ensures.drives.drives.run) c.in-Ok-see_turn.ensures.history;
   shows = c.see_turn.ensures.same ∙ c.loop.invariant.shows;
 }
 
@@ -133,6 +141,13 @@ returns-in-Err-noted-clause-failed g c = (λ e. absurd (watched_apart c.in-Err-n
 
 pub returns-in-Err-noted-clause-step : goal.returns-in-Err-noted-clause-step
 returns-in-Err-noted-clause-step g c e = absurd (watched_apart c.in-Err-noted.fault edges.Step (sym c.watch_fault.ensures.told ∙ e))
+
+pub returns-then-driven-eq0-clause-history : goal.returns-then-driven-eq0-clause-history
+returns-then-driven-eq0-clause-history g c h =
+    kept_same (g.V.Watch.watched c.loop.watch).history (g.V.Watch.watched c.loop.watch).history c.loop.world.history c.drive.new.world.history refl
+    (ap (λ x. x.history)
+    (none_driven c.in-Ok-drive.driven.turns c.loop.world c.loop.steps.items _ c.drive.new.world c.drive.new.steps.items _ c.in-Ok-drive.driven.foreign c.if-driven-eq0.true c.in-Ok-drive.ensures.done.drove))
+    (c.loop.invariant.history h)
 
 pub returns-then-driven-eq0-clause-noted : goal.returns-then-driven-eq0-clause-noted
 returns-then-driven-eq0-clause-noted g c =

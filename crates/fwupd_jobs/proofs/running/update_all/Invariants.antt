@@ -1,5 +1,6 @@
 use Rattle.std.proofs.Common.{◌≡◌, [], length, map}
 use Rattle.fw_edge.specs.Ledgers.{AllSent, packet_counts}
+use Rattle.fwupd_jobs.specs.Histories.{AreKeptUp}
 use Rattle.fwupd_jobs.specs.Recordings.{NotesRun}
 use Rattle.fwupd_jobs.specs.Running.{Updates}
 use Rattle.fwupd_jobs.proofs.running.update_all.Given as goal
@@ -15,5 +16,6 @@ invariant-loop g l = record {
   seen : (g.V.Watch.watched l.fn.watch).seen ≡ 0 → (g.V.Watch.watched l.watch).seen ≡ l.counter;
   lost : (g.V.Watch.watched l.watch).lost ≡ (g.V.Watch.watched l.fn.watch).lost;
   recorded : NotesRun l.fn.world l.world (g.V.Watch.watched l.fn.watch).recording (g.V.Watch.watched l.watch).recording;
+  history : AreKeptUp (g.V.Watch.watched l.fn.watch).history l.fn.world.history → AreKeptUp (g.V.Watch.watched l.watch).history l.world.history;
   shows : (g.V.Watch.watched l.watch).shows ≡ (g.V.Watch.watched l.fn.watch).shows;
 }

@@ -1,6 +1,7 @@
-use Rattle.std.proofs.Common.{subst, sym, ◌∙◌}
+use Rattle.std.proofs.Common.{refl, subst, sym, ◌∙◌}
 use Rattle.fwupd_jobs.specs.Running.{StepsSeen}
 use Rattle.fw_edge.specs.declared.driving.EdgeFault.TheVariants as edges
+use Rattle.fwupd_jobs.proofs.Happened.{kept_same}
 use Rattle.fwupd_jobs.proofs.Noted.{recorded_whole}
 use Rattle.fwupd_jobs.proofs.Started.{unwritten_by, unwritten_still, update_caused, watched_apart}
 use Rattle.fwupd_jobs.proofs.running.update_watched.Goals as goal
@@ -28,3 +29,8 @@ pub returns-in-Ok-watched-clause-recorded : goal.returns-in-Ok-watched-clause-re
 returns-in-Ok-watched-clause-recorded g c new =
     recorded_whole c.schedules_read_back.ensures.read c.args.world.now c.update_all-end.new.world (g.V.Watch.watched c.args.watch.now).recording (g.V.Watch.watched c.update_all-end.new.watch).recording
     (g.V.Watch.watched c.end-watched.new.self).recording c.in-Ok.ensures.noted c.in-Ok-watched.ensures.closed new
+
+pub returns-in-Ok-watched-clause-history : goal.returns-in-Ok-watched-clause-history
+returns-in-Ok-watched-clause-history g c h =
+    kept_same (g.V.Watch.watched c.update_all-end.new.watch).history (g.V.Watch.watched c.end-watched.new.self).history c.update_all-end.new.world.history c.update_all-end.new.world.history c.end-watched.ensures.history refl
+    (c.in-Ok.ensures.history h)

@@ -1,4 +1,4 @@
-use Rattle.std.proofs.Common.{subst, sym}
+use Rattle.std.proofs.Common.{inl, inr, subst, sym}
 use Rattle.fwupd_jobs.specs.Running.{StepsSeen}
 use Rattle.fwupd_jobs.proofs.Started.{begun_none, begun_seen, caused_unwritten}
 use Rattle.fwupd_jobs.proofs.updating.update_over.Goals as goal
@@ -10,3 +10,18 @@ returns-in-Err-clause-sees g c none =
 pub returns-in-Err-update_told-clause-unwritten : goal.returns-in-Err-update_told-clause-unwritten
 returns-in-Err-update_told-clause-unwritten g c =
     caused_unwritten c.args.number c.args.world.now c.update_told.new.world c.in-Err-update_told.fault (g.V.Watch.watched c.update_told.new.watch) c.in-Err-update_told.ensures.fault
+
+pub returns-in-Err-write_report-clause-fault : goal.returns-in-Err-write_report-clause-fault
+returns-in-Err-write_report-clause-fault g c = elim c.in-Err-write_report.ensures.fault [
+  | inl h ↦ inr (inr (inl h.0, h.1))
+  | inr h ↦ inr (inl h)
+]
+
+pub returns-in-Err-write_report-clause-same : goal.returns-in-Err-write_report-clause-same
+returns-in-Err-write_report-clause-same g c = c.update_told.ensures.same
+
+pub returns-in-Err-write_report-clause-reached : goal.returns-in-Err-write_report-clause-reached
+returns-in-Err-write_report-clause-reached g c = c.update_told.ensures.reached
+
+pub returns-in-Err-write_report-clause-sees : goal.returns-in-Err-write_report-clause-sees
+returns-in-Err-write_report-clause-sees g c = c.update_told.ensures.sees

@@ -5,5 +5,5 @@ use Rattle.fw_node.proofs.half.Half.incoming.Goals as goal
 
 pub returns-clause-brings : goal.returns-clause-brings
 returns-clause-brings g c given works =
-    hears_brings (g.C.Core.does given) works (g.C.Core.seen c.args.self.now.core) c.args.self.now.ends c.hear.new.self (spelling c.args.packet.now) (incoming_of c.hear.result)
+    hears_brings (g.C.Core.does given) works (g.C.Core.seen c.args.self.now.core) c.args.self.now.ends c.hear.new.self (spelling c.args.packet.now) (incoming_of c.hear.result c.hear.new.message)
     c.hear.ensures.lawful.0 c.hear.ensures.lawful.1 c.hear.ensures.lawful.2 c.hear.ensures.incoming c.hear.ensures.asking c.hear.ensures.answering

@@ -8,7 +8,7 @@ invariant_of-self c = rw (c.tick.ensures, c.in_default.is) (over_is _ c.self.inv
 pub invariant_of-self-then-is_due : goal.invariant_of-self-then-is_due
 invariant_of-self-then-is_due c =
     let h = rw c.in-Some.is at c.self.invariant in
-    rw (c.start.ensures, c.tag.ensures.value, c.again-message.ensures, c.tick.ensures)
+    rw (c.start.ensures, c.tag.ensures.value, c.tick.ensures)
     (due_is _ _ h h.asked (sym c.is_due.ensures ∙ c.if-is_due.true))
 
 pub invariant_of-self-then-open-eq-GIVEN_UP : goal.invariant_of-self-then-open-eq-GIVEN_UP

@@ -1,0 +1,8 @@
+use Rattle.std.proofs.Common.{◌≡◌, ◌++◌, ◌∷◌, []}
+use Rattle.std.specs.List.{repeat}
+use Rattle.fw_world.specs.Worlds.{full_tick}
+use Rattle.fw_script.proofs.schedule_lines.push_ticks.Given as goal
+
+-- so many ticks are appended
+abbrev pub invariant-loop-pushed : goal.invariant-loop-pushed
+invariant-loop-pushed l = l.steps.items ≡ l.fn.steps.items ++ repeat l._pushed (full_tick ∷ [])

@@ -1,0 +1,28 @@
+-- What the lines of a schedule say, as they are written.
+use Rattle.std.specs.Prelude.{◌++◌, ◌∷◌, [], List, None, Option, Some}
+use Rattle.std.specs.List.{flat_map, repeat}
+use Rattle.fw_world.specs.Worlds.{full_tick}
+use Rattle.fw_world.specs.declared.step.Step.{Step}
+use Rattle.fw_script.specs.declared.schedule_lines.ScheduleLine.{ScheduleLine}
+use Rattle.fw_script.specs.declared.schedule_lines.ScheduleLine.TheVariants as lines
+use Rattle.fw_script.specs.declared.schedule_lines.NextStep.{NextStep}
+use Rattle.fw_script.specs.declared.schedule_lines.NextStep.TheVariants as next
+
+-- the steps of a line
+abbrev pub line_steps : ScheduleLine → List Step
+line_steps (lines.Step step) = step ∷ []
+line_steps (lines.Ticks count) = repeat count (full_tick ∷ [])
+
+-- a line that is skipped says none
+abbrev pub steps_if_any : Option ScheduleLine → List Step
+steps_if_any None = []
+steps_if_any (Some line) = line_steps line
+
+-- the steps of lines, one after another
+abbrev pub all_steps : List ScheduleLine → List Step
+all_steps lines = flat_map line_steps lines
+
+-- the step that comes next
+abbrev pub step_said : NextStep → Step
+step_said (next.Said step) = step.now
+step_said next.Tick = full_tick

@@ -1,0 +1,151 @@
+//! What the lines of a schedule say.
+
+ghost use Rattle.std.specs.Prelude.{◌≡◌, ◌++◌, ◌∷◌, [], IfOk, IfSome, OnOk, length};
+ghost use Rattle.std.specs.List.{repeat};
+ghost use Rattle.fw_script.specs.ScheduleLines.{all_steps, line_steps};
+ghost use Rattle.fw_world.specs.Worlds.{full_tick};
+
+use fw_world::{Missed, Step};
+use std::alloc::{AllocError, Global};
+use std::marker::Model;
+
+/// What a line of a schedule says.
+#[derive(Drop)]
+pub enum ScheduleLine {
+    /// A step.
+    Step(Step),
+    /// So many ticks, one after another, each of which all nodes count.
+    Ticks(u64),
+}
+
+/// Appends ticks.
+///
+/// # Errors
+/// `AllocError` where memory for them is refused.
+fn push_ticks(steps: &mut Vec<Step>, count: u64) -> Result<(), AllocError>
+    ensures { OnOk result (steps.new.items ≡ steps.old.items ++ repeat count (full_tick ∷ [])) }
+{
+    for _pushed in 0..count {
+        steps.push(Step::Tick(Missed::new()))?;
+    }
+    Ok(())
+}
+
+/// Appends the steps of a line.
+fn push_steps(steps: &mut Vec<Step>, line: ScheduleLine) -> Result<(), AllocError>
+    ensures { OnOk result (steps.new.items ≡ steps.old.items ++ line_steps line) }
+{
+    match line {
+        ScheduleLine::Step(step) => steps.push(step)?,
+        ScheduleLine::Ticks(count) => push_ticks(steps, count)?,
+    }
+    Ok(())
+}
+
+/// The steps of lines, one after another.
+///
+/// # Errors
+/// `AllocError` where memory for them is refused.
+#[tactic(auto, using(crate::proofs::AllSteps::all_more))]
+pub fn steps_of_all(alloc: Global, lines: Vec<ScheduleLine>) -> Result<Vec<Step>, AllocError>
+    ensures { IfOk result (λ steps. steps.items ≡ all_steps lines.items) }
+{
+    let mut steps = Vec::new(alloc);
+    for line in lines {
+        push_steps(&mut steps, line)?;
+    }
+    Ok(steps)
+}
+
+/// How many steps these lines say, where 64 bits hold the number.
+#[tactic(auto, using(crate::proofs::AllSteps::counted_more))]
+pub fn step_count(lines: &[ScheduleLine]) -> Option<u64>
+    ensures { IfSome result (λ count. count ≡ length (all_steps lines.now)) }
+{
+    let mut count = 0u64;
+    for line in lines {
+        count = count.checked_add(line.len())?;
+    }
+    Some(count)
+}
+
+impl ScheduleLine {
+    ghost use Rattle.std.specs.Prelude.{◌≡◌, length};
+    ghost use Rattle.fw_script.specs.ScheduleLines.{line_steps};
+
+    /// How many steps it says.
+    #[tactic(auto, using(crate::proofs::AllSteps::ticks_long))]
+    fn len(&self) -> u64
+        ensures { result ≡ length (line_steps self.now) }
+    {
+        match self {
+            ScheduleLine::Step(_) => 1,
+            ScheduleLine::Ticks(count) => *count,
+        }
+    }
+}
+
+/// The next of a schedule's steps.
+#[derive(Clone, Copy)]
+pub enum NextStep<'a> {
+    /// A step that a line says.
+    Said(&'a Step),
+    /// A tick that all nodes count.
+    Tick,
+}
+
+/// The steps of lines, one after another: those that are left.
+#[derive(Drop)]
+pub struct LineSteps<'a> {
+    ticks: u64,
+    lines: &'a [ScheduleLine],
+}
+
+impl<'a> Model for LineSteps<'a> {
+    ghost use Rattle.std.specs.Prelude.{◌++◌, ◌∷◌, [], List};
+    ghost use Rattle.std.specs.List.{repeat};
+    ghost use Rattle.fw_world.specs.Worlds.{full_tick};
+    ghost use Rattle.fw_world.specs.declared.step.Step.{Step};
+    ghost use Rattle.fw_script.specs.ScheduleLines.{all_steps};
+
+    ghost Value = { List Step };
+
+    ghost view = { λ s. repeat s.ticks (full_tick ∷ []) ++ all_steps s.lines.now };
+}
+
+impl<'a> LineSteps<'a> {
+    ghost use Rattle.std.specs.Prelude.{◌≡◌, ◌∷◌, [], IfNone, IfSome};
+    ghost use Rattle.fw_script.specs.ScheduleLines.{all_steps, step_said};
+
+    /// All steps of these lines.
+    pub fn of(lines: &'a [ScheduleLine]) -> LineSteps<'a>
+        ensures { result ≡ all_steps lines.now }
+    {
+        LineSteps { ticks: 0, lines }
+    }
+
+    /// The first of the steps that are left, which then isn't; none where none is left.
+    #[tactic(auto, using(crate::proofs::AllSteps::ticks_first))]
+    pub fn next(&mut self) -> Option<NextStep<'a>>
+        ensures some { IfSome result (λ s. self.old ≡ step_said s ∷ self.new) }
+        ensures none { IfNone result (self.old ≡ []) }
+    {
+        if self.ticks > 0 {
+            self.ticks -= 1;
+            return Some(NextStep::Tick);
+        }
+        while let [first, rest @ ..] = self.lines {
+            self.lines = rest;
+            match first {
+                ScheduleLine::Step(step) => return Some(NextStep::Said(step)),
+                ScheduleLine::Ticks(count) => {
+                    if *count > 0 {
+                        self.ticks = *count - 1;
+                        return Some(NextStep::Tick);
+                    }
+                }
+            }
+        }
+        None
+    }
+}

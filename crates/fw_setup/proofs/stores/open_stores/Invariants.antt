@@ -1,0 +1,13 @@
+use Rattle.std.proofs.Common.{◌≡◌, map, take}
+use Rattle.fw_script.specs.Seen.{device_of}
+use Rattle.fw_script.specs.Whole.{eids_of}
+use Rattle.fw_setup.specs.Stocks.{stores_in}
+use Rattle.fw_setup.proofs.Stocking.{AreSeenSoFar}
+use Rattle.fw_setup.proofs.stores.open_stores.Given as goal
+
+-- the devices so far have what their stores keep, which are theirs
+abbrev pub invariant-loop-device : goal.invariant-loop-device
+invariant-loop-device g l = record {
+  kept : AreSeenSoFar (stores_in (g.S.Stores.is_known l.stores) (g.S.Stores.files l.stores) l.root) l.fn.devices l.devices l.device-index;
+  order : map (λ s. s.device) l.banks.stores.items ≡ eids_of (map device_of (take l.device-index l.fn.devices));
+}

@@ -1,0 +1,111 @@
+//! The images that a store keeps, in the places of those that a configuration says.
+
+ghost use Rattle.std.specs.Prelude.{◌≡◌, IfOk, OnOk, Some, map, option_map};
+ghost use Rattle.fd_core.specs.Images.{key_of};
+ghost use Rattle.fw_script.specs.Seen.{component_of, device_of};
+ghost use Rattle.fw_setup.specs.Nodes.{row_made};
+ghost use Rattle.fw_setup.specs.Stocks.{images_configured, stocked, stocked_by, stocked_device};
+ghost use Rattle.fw_store.specs.Kept.{image_for};
+
+use fw_script::{ComponentConfig, DeviceConfig};
+use fw_store::{Kept, Stored};
+use fwup_wire::Key;
+use std::alloc::{AllocError, Global};
+
+/// The image that each of these components is configured with, lent.
+///
+/// # Errors
+/// `AllocError` where memory is refused.
+pub fn configured_images<'a>(
+    alloc: Global,
+    components: &'a [ComponentConfig],
+) -> Result<Vec<Kept<'a>>, AllocError>
+    ensures { IfOk result (λ images. images.items ≡ images_configured (map component_of components.now)) }
+{
+    let mut images = Vec::new(alloc);
+    for config in components {
+        images.push(Kept {
+            key: config.component.key,
+            label: &config.label,
+            bytes: &config.image,
+        })?;
+    }
+    Ok(images)
+}
+
+/// The keys of these components.
+pub(crate) fn component_keys(
+    alloc: Global,
+    components: &[ComponentConfig],
+) -> Result<Vec<Key>, AllocError>
+    ensures { IfOk result (λ keys. keys.items ≡ map key_of (map row_made (map component_of components.now))) }
+{
+    let mut keys = Vec::new(alloc);
+    for config in components {
+        keys.push(config.component.key)?;
+    }
+    Ok(keys)
+}
+
+/// Puts an image in the place of that of a component.
+fn replace(alloc: Global, config: &mut ComponentConfig, image: &Kept<'_>) -> Result<(), AllocError>
+    ensures { OnOk result (component_of config.new ≡ stocked_by (component_of config.old) (Some image.now.image)) }
+{
+    let mut bytes = Vec::new(alloc);
+    bytes.extend_from_slice(image.bytes)?;
+    config.image = bytes;
+    config.label = image.label.copied();
+    Ok(())
+}
+
+/// The image that is kept for a component, if one is.
+#[tactic(auto, using(crate::proofs::Stocking::finding))]
+fn kept_for(images: &[Stored], key: Key) -> Option<Kept<'_>>
+    ensures { option_map (λ k. k.image) result ≡ image_for images.now key }
+{
+    for stored in images {
+        let image = stored.image();
+        if image.key == key {
+            return Some(image);
+        }
+    }
+    None
+}
+
+/// Puts the image that is kept for a component in the place of its own, if one is kept.
+fn stock_component(
+    alloc: Global,
+    config: &mut ComponentConfig,
+    images: &[Stored],
+) -> Result<(), AllocError>
+    ensures { OnOk result (component_of config.new ≡ stocked images.now (component_of config.old)) }
+{
+    match kept_for(images, config.component.key) {
+        Some(image) => replace(alloc, config, &image),
+        None => Ok(()),
+    }
+}
+
+/// Puts the images that are kept for components in the places of their own.
+fn stock_all(
+    alloc: Global,
+    components: &mut [ComponentConfig],
+    images: &[Stored],
+) -> Result<(), AllocError>
+    ensures { OnOk result (map component_of components.new ≡ map (stocked images.now) (map component_of components.old)) }
+{
+    for config in components.iter_mut() {
+        stock_component(alloc, config, images)?;
+    }
+    Ok(())
+}
+
+/// Puts the images that are kept for a device's components in the places of those that it is configured with.
+///
+/// # Errors
+/// `AllocError` where memory is refused: some may be in their places.
+pub fn stock(alloc: Global, device: &mut DeviceConfig, images: &[Stored]) -> Result<(), AllocError>
+    ensures { OnOk result (device_of device.new ≡ stocked_device images.now (device_of device.old)) }
+{
+    stock_all(alloc, device.components.as_mut_slice(), images)
+}

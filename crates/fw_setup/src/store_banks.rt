@@ -1,0 +1,131 @@
+//! Banks over the stores of devices.
+
+ghost use Rattle.std.specs.Prelude.{◌≡◌, ◌⊎◌, ◌++◌, ◌∷◌, [], IfErr, IfOk, IsSomeAnd, OnOk, map, slice_get, true};
+ghost use Rattle.fd_core.specs.Banks.{AreApart};
+ghost use Rattle.fd_core.specs.Images.{key_of};
+ghost use Rattle.fw_script.specs.Seen.{component_of};
+ghost use Rattle.fw_script.specs.Whole.{AreNew, keys_of};
+ghost use Rattle.fw_setup.specs.Nodes.{row_made};
+ghost use Rattle.fw_setup.specs.Stocks.{image_configured, images_configured};
+
+use crate::banks::{Banks, BanksFault, mem_bank};
+use crate::stocks::component_keys;
+use fd_core::{Label, MemBank};
+use fw_script::ComponentConfig;
+use fw_store::{Folder, FolderStore, KeptBank, Stored};
+use std::alloc::{AllocError, Global};
+use std::collections::VecDeque;
+
+/// The store of a device.
+#[derive(Drop)]
+struct DeviceStore<F: Folder + Drop> {
+    device: u8,
+    store: FolderStore<F>,
+}
+
+/// Banks over the stores of devices, which are taken in their order: that of the first device is the first to be taken.
+#[derive(Drop)]
+pub struct StoreBanks<F: Folder + Drop> {
+    stores: VecDeque<DeviceStore<F>>,
+}
+
+/// Whether two labels are the same.
+fn is_same_label(one: &Label, other: &Label) -> bool
+    ensures { result ≡ true → one.now ≡ other.now }
+{
+    one.stamp == other.stamp
+        && one.text_type == other.text_type
+        && one.text.as_slice() == other.text.as_slice()
+}
+
+/// Whether an image is the one that a component is configured with.
+fn is_configured(stored: &Stored, config: &ComponentConfig) -> bool
+    ensures { result ≡ true → stored.now ≡ image_configured (component_of config.now) }
+{
+    let image = stored.image();
+    image.key == config.component.key
+        && is_same_label(image.label, &config.label)
+        && image.bytes == config.image.as_slice()
+}
+
+/// Whether images are those that components are configured with.
+fn are_configured(images: &[Stored], components: &[ComponentConfig]) -> bool
+    ensures { result ≡ true → images.now ≡ images_configured (map component_of components.now) }
+{
+    if images.len() != components.len() {
+        return false;
+    }
+    for place in 0..images.len() {
+        if !is_configured(&images[place], &components[place]) {
+            return false;
+        }
+    }
+    true
+}
+
+/// A bank of components over a store that keeps the images that they are configured with.
+fn kept_bank<F: Folder + Drop>(
+    alloc: Global,
+    components: &[ComponentConfig],
+    store: FolderStore<F>,
+) -> Result<KeptBank<FolderStore<F>>, AllocError>
+    requires new { AreNew [] (keys_of (map component_of components.now)) }
+    requires kept { store.memory.images.items ≡ images_configured (map component_of components.now) }
+    ensures rows { IfOk result (λ b. b.rows ≡ map row_made (map component_of components.now)) }
+    ensures apart { IfOk result (λ b. AreApart (map key_of b.rows)) }
+    ensures faults { IfOk result (λ b. b.faults ≡ 0) }
+    ensures kept { IfOk result (λ b. b.kept ≡ store.memory.images.items) }
+{
+    let keys = component_keys(alloc, components)?;
+    let bank = mem_bank(alloc, components)?;
+    Ok(KeptBank::new(alloc, bank, keys, store))
+}
+
+impl<F: Folder + Drop> StoreBanks<F> {
+    /// Banks over no stores.
+    pub(crate) fn new(alloc: Global) -> StoreBanks<F>
+        ensures { result.stores.items ≡ [] }
+    {
+        StoreBanks {
+            stores: VecDeque::new(alloc),
+        }
+    }
+
+    /// One store more, of this device.
+    pub(crate) fn push(&mut self, device: u8, store: FolderStore<F>) -> Result<(), AllocError>
+        ensures { OnOk result (self.new.stores.items ≡ self.old.stores.items ++ record { device = device; store = store } ∷ []) }
+    {
+        match self.stores.push_back(DeviceStore { device, store }) {
+            Ok(()) => Ok(()),
+            Err(_) => Err(AllocError),
+        }
+    }
+}
+
+impl<F: Folder + Drop> Banks<KeptBank<FolderStore<F>>> for StoreBanks<F> {
+    fn make(
+        &mut self,
+        alloc: Global,
+        device: u8,
+        components: &[ComponentConfig],
+    ) -> Result<KeptBank<FolderStore<F>>, BanksFault>
+        requires new { AreNew [] (keys_of (map component_of components.now)) }
+        ensures rows { IfOk result (λ b. b.rows ≡ map row_made (map component_of components.now)) }
+        ensures apart { IfOk result (λ b. AreApart (map key_of b.rows)) }
+        ensures faults { IfOk result (λ b. b.faults ≡ 0) }
+        ensures taken { IfOk result (λ b. IsSomeAnd (slice_get self.old.stores.items 0) (λ s. (s.device ≡ device) × (s.store.memory.images.items ≡ b.kept))) }
+        ensures left { OnOk result (IsSomeAnd (slice_get self.old.stores.items 0) (λ s. self.old.stores.items ≡ s ∷ self.new.stores.items)) }
+        ensures fault { IfErr result (λ e. (e ≡ BanksFault.Memory) ⊎ (e ≡ BanksFault.Device device)) }
+    {
+        let Some(taken) = self.stores.pop_front() else {
+            return Err(BanksFault::Device(device));
+        };
+        if taken.device != device || !are_configured(taken.store.images(), components) {
+            return Err(BanksFault::Device(device));
+        }
+        match kept_bank(alloc, components, taken.store) {
+            Ok(bank) => Ok(bank),
+            Err(_) => Err(BanksFault::Memory),
+        }
+    }
+}

@@ -1,0 +1,230 @@
+//! The stores of devices, each in a folder of its own.
+
+ghost use Rattle.std.specs.Prelude.{◌≡◌, ◌⊎◌, Bool, Err, IfErr, IfOk, List, None, Ok, OnOk, false, map, true, ℕ};
+ghost use Rattle.fw_script.specs.Seen.{component_of, device_of};
+ghost use Rattle.fw_script.specs.Whole.{AreWhole, eids_of};
+ghost use Rattle.fw_setup.specs.Stocks.{AreStocked, IsFaulty, IsStocked, IsUnopened, images_configured, stores_in};
+ghost use Rattle.fw_store.specs.Opening.{found_in};
+
+use crate::stocks::{configured_images, stock};
+use crate::store_banks::StoreBanks;
+use fw_script::{ComponentConfig, DeviceConfig};
+use fw_store::{Folder, FolderStore, MemStore, OpenFault, SystemFolder, open_store, read_store};
+use std::alloc::{AllocError, Global};
+
+/// Why the store of a device isn't opened.
+#[derive(Clone, Copy, Debug, PartialEq, Eq)]
+pub struct Unopened {
+    /// The device's endpoint identifier.
+    pub device: u8,
+    /// Why it isn't.
+    pub why: OpenFault,
+}
+
+/// Where the folders of devices' stores are, below a folder. Where it is known what they hold, it is known of each of them.
+pub trait Stores<F: Folder + Drop> {
+    ghost use Rattle.fw_store.specs.Folders.{Files};
+
+    ghost is_known: { Self → Bool };
+
+    ghost files: { Self → List ℕ → ℕ → Files };
+
+    /// The folder of a device's store, below this one. It is made where it isn't there.
+    ///
+    /// # Errors
+    /// `Unreadable` where it can't be made, and `Memory`.
+    fn make(&self, alloc: Global, root: &str, device: u8) -> Result<F, OpenFault>
+        ensures known { IfOk result (λ f. is_known self.now ≡ true → F.is_known f ≡ true) }
+        ensures files { IfOk result (λ f. is_known self.now ≡ true → F.files f ≡ files self.now root.now device) }
+        ensures fault { IfErr result (λ e. (e ≡ OpenFault.Unreadable) ⊎ (e ≡ OpenFault.Memory)) };
+
+    /// The same to read from. It may not be there: then it has no files.
+    ///
+    /// # Errors
+    /// `AllocError` where memory is refused.
+    fn at(&self, alloc: Global, root: &str, device: u8) -> Result<F, AllocError>
+        ensures known { IfOk result (λ f. is_known self.now ≡ true → F.is_known f ≡ true) }
+        ensures files { IfOk result (λ f. is_known self.now ≡ true → F.files f ≡ files self.now root.now device) };
+}
+
+/// Folders of the system, of which nothing is known: that of a device is named by its endpoint identifier.
+#[derive(Clone, Copy)]
+pub struct SystemStores<'a> {
+    rt: &'a HostRuntime,
+}
+
+/// The path of the folder of a device's store.
+fn device_path(alloc: Global, root: &str, device: u8) -> Result<String, AllocError> {
+    match format!(in alloc; "{root}/{device}") {
+        Ok(path) => Ok(path),
+        Err(_) => Err(AllocError),
+    }
+}
+
+impl<'a> SystemStores<'a> {
+    /// The folders that a runtime reaches.
+    pub fn new(rt: &'a HostRuntime) -> SystemStores<'a> {
+        SystemStores { rt }
+    }
+}
+
+impl<'a> Stores<SystemFolder<'a>> for SystemStores<'a> {
+    ghost is_known = { λ s. false };
+
+    ghost files = { λ s root device name. None };
+
+    fn make(&self, alloc: Global, root: &str, device: u8) -> Result<SystemFolder<'a>, OpenFault> {
+        let Ok(path) = device_path(alloc, root, device) else {
+            return Err(OpenFault::Memory);
+        };
+        match SystemFolder::make(self.rt, path) {
+            Ok(folder) => Ok(folder),
+            Err(_) => Err(OpenFault::Unreadable),
+        }
+    }
+
+    fn at(&self, alloc: Global, root: &str, device: u8) -> Result<SystemFolder<'a>, AllocError> {
+        match device_path(alloc, root, device) {
+            Ok(path) => Ok(SystemFolder::at(self.rt, path)),
+            Err(_) => Err(AllocError),
+        }
+    }
+}
+
+/// The store of a folder over the images that components are configured with.
+fn open_over<F: Folder + Drop>(
+    alloc: Global,
+    folder: F,
+    components: &[ComponentConfig],
+) -> Result<FolderStore<F>, OpenFault>
+    ensures found { IfOk result (λ s. F.is_known folder ≡ true → found_in (images_configured (map component_of components.now)) (F.files folder) ≡ Ok s.memory.images.items) }
+    ensures damaged { IfErr result (λ e. e ≡ OpenFault.Damaged → F.is_known folder ≡ true → found_in (images_configured (map component_of components.now)) (F.files folder) ≡ Err OpenFault.Damaged) }
+    ensures foreign { IfErr result (λ e. e ≡ OpenFault.Foreign → F.is_known folder ≡ true → found_in (images_configured (map component_of components.now)) (F.files folder) ≡ Err OpenFault.Foreign) }
+{
+    match configured_images(alloc, components) {
+        Ok(images) => open_store(alloc, folder, images.as_slice()),
+        Err(_) => Err(OpenFault::Memory),
+    }
+}
+
+/// What a folder keeps over the images that components are configured with. It is only read.
+fn read_over<F: Folder + Drop>(
+    alloc: Global,
+    folder: &F,
+    components: &[ComponentConfig],
+) -> Result<MemStore, OpenFault>
+    ensures found { IfOk result (λ s. F.is_known folder.now ≡ true → found_in (images_configured (map component_of components.now)) (F.files folder.now) ≡ Ok s.images.items) }
+    ensures damaged { IfErr result (λ e. e ≡ OpenFault.Damaged → F.is_known folder.now ≡ true → found_in (images_configured (map component_of components.now)) (F.files folder.now) ≡ Err OpenFault.Damaged) }
+    ensures foreign { IfErr result (λ e. e ≡ OpenFault.Foreign → F.is_known folder.now ≡ true → found_in (images_configured (map component_of components.now)) (F.files folder.now) ≡ Err OpenFault.Foreign) }
+{
+    match configured_images(alloc, components) {
+        Ok(images) => read_store(alloc, folder, images.as_slice()),
+        Err(_) => Err(OpenFault::Memory),
+    }
+}
+
+/// Opens the store of a device, and puts the images that it keeps in the places of those that the device is configured with.
+fn open_device<F: Folder + Drop, S: Stores<F>>(
+    alloc: Global,
+    stores: &S,
+    root: &str,
+    device: &mut DeviceConfig,
+) -> Result<FolderStore<F>, OpenFault>
+    ensures stocked { OnOk result (IsStocked (stores_in (S.is_known stores.now) (S.files stores.now) root.now) (device_of device.old) (device_of device.new)) }
+    ensures fault { IfErr result (IsFaulty (stores_in (S.is_known stores.now) (S.files stores.now) root.now) (device_of device.old)) }
+{
+    let folder = match stores.make(alloc, root, device.endpoint.eid) {
+        Ok(folder) => folder,
+        Err(fault) => return Err(fault),
+    };
+    let store = match open_over(alloc, folder, device.components.as_slice()) {
+        Ok(store) => store,
+        Err(fault) => return Err(fault),
+    };
+    match stock(alloc, device, store.images()) {
+        Ok(()) => Ok(store),
+        Err(_) => Err(OpenFault::Memory),
+    }
+}
+
+/// Puts the images that the folder of a device keeps in the places of those that the device is configured with.
+fn read_device<F: Folder + Drop, S: Stores<F>>(
+    alloc: Global,
+    stores: &S,
+    root: &str,
+    device: &mut DeviceConfig,
+) -> Result<(), OpenFault>
+    ensures stocked { OnOk result (IsStocked (stores_in (S.is_known stores.now) (S.files stores.now) root.now) (device_of device.old) (device_of device.new)) }
+    ensures fault { IfErr result (IsFaulty (stores_in (S.is_known stores.now) (S.files stores.now) root.now) (device_of device.old)) }
+{
+    let Ok(folder) = stores.at(alloc, root, device.endpoint.eid) else {
+        return Err(OpenFault::Memory);
+    };
+    let store = match read_over(alloc, &folder, device.components.as_slice()) {
+        Ok(store) => store,
+        Err(fault) => return Err(fault),
+    };
+    match stock(alloc, device, store.images()) {
+        Ok(()) => Ok(()),
+        Err(_) => Err(OpenFault::Memory),
+    }
+}
+
+/// Opens the store of each of these devices, in a folder of its own below this one, and puts the images that it keeps in the places of
+/// those that the device is configured with. Where there is no folder one is made, and files of a store that don't run are removed.
+///
+/// # Errors
+/// The first device whose store isn't opened, and why: `Damaged` and `Foreign` as `found_in` says them, `Unreadable` where its folder
+/// can't be made or read, and `Memory`. Images of devices before it may be in their places.
+pub fn open_stores<F: Folder + Drop, S: Stores<F>>(
+    alloc: Global,
+    stores: &S,
+    root: &str,
+    devices: &mut [DeviceConfig],
+) -> Result<StoreBanks<F>, Unopened>
+    ensures stocked { OnOk result (AreStocked (stores_in (S.is_known stores.now) (S.files stores.now) root.now) (map device_of devices.old) (map device_of devices.new)) }
+    ensures whole { OnOk result ((agent : ℕ) → AreWhole agent (map device_of devices.old) → AreWhole agent (map device_of devices.new)) }
+    ensures order { IfOk result (λ b. map (λ s. s.device) b.stores.items ≡ eids_of (map device_of devices.old)) }
+    ensures fault { IfErr result (IsUnopened (stores_in (S.is_known stores.now) (S.files stores.now) root.now) (map device_of devices.old)) }
+{
+    let mut banks = StoreBanks::new(alloc);
+    for device in devices.iter_mut() {
+        let eid = device.endpoint.eid;
+        let store = match open_device(alloc, stores, root, device) {
+            Ok(store) => store,
+            Err(why) => return Err(Unopened { device: eid, why }),
+        };
+        let Ok(()) = banks.push(eid, store) else {
+            return Err(Unopened {
+                device: eid,
+                why: OpenFault::Memory,
+            });
+        };
+    }
+    Ok(banks)
+}
+
+/// Puts the images that the folder of each of these devices keeps in the places of those that the device is configured with. The folders are
+/// only read.
+///
+/// # Errors
+/// As for `open_stores`.
+pub fn read_stores<F: Folder + Drop, S: Stores<F>>(
+    alloc: Global,
+    stores: &S,
+    root: &str,
+    devices: &mut [DeviceConfig],
+) -> Result<(), Unopened>
+    ensures stocked { OnOk result (AreStocked (stores_in (S.is_known stores.now) (S.files stores.now) root.now) (map device_of devices.old) (map device_of devices.new)) }
+    ensures whole { OnOk result ((agent : ℕ) → AreWhole agent (map device_of devices.old) → AreWhole agent (map device_of devices.new)) }
+    ensures fault { IfErr result (IsUnopened (stores_in (S.is_known stores.now) (S.files stores.now) root.now) (map device_of devices.old)) }
+{
+    for device in devices.iter_mut() {
+        let eid = device.endpoint.eid;
+        match read_device(alloc, stores, root, device) {
+            Ok(()) => {}
+            Err(why) => return Err(Unopened { device: eid, why }),
+        }
+    }
+    Ok(())
+}
