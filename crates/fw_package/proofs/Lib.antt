@@ -7,8 +7,10 @@ mod Lists
 mod Measured
 mod NamedBack
 mod OnePackage
+mod Outlined
 mod Parts
 mod ReadWhole
+mod PlaceRows
 mod Puts
 mod Rows
 mod Twins

@@ -24,7 +24,7 @@ pub read_refused : {A : Type 0} (r : Result (List A) PackageFault) (e : PackageF
 read_refused (Ok xs) e h = absurd (cc)
 read_refused (Err x) e h = cc
 
-one_more : {A : Type 0} (x : A) (r : Result (List A) PackageFault) → fault_of (r >>= (λ xs. Ok (x ∷ xs))) ≡ fault_of r
+pub one_more : {A : Type 0} (x : A) (r : Result (List A) PackageFault) → fault_of (r >>= (λ xs. Ok (x ∷ xs))) ≡ fault_of r
 one_more x (Ok xs) = refl
 one_more x (Err e) = refl
 
@@ -98,7 +98,7 @@ count_one : {A : Type 0} (x : A) (r : Result (List A) PackageFault) (n : ℕ) �
 count_one x (Ok xs) n h ok = ap suc (h refl)
 count_one x (Err e) n h ok = absurd (cc)
 
-count_first : {A : Type 0} (f : Result A PackageFault) (r : Result (List A) PackageFault) (n : ℕ) → (IsOk r → length (listed r) ≡ n)
+pub count_first : {A : Type 0} (f : Result A PackageFault) (r : Result (List A) PackageFault) (n : ℕ) → (IsOk r → length (listed r) ≡ n)
     → IsOk (f >>= (λ x. r >>= (λ xs. Ok (x ∷ xs)))) → length (listed (f >>= (λ x. r >>= (λ xs. Ok (x ∷ xs))))) ≡ suc n
 count_first (Ok x) r n h ok = count_one x r n h ok
 count_first (Err e) r n h ok = absurd (cc)
@@ -139,7 +139,7 @@ pub record FirstLeft {A : Type 0} (f : Result A PackageFault) (r whole : Result 
   pub others : IsOk r
   pub tail : drop 1 (listed whole) ≡ listed r
 
-first_left : {A : Type 0} (f : Result A PackageFault) (r : Result (List A) PackageFault) → IsOk (f >>= (λ x. r >>= (λ xs. Ok (x ∷ xs)))) → FirstLeft f r (f >>= (λ x. r >>= (λ xs. Ok (x ∷ xs))))
+pub first_left : {A : Type 0} (f : Result A PackageFault) (r : Result (List A) PackageFault) → IsOk (f >>= (λ x. r >>= (λ xs. Ok (x ∷ xs)))) → FirstLeft f r (f >>= (λ x. r >>= (λ xs. Ok (x ∷ xs))))
 first_left (Ok x) (Ok xs) ok = record { read = refl; list = λ y e. let same : x ≡ y = cc in ap (λ z. z ∷ xs) same; others = refl; tail = refl }
 first_left (Ok x) (Err e) ok = absurd (cc)
 first_left (Err e) r ok = absurd (cc)

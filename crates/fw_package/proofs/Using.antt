@@ -64,16 +64,15 @@ records_using size count (suc n) bytes =
     then_given (All (IsUsing count)) (All (IsUsing count)) (records_of size count n (drop (little_number 2 bytes) bytes)) _ (records_using size count n (drop (little_number 2 bytes) bytes)) (λ rs ps.
     All-cons (IsUsing count) r rs p ps))
 
-pub all_using : (size count n : ℕ) (file bytes below : List ℕ) (rs : List RecordOf) (cs : List ComponentOf) → Ok rs ≡ records_of size count n bytes → Ok cs ≡ components_of file count below
-    → All (IsUsing (length cs)) rs
-all_using size count n file bytes below rs cs re ce =
-    let all : length cs ≡ count = ap length (ap listed ce) ∙ components_counted file count below (ap is_ok (sym ce)) in
-    subst (λ n. All (IsUsing n) rs) (sym all) (IfOk-at_ok (All (IsUsing count)) (sym re) (records_using size count n bytes))
+pub all_using : (size count n : ℕ) (bytes : List ℕ) (rs : List RecordOf) → Ok rs ≡ records_of size count n bytes → All (IsUsing count) rs
+all_using size count n bytes rs re = IfOk-at_ok (All (IsUsing count)) (sym re) (records_using size count n bytes)
 
 -- a header has room for so many components
-pub few_components : (file : List ℕ) (count : ℕ) (below : List ℕ) (cs : List ComponentOf) (size : ℕ) → Ok cs ≡ components_of file count below → IsSome (after_components count below) → length below ≤ size → size < 65536
-    → length cs ≤ 2978
-few_components file count below cs size ce walked inside small =
-    let all : length cs ≡ count = ap length (ap listed ce) ∙ components_counted file count below (ap is_ok (sym ce)) in
+pub few_components : (count : ℕ) (below : List ℕ) (size : ℕ) → IsSome (after_components count below) → length below ≤ size → size < 65536 → count ≤ 2978
+few_components count below size walked inside small =
     let fit = components_fit count below walked in
-    omega (arith, all, fit, inside, small)
+    omega (arith, fit, inside, small)
+
+-- and the components that are read are as many
+pub counted : (file : List ℕ) (count : ℕ) (below : List ℕ) (cs : List ComponentOf) → Ok cs ≡ components_of file count below → length cs ≡ count
+counted file count below cs ce = ap length (ap listed ce) ∙ components_counted file count below (ap is_ok (sym ce))

@@ -1,6 +1,10 @@
--- A record and a component as they are lent, as values.
+-- A record, a component and what a header has, as they are lent, as values.
+use Rattle.fw_package.specs.Components.{PlaceOf}
+use Rattle.fw_package.specs.Outlines.{ContentsOf}
 use Rattle.fw_package.specs.Package.{ComponentOf, RecordOf, text_of}
 use Rattle.fw_package.specs.declared.components.Component.{Component}
+use Rattle.fw_package.specs.declared.contents.Contents.{Contents}
+use Rattle.fw_package.specs.declared.places.Place.{Place}
 use Rattle.fw_package.specs.declared.records.Record.{Record}
 
 abbrev pub record_seen : Record → RecordOf
@@ -17,3 +21,19 @@ component_seen c =
       text = text_of c.text;
       image = c.image.now;
     }
+
+abbrev pub place_seen : Place → PlaceOf
+place_seen p =
+    record {
+      classification = p.classification;
+      identifier = p.identifier;
+      stamp = p.stamp;
+      options = p.options;
+      offset = p.offset;
+      size = p.size;
+      text = text_of p.text;
+    }
+
+abbrev pub contents_seen : Contents → ContentsOf
+contents_seen c =
+    record { header_size = c.header_size; records = c.records; component_count = c.component_count; components = c.components.now }

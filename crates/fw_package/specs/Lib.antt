@@ -7,6 +7,7 @@ pub mod Grammar
 pub mod Laws
 pub mod Layout
 pub mod Lent
+pub mod Outlines
 pub mod Package
 pub mod Reading
 pub mod Records

@@ -6,6 +6,7 @@ use Rattle.fw_package.specs.Asked.{AskedOf, AskedRecordOf, are_uses, header_size
 use Rattle.fw_package.specs.Choice.{has_key, no_component}
 use Rattle.fw_package.specs.Components.{components_of}
 use Rattle.fw_package.specs.Layout.{after_components, after_records}
+use Rattle.fw_package.specs.Outlines.{places_of}
 use Rattle.fw_package.specs.Package.{ComponentOf}
 use Rattle.fw_package.specs.Records.{is_named, records_of}
 use Rattle.fw_package.specs.declared.fault.PackageFault.{PackageFault}
@@ -32,6 +33,11 @@ pub record AreRecords (bitmap_size component_count count : ℕ) (bytes : List �
 pub record AreComponents (file : List ℕ) (count : ℕ) (bytes : List ℕ) : Type 0 where
   pub walked : IsSome (after_components count bytes)
   pub read : IsOk (components_of file count bytes)
+
+-- the same, where the file is known by its length alone
+pub record ArePlaces (file_length : ℕ) (count : ℕ) (bytes : List ℕ) : Type 0 where
+  pub walked : IsSome (after_components count bytes)
+  pub read : IsOk (places_of file_length count bytes)
 
 -- the components of these rising numbers, in a row whose first has the number `at`
 abbrev pub used_from : ℕ → List ComponentOf → List ℕ → List ComponentOf

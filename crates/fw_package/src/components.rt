@@ -1,36 +1,17 @@
 //! A component: what an image is, and where it stands.
 
 ghost use Rattle.std.specs.Iterator.{YieldsFirstBy, item_count};
-ghost use Rattle.std.specs.Prelude.{◌≡◌, ◌+◌, ◌<◌, ◌≤◌, length, drop, IsSome};
+ghost use Rattle.std.specs.Prelude.{◌≡◌, ◌+◌, ◌≤◌, length, drop, IsSome};
 ghost use Rattle.std.specs.Result.{result_map_both};
-ghost use Rattle.fw_package.specs.Components.{component_of, components_of, place_of};
-ghost use Rattle.fw_package.specs.Layout.{after_component, after_components, text_size_of};
-ghost use Rattle.fw_package.specs.Lent.{component_seen};
-ghost use Rattle.fw_package.specs.Package.{text_of};
+ghost use Rattle.fw_package.specs.Components.{component_of, components_of, placed};
+ghost use Rattle.fw_package.specs.Layout.{after_component, after_components};
+ghost use Rattle.fw_package.specs.Lent.{component_seen, place_seen};
 
 use crate::fault::PackageFault;
-use crate::layout::{COMPONENT_SIZE, COMPONENT_TEXT_LENGTH, skip_components};
+use crate::layout::skip_components;
+use crate::places::{Place, others};
 use crate::texts::Text;
-use byteorder::{ByteOrder, LittleEndian};
 use std::marker::Model;
-
-/// The place of the component identifier, after the classification.
-const IDENTIFIER: usize = 2;
-
-/// The place of the comparison stamp.
-const STAMP: usize = 4;
-
-/// The place of the component options.
-const OPTIONS: usize = 8;
-
-/// The place of the image's offset, after the activation method.
-const OFFSET: usize = 12;
-
-/// The place of the image's size.
-const IMAGE_SIZE: usize = 16;
-
-/// The place of the version text's type.
-const TEXT_TYPE: usize = 20;
 
 /// A component and its image, lent from its package's file.
 #[derive(Clone, Copy)]
@@ -56,36 +37,31 @@ impl<'a> Component<'a> {
     ///
     /// # Errors
     /// `ImageRange` where its image goes past the file's end.
-    #[tactic(auto, unfolding(crate::specs::Components::component_of))]
+    #[tactic(auto, using(crate::proofs::Outlined::component_unplaced))]
     fn read(file: &'a [u8], bytes: &'a [u8]) -> Result<Component<'a>, PackageFault>
         requires { IsSome (after_component bytes.now) }
         ensures { result_map_both component_seen (λ e. e) result ≡ component_of file.now bytes.now }
     {
-        let offset = LittleEndian::read_u32(&bytes[OFFSET..]) as usize;
-        let size = LittleEndian::read_u32(&bytes[IMAGE_SIZE..]) as usize;
-        if offset + size > file.len() {
-            return Err(PackageFault::ImageRange);
+        match Place::read(file.len(), bytes) {
+            Ok(place) => Ok(Component::at(file, place)),
+            Err(fault) => Err(fault),
         }
-        Ok(Component {
-            classification: LittleEndian::read_u16(bytes),
-            identifier: LittleEndian::read_u16(&bytes[IDENTIFIER..]),
-            stamp: LittleEndian::read_u32(&bytes[STAMP..]),
-            options: LittleEndian::read_u16(&bytes[OPTIONS..]),
-            offset,
-            text: version_text(bytes),
-            image: &file[offset..offset + size],
-        })
     }
-}
 
-/// The version text of the component with which these bytes begin.
-fn version_text(bytes: &[u8]) -> Text<'_>
-    requires { IsSome (after_component bytes.now) }
-    ensures { text_of result ≡ (place_of bytes.now).text }
-{
-    Text {
-        kind: bytes[TEXT_TYPE],
-        bytes: &bytes[COMPONENT_SIZE..component_size(bytes)],
+    /// The component whose image stands at this place of the file.
+    fn at(file: &'a [u8], place: Place<'a>) -> Component<'a>
+        requires { place.offset + place.size ≤ length file.now }
+        ensures { component_seen result ≡ placed file.now (place_seen place.entry) }
+    {
+        Component {
+            classification: place.classification,
+            identifier: place.identifier,
+            stamp: place.stamp,
+            options: place.options,
+            offset: place.offset,
+            text: place.text,
+            image: &file[place.offset..place.offset + place.size],
+        }
     }
 }
 
@@ -194,22 +170,4 @@ impl<'a> Iterator for Components<'a> {
         };
         Some(component)
     }
-}
-
-/// The bytes of the component with which these begin: its fixed part and its version text.
-fn component_size(bytes: &[u8]) -> usize
-    requires { IsSome (after_component bytes.now) }
-    ensures value { result ≡ COMPONENT_SIZE + text_size_of 21 bytes.now }
-    ensures within { result ≤ length bytes.now }
-{
-    COMPONENT_SIZE + usize::from(bytes[COMPONENT_TEXT_LENGTH])
-}
-
-/// What stands after the component with which these bytes begin.
-fn others(bytes: &[u8]) -> &[u8]
-    requires { IsSome (after_component bytes.now) }
-    ensures { result.now ≡ drop (COMPONENT_SIZE + text_size_of 21 bytes.now) bytes.now }
-{
-    let (_, others) = bytes.split_at(component_size(bytes));
-    others
 }

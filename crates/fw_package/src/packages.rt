@@ -9,15 +9,13 @@ ghost use Rattle.fw_package.specs.Package.{descriptor_of};
 ghost use Rattle.fw_package.specs.Reading.{package_of};
 
 use crate::components::{Component, Components};
+use crate::contents::Contents;
 use crate::fault::{PackageFault, PlanFault};
-use crate::layout::{BITMAP_BITS, walk};
 use crate::plans::Plan;
-use crate::reading::{bitmap_size, check, header};
 use crate::records::{Record, Records};
 use crate::texts::Descriptor;
 use crate::used::{KEY_LIMIT, Used};
 use crate::uses::Uses;
-use byteorder::{ByteOrder, LittleEndian};
 use std::marker::Model;
 
 /// The most bytes of an image that a device takes.
@@ -66,36 +64,20 @@ impl<'a> Package<'a> {
         Package::read_parts(bytes)
     }
 
-    /// Reads header, layout, records, checksum and components, in the order of their faults.
-    #[tactic(auto, unfolding(crate::specs::Reading::package_of))]
+    /// Reads the header's contents and the components, in the order of their faults.
+    #[tactic(auto, using(crate::proofs::Outlined::reading))]
     fn read_parts(bytes: &'a [u8]) -> Result<Package<'a>, PackageFault>
         ensures { result ≡ package_of bytes.now }
     {
-        let header = header(bytes)?;
-        let Some(layout) = walk(header) else {
-            return Err(PackageFault::HeaderSize);
-        };
-        let bitmap_size = bitmap_size(
-            usize::from(LittleEndian::read_u16(&header[BITMAP_BITS..])),
-            layout.component_count,
-        )?;
-        let records = Records::read(
-            layout.records,
-            layout.record_count,
-            bitmap_size,
-            layout.component_count,
-        )?;
-        check(header)?;
-        let components = Components::read(
-            bytes,
-            layout.components,
-            usize::from(layout.component_count),
-        )?;
-        Ok(Package {
-            header_size: header.len(),
-            records,
-            components,
-        })
+        let contents = Contents::read(bytes)?;
+        match Components::read(bytes, contents.components, contents.component_count) {
+            Ok(components) => Ok(Package {
+                header_size: contents.header_size,
+                records: contents.records,
+                components,
+            }),
+            Err(fault) => Err(fault),
+        }
     }
 
     /// The bytes of the header.

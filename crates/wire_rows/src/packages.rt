@@ -1,6 +1,7 @@
 //! Packages put together by hand, read, refused and planned.
 
 mod drafts;
+mod outlining;
 mod planning;
 mod reading;
 mod writing;

@@ -17,7 +17,7 @@ fn fields(component: &Component<'_>) -> [usize; 7] {
 }
 
 /// The numbers of the components that a record uses, one digit each, counted from 0.
-fn uses(record: Record<'_>) -> usize {
+pub fn uses(record: Record<'_>) -> usize {
     let mut digits: usize = 9;
     for component in record.uses {
         digits = digits % 1000 * 10 + usize::from(component);

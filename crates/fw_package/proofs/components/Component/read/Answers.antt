@@ -1,28 +1,10 @@
-use Rattle.std.proofs.Common.{◌≡◌, ◌+◌, ◌-◌, ◌∙◌, nat_lt, false, length, ap, arith, refl}
-use Rattle.std.proofs.lemmas.Bool.{le-ltb}
-use Rattle.std.proofs.lemmas.List.{take_rest}
-use Rattle.byteorder.specs.Endian.{little_number}
-use Rattle.fw_package.specs.Components.{component_of}
+use Rattle.std.proofs.Common.{◌∙◌, Ok, ap}
+use Rattle.fw_package.specs.Lent.{place_seen}
+use Rattle.fw_package.proofs.Outlined.{component_placed}
 use Rattle.fw_package.proofs.components.Component.read.Goals as goal
 
-pub returns : goal.returns
-unfolding component_of
-returns c =
-    let bytes = c.args.bytes.now in
-    let offset = c.read_u32-offset.ensures ∙ ap (little_number 4) (take_rest bytes 12) in
-    let size = c.read_u32-size.ensures ∙ ap (little_number 4) (take_rest bytes 16) in
-    let inside : nat_lt (length c.args.file.now) (c.read_u32-offset.result + c.read_u32-size.result) ≡ false =
-    le-ltb (length c.args.file.now) (c.read_u32-offset.result + c.read_u32-size.result) c.if-offset-size.false in
-    let long : (c.read_u32-offset.result + c.read_u32-size.result) - c.read_u32-offset.result ≡ c.read_u32-size.result = omega arith in
-    rw (
-      c.read_u16.ensures,
-      c.read_u16-2.ensures ∙ ap (little_number 2) (take_rest bytes 2),
-      c.read_u32.ensures ∙ ap (little_number 4) (take_rest bytes 4),
-      c.read_u16-3.ensures ∙ ap (little_number 2) (take_rest bytes 8),
-      c.version_text.ensures,
-      long,
-      rw offset at rw size at inside,
-      offset,
-      size,
-    )
-    refl
+pub at-requires : goal.at-requires
+at-requires c = (component_placed c.args.file.now c.args.bytes.now (place_seen c.in-Ok.place) c.in-Ok.ensures).1
+
+pub returns-in-Ok : goal.returns-in-Ok
+returns-in-Ok c = ap (λ x. Ok x) c.at.ensures ∙ (component_placed c.args.file.now c.args.bytes.now (place_seen c.in-Ok.place) c.in-Ok.ensures).0

@@ -1,11 +1,19 @@
-use Rattle.std.proofs.Common.{length}
-use Rattle.fw_package.proofs.Using.{all_using, few_components}
+use Rattle.std.proofs.Common.{◌≤◌, All, subst, sym}
+use Rattle.fw_package.specs.Lent.{contents_seen}
+use Rattle.fw_package.specs.Reading.{IsUsing}
+use Rattle.fw_package.proofs.Outlined.{package_from, package_out}
+use Rattle.fw_package.proofs.Using.{counted}
 use Rattle.fw_package.proofs.packages.Package.read_parts.Goals as goal
 
 pub invariant_of-result : goal.invariant_of-result
-invariant_of-result c = (
-  all_using c.in_ok-bitmap_size.bitmap_size c.in-Some.layout.component_count c.in-Some.layout.record_count c.args.bytes.now c.in-Some.layout.records.now c.in-Some.layout.components.now
-      c.in_ok-records.records c.in_ok-components.components c.in_ok-records.ensures (rw c.from-2.ensures at c.in_ok-components.ensures),
-  few_components c.args.bytes.now c.in-Some.layout.component_count c.in-Some.layout.components.now c.in_ok-components.components (length c.in_ok-header.header.now)
-      (rw c.from-2.ensures at c.in_ok-components.ensures) c.in-Some.ensures.components c.in-Some.ensures.inside c.in_ok-header.ensures.small,
-)
+invariant_of-result c =
+    let same = sym (counted c.args.bytes.now c.in_ok-contents.contents.component_count c.in_ok-contents.contents.components.now c.in-Ok.components c.in-Ok.ensures) in (
+      subst (λ n. All (IsUsing n) c.in_ok-contents.contents.records) same c.in_ok-contents.ensures.using,
+      subst (λ n. n ≤ 2978) same c.in_ok-contents.ensures.few,
+    )
+
+pub returns-in-Ok : goal.returns-in-Ok
+returns-in-Ok c = package_from c.args.bytes.now (contents_seen c.in_ok-contents.contents) c.in-Ok.components c.in_ok-contents.ensures.value c.in-Ok.ensures
+
+pub returns-in-Err : goal.returns-in-Err
+returns-in-Err c = package_out c.args.bytes.now (contents_seen c.in_ok-contents.contents) c.in-Err.fault c.in_ok-contents.ensures.value c.in-Err.ensures

@@ -1,0 +1,63 @@
+//! What a header has, apart from the components' images.
+
+ghost use Rattle.std.specs.Prelude.{◌≡◌, ◌≤◌, All, IfOk, IsSome};
+ghost use Rattle.std.specs.Result.{result_map_both};
+ghost use Rattle.fw_package.specs.Layout.{after_components};
+ghost use Rattle.fw_package.specs.Lent.{contents_seen};
+ghost use Rattle.fw_package.specs.Outlines.{contents_of};
+ghost use Rattle.fw_package.specs.Reading.{IsUsing};
+
+use crate::fault::PackageFault;
+use crate::layout::{BITMAP_BITS, walk};
+use crate::reading::{bitmap_size, check, header};
+use crate::records::Records;
+use byteorder::{ByteOrder, LittleEndian};
+
+/// A header's size, its records, and where its components stand.
+#[derive(Drop)]
+pub(crate) struct Contents<'a> {
+    /// The bytes of the header.
+    pub header_size: usize,
+    /// The records.
+    pub records: Records<'a>,
+    /// The number of components.
+    pub component_count: usize,
+    /// The header from its first component on.
+    pub components: &'a [u8],
+}
+
+impl<'a> Contents<'a> {
+    /// Reads header, layout, records and checksum, in the order of their faults. Nothing behind the header is looked at.
+    ///
+    /// # Errors
+    /// The first fault that holds, but for one of the images.
+    #[tactic(auto, unfolding(crate::specs::Outlines::contents_of))]
+    pub(crate) fn read(bytes: &'a [u8]) -> Result<Contents<'a>, PackageFault>
+        ensures value { result_map_both contents_seen (λ e. e) result ≡ contents_of bytes.now }
+        ensures there { IfOk result (λ c. IsSome (after_components c.component_count c.components.now)) }
+        ensures using { IfOk result (λ c. All (IsUsing c.component_count) c.records) }
+        ensures few { IfOk result (λ c. c.component_count ≤ 2978) }
+    {
+        let header = header(bytes)?;
+        let Some(layout) = walk(header) else {
+            return Err(PackageFault::HeaderSize);
+        };
+        let bitmap_size = bitmap_size(
+            usize::from(LittleEndian::read_u16(&header[BITMAP_BITS..])),
+            layout.component_count,
+        )?;
+        let records = Records::read(
+            layout.records,
+            layout.record_count,
+            bitmap_size,
+            layout.component_count,
+        )?;
+        check(header)?;
+        Ok(Contents {
+            header_size: header.len(),
+            records,
+            component_count: usize::from(layout.component_count),
+            components: layout.components,
+        })
+    }
+}

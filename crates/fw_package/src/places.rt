@@ -1,0 +1,202 @@
+//! A component without its image: what the image is, how long, and where it stands.
+
+ghost use Rattle.std.specs.Iterator.{YieldsFirstBy, item_count};
+ghost use Rattle.std.specs.Prelude.{◌≡◌, ◌+◌, ◌≤◌, length, drop, IsSome};
+ghost use Rattle.std.specs.Result.{result_map_both};
+ghost use Rattle.fw_package.specs.Components.{place_of};
+ghost use Rattle.fw_package.specs.Layout.{after_component, after_components, text_size_of};
+ghost use Rattle.fw_package.specs.Lent.{place_seen};
+ghost use Rattle.fw_package.specs.Outlines.{place_within, places_of};
+ghost use Rattle.fw_package.specs.Package.{text_of};
+
+use crate::fault::PackageFault;
+use crate::layout::{COMPONENT_SIZE, COMPONENT_TEXT_LENGTH};
+use crate::texts::Text;
+use byteorder::{ByteOrder, LittleEndian};
+use std::marker::Model;
+
+/// The place of the component identifier, after the classification.
+const IDENTIFIER: usize = 2;
+
+/// The place of the comparison stamp.
+const STAMP: usize = 4;
+
+/// The place of the component options.
+const OPTIONS: usize = 8;
+
+/// The place of the image's offset, after the activation method.
+const OFFSET: usize = 12;
+
+/// The place of the image's size.
+const IMAGE_SIZE: usize = 16;
+
+/// The place of the version text's type.
+const TEXT_TYPE: usize = 20;
+
+/// A component, lent from its package's header, which says where in the file its image stands.
+#[derive(Clone, Copy)]
+pub struct Place<'a> {
+    /// The classification, the first part of the key.
+    pub classification: u16,
+    /// The identifier, the second part of the key.
+    pub identifier: u16,
+    /// The comparison stamp.
+    pub stamp: u32,
+    /// The options: bit 0 forces the update, bit 1 uses the stamp.
+    pub options: u16,
+    /// Where the image stands, in bytes from the file's start.
+    pub offset: usize,
+    /// The image's length in bytes.
+    pub size: usize,
+    /// The version text.
+    pub text: Text<'a>,
+}
+
+impl<'a> Place<'a> {
+    /// Reads the component with which these bytes of a header begin, in a file of this length.
+    ///
+    /// # Errors
+    /// `ImageRange` where its image goes past the file's end.
+    #[tactic(auto, unfolding(crate::specs::Outlines::place_within))]
+    pub(crate) fn read(file_length: usize, bytes: &'a [u8]) -> Result<Place<'a>, PackageFault>
+        requires { IsSome (after_component bytes.now) }
+        ensures { result_map_both place_seen (λ e. e) result ≡ place_within file_length bytes.now }
+    {
+        let offset = LittleEndian::read_u32(&bytes[OFFSET..]) as usize;
+        let size = LittleEndian::read_u32(&bytes[IMAGE_SIZE..]) as usize;
+        if offset + size > file_length {
+            return Err(PackageFault::ImageRange);
+        }
+        Ok(Place {
+            classification: LittleEndian::read_u16(bytes),
+            identifier: LittleEndian::read_u16(&bytes[IDENTIFIER..]),
+            stamp: LittleEndian::read_u32(&bytes[STAMP..]),
+            options: LittleEndian::read_u16(&bytes[OPTIONS..]),
+            offset,
+            size,
+            text: version_text(bytes),
+        })
+    }
+}
+
+/// The version text of the component with which these bytes begin.
+fn version_text(bytes: &[u8]) -> Text<'_>
+    requires { IsSome (after_component bytes.now) }
+    ensures { text_of result ≡ (place_of bytes.now).text }
+{
+    Text {
+        kind: bytes[TEXT_TYPE],
+        bytes: &bytes[COMPONENT_SIZE..component_size(bytes)],
+    }
+}
+
+/// The components of a package without their images, one after the other. It is also an iterator over them.
+#[derive(Drop)]
+pub struct Places<'a> {
+    file_length: usize,
+    count: usize,
+    rest: &'a [u8],
+}
+
+impl<'a> Model for Places<'a> {
+    ghost use Rattle.std.specs.Prelude.{List};
+    ghost use Rattle.fw_package.specs.Components.{PlaceOf};
+    ghost use Rattle.fw_package.specs.Outlines.{places_of};
+    ghost use Rattle.fw_package.specs.Views.{ArePlaces, listed};
+
+    ghost Value = { List PlaceOf };
+
+    ghost view = { λ p. listed (places_of p.file_length p.count p.rest.now) };
+
+    ghost invariant = { λ p. ArePlaces p.file_length p.count p.rest.now };
+}
+
+impl<'a> Places<'a> {
+    /// So many components, the first of which these bytes of a header begin with, in a file of this length.
+    ///
+    /// # Errors
+    /// `ImageRange` where an image goes past the file's end.
+    #[tactic(auto, using(crate::proofs::PlaceRows::placing))]
+    pub(crate) fn read(
+        file_length: usize,
+        bytes: &'a [u8],
+        count: usize,
+    ) -> Result<Places<'a>, PackageFault>
+        requires { IsSome (after_components count bytes.now) }
+        ensures { result ≡ places_of file_length count bytes.now }
+    {
+        let mut rest = bytes;
+        for _component in 0..count {
+            match Place::read(file_length, rest) {
+                Ok(_) => rest = others(rest),
+                Err(fault) => return Err(fault),
+            }
+        }
+        Ok(Places {
+            file_length,
+            count,
+            rest: bytes,
+        })
+    }
+
+    /// How many components are left.
+    #[tactic(auto, using(crate::proofs::PlaceRows::places_count))]
+    pub fn len(&self) -> usize
+        ensures { result ≡ length self.now }
+    {
+        self.count
+    }
+
+    /// The same again.
+    pub fn iter(&self) -> Places<'a>
+        ensures { result ≡ self.now }
+    {
+        Places {
+            file_length: self.file_length,
+            count: self.count,
+            rest: self.rest,
+        }
+    }
+}
+
+impl<'a> Iterator for Places<'a> {
+    type Item = Place<'a>;
+
+    ghost next_gives = { YieldsFirstBy place_seen (λ left. left) };
+
+    ghost remaining = { item_count (λ left. left) };
+
+    #[tactic(auto, using(crate::proofs::PlaceRows::places_next))]
+    fn next(&mut self) -> Option<Place<'a>> {
+        if self.count == 0 {
+            return None;
+        }
+        let Ok(place) = Place::read(self.file_length, self.rest) else {
+            unreachable!()
+        };
+        *self = Places {
+            file_length: self.file_length,
+            count: self.count - 1,
+            rest: others(self.rest),
+        };
+        Some(place)
+    }
+}
+
+/// The bytes of the component with which these begin: its fixed part and its version text.
+fn component_size(bytes: &[u8]) -> usize
+    requires { IsSome (after_component bytes.now) }
+    ensures value { result ≡ COMPONENT_SIZE + text_size_of 21 bytes.now }
+    ensures within { result ≤ length bytes.now }
+{
+    COMPONENT_SIZE + usize::from(bytes[COMPONENT_TEXT_LENGTH])
+}
+
+/// What stands after the component with which these bytes begin.
+pub(crate) fn others(bytes: &[u8]) -> &[u8]
+    requires { IsSome (after_component bytes.now) }
+    ensures { result.now ≡ drop (COMPONENT_SIZE + text_size_of 21 bytes.now) bytes.now }
+{
+    let (_, others) = bytes.split_at(component_size(bytes));
+    others
+}
