@@ -1,6 +1,6 @@
 -- The steps of lines.
 use Rattle.std.proofs.Common.{◌≡◌, ◌≢◌, ◌≤◌, ◌∙◌, ◌<◌, ◌-◌, ℕ, zero, suc, ◌+◌, List, [], ◌∷◌, ◌++◌, drop, get_or, length, take, ap, arith, refl, sym}
-use Rattle.std.proofs.lemmas.List.{append-nil, length-append, take_all, take_more}
+use Rattle.std.proofs.lemmas.List.{append-nil, length-append, take-append-drop, take_all, take_more}
 use Rattle.std.specs.List.{flat_map, repeat}
 use Rattle.std.proofs.lemmas.Grind.{flat_map-append}
 use Rattle.fw_world.specs.Worlds.{full_tick}
@@ -32,6 +32,15 @@ counted_more lines i line lt =
     ap (λ xs. length (all_steps xs)) (take_more lines i line lt)
     ∙ ap length (all_more (take i lines) (get_or lines i line))
     ∙ length-append (all_steps (take i lines)) (line_steps (get_or lines i line))
+
+-- no more than all of them
+pub counted_so_far : (lines : List ScheduleLine) (i : ℕ) → length (all_steps (take i lines)) ≤ length (all_steps lines)
+counted_so_far lines i =
+    let whole : length (all_steps lines) ≡ length (all_steps (take i lines)) + length (all_steps (drop i lines)) =
+    ap (λ xs. length (all_steps xs)) (sym (take-append-drop i lines))
+    ∙ ap length (flat_map-append line_steps (take i lines) (drop i lines))
+    ∙ length-append (all_steps (take i lines)) (all_steps (drop i lines)) in
+    omega (arith, whole)
 
 one_tick : (count : ℕ) → count ≢ 0 → repeat count (full_tick ∷ []) ≡ full_tick ∷ repeat (count - 1) (full_tick ∷ [])
 one_tick zero some = absurd (some refl)

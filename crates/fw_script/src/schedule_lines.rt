@@ -1,6 +1,6 @@
 //! What the lines of a schedule say.
 
-ghost use Rattle.std.specs.Prelude.{◌≡◌, ◌++◌, ◌∷◌, [], IfOk, IfSome, OnOk, length};
+ghost use Rattle.std.specs.Prelude.{◌≡◌, ◌++◌, ◌∷◌, ◌^◌, ◌≤◌, [], IfNone, IfOk, IfSome, OnOk, length};
 ghost use Rattle.std.specs.List.{repeat};
 ghost use Rattle.fw_script.specs.ScheduleLines.{all_steps, line_steps};
 ghost use Rattle.fw_world.specs.Worlds.{full_tick};
@@ -58,9 +58,10 @@ pub fn steps_of_all(alloc: Global, lines: Vec<ScheduleLine>) -> Result<Vec<Step>
 }
 
 /// How many steps these lines say, where 64 bits hold the number.
-#[tactic(auto, using(crate::proofs::AllSteps::counted_more))]
+#[tactic(auto, using(crate::proofs::AllSteps::counted_more, crate::proofs::AllSteps::counted_so_far))]
 pub fn step_count(lines: &[ScheduleLine]) -> Option<u64>
-    ensures { IfSome result (λ count. count ≡ length (all_steps lines.now)) }
+    ensures some { IfSome result (λ count. count ≡ length (all_steps lines.now)) }
+    ensures none { IfNone result (2 ^ 64 ≤ length (all_steps lines.now)) }
 {
     let mut count = 0u64;
     for line in lines {

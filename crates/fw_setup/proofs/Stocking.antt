@@ -1,5 +1,5 @@
 -- Devices with what their stores keep, one after another.
-use Rattle.std.proofs.Common.{◌≡◌, ◌≤◌, ◌<◌, ◌+◌, ◌∙◌, ◌++◌, ℕ, suc, zero, false, true, List, [], ◌∷◌, Some, None, get_or, length, map, slice_set, take, drop, arith, ap, sym, subst, refl}
+use Rattle.std.proofs.Common.{◌≡◌, ◌≢◌, ◌≤◌, ◌<◌, ◌+◌, ◌∙◌, ◌++◌, ℕ, suc, zero, false, true, List, [], ◌∷◌, Some, None, get_or, length, map, slice_set, take, drop, arith, ap, sym, subst, refl}
 use Rattle.std.specs.Prelude.{IsOk, Option}
 use Rattle.std.specs.List.{AllByRecursion}
 use Rattle.std.proofs.lemmas.List.{drop_all, drop_more, get_or-map, length-map, map-append, map-set, take_more}
@@ -42,6 +42,17 @@ stocked_more kept os xs i x y lt is within e h =
     map-set component_of xs i y ∙ ap (λ c. slice_set (map component_of xs) i c) e
     ∙ map_over_more (stocked kept) (map component_of os) (map component_of xs) i (component_of x) (subst (λ n. i < n) (sym (length-map os component_of)) lt) h
     (ap component_of is ∙ sym (get_or-map component_of xs i x (component_of x) within))
+
+-- as many images as components, or others
+pub more_images : (images : List KeptOf) (cs : List ComponentConfig) → length images ≢ length cs → images ≢ images_configured (map component_of cs)
+more_images images cs more is = more (ap length is ∙ length-map (map component_of cs) image_configured ∙ length-map cs component_of)
+
+-- an image that isn't the component's at its place
+pub other_image : (images : List KeptOf) (cs : List ComponentConfig) (i : ℕ) (k : KeptOf) (c : ComponentConfig) → i < length images → i < length cs
+    → get_or images i k ≢ image_configured (component_of (get_or cs i c)) → images ≢ images_configured (map component_of cs)
+other_image images cs i k c lt within other is =
+    let far : i < length (map component_of cs) = subst (λ n. i < n) (sym (length-map cs component_of)) within in
+    other (ap (λ l. get_or l i k) is ∙ get_or-map image_configured (map component_of cs) i (component_of c) k far ∙ ap image_configured (get_or-map component_of cs i c (component_of c) within))
 
 -- THE SAME DEVICES
 

@@ -1,6 +1,6 @@
 //! Banks over the stores of devices.
 
-ghost use Rattle.std.specs.Prelude.{◌≡◌, ◌⊎◌, ◌++◌, ◌∷◌, [], IfErr, IfOk, IsSomeAnd, OnOk, map, slice_get, true};
+ghost use Rattle.std.specs.Prelude.{◌≡◌, ◌≢◌, ◌⊎◌, ◌++◌, ◌∷◌, [], IfErr, IfOk, IsSomeAnd, OnOk, false, map, slice_get, true};
 ghost use Rattle.fd_core.specs.Banks.{AreApart};
 ghost use Rattle.fd_core.specs.Images.{key_of};
 ghost use Rattle.fw_script.specs.Seen.{component_of};
@@ -31,7 +31,8 @@ pub struct StoreBanks<F: Folder + Drop> {
 
 /// Whether two labels are the same.
 fn is_same_label(one: &Label, other: &Label) -> bool
-    ensures { result ≡ true → one.now ≡ other.now }
+    ensures same { result ≡ true → one.now ≡ other.now }
+    ensures differ { result ≡ false → one.now ≢ other.now }
 {
     one.stamp == other.stamp
         && one.text_type == other.text_type
@@ -40,7 +41,8 @@ fn is_same_label(one: &Label, other: &Label) -> bool
 
 /// Whether an image is the one that a component is configured with.
 fn is_configured(stored: &Stored, config: &ComponentConfig) -> bool
-    ensures { result ≡ true → stored.now ≡ image_configured (component_of config.now) }
+    ensures same { result ≡ true → stored.now ≡ image_configured (component_of config.now) }
+    ensures differ { result ≡ false → stored.now ≢ image_configured (component_of config.now) }
 {
     let image = stored.image();
     image.key == config.component.key
@@ -49,8 +51,10 @@ fn is_configured(stored: &Stored, config: &ComponentConfig) -> bool
 }
 
 /// Whether images are those that components are configured with.
+#[tactic(auto, using(crate::proofs::Stocking::more_images, crate::proofs::Stocking::other_image))]
 fn are_configured(images: &[Stored], components: &[ComponentConfig]) -> bool
-    ensures { result ≡ true → images.now ≡ images_configured (map component_of components.now) }
+    ensures same { result ≡ true → images.now ≡ images_configured (map component_of components.now) }
+    ensures differ { result ≡ false → images.now ≢ images_configured (map component_of components.now) }
 {
     if images.len() != components.len() {
         return false;
@@ -116,6 +120,7 @@ impl<F: Folder + Drop> Banks<KeptBank<FolderStore<F>>> for StoreBanks<F> {
         ensures taken { IfOk result (λ b. IsSomeAnd (slice_get self.old.stores.items 0) (λ s. (s.device ≡ device) × (s.store.memory.images.items ≡ b.kept))) }
         ensures left { OnOk result (IsSomeAnd (slice_get self.old.stores.items 0) (λ s. self.old.stores.items ≡ s ∷ self.new.stores.items)) }
         ensures fault { IfErr result (λ e. (e ≡ BanksFault.Memory) ⊎ (e ≡ BanksFault.Device device)) }
+        ensures device { IfErr result (λ e. e ≡ BanksFault.Device device → ¬ IsSomeAnd (slice_get self.old.stores.items 0) (λ s. (s.device ≡ device) × (s.store.memory.images.items ≡ images_configured (map component_of components.now)))) }
     {
         let Some(taken) = self.stores.pop_front() else {
             return Err(BanksFault::Device(device));
