@@ -2,8 +2,10 @@
 use Rattle.std.proofs.Common.{◌≤◌, ℕ, arith}
 use Rattle.json.specs.Json.{max_depth}
 use Rattle.json.specs.Tree.{depth}
-use Rattle.fw_package.specs.Package.{ComponentOf, DescriptorOf, PackageText, RecordOf}
-use Rattle.fw_json.specs.Inspections.{component_value, descriptor_value, inspection_value, record_value, use_value}
+use Rattle.fw_package.specs.Components.{PlaceOf}
+use Rattle.fw_package.specs.Outlines.{OutlineOf}
+use Rattle.fw_package.specs.Package.{DescriptorOf, RecordOf}
+use Rattle.fw_json.specs.Inspections.{component_value, descriptor_value, outline_value, record_value, use_value}
 use Rattle.fw_json.proofs.Reading.{counted_shallow, items_shallow}
 
 pub descriptor_shallow : (d : DescriptorOf) → depth (descriptor_value d) ≤ 1
@@ -17,12 +19,12 @@ record_shallow n r =
     let descriptors = items_shallow descriptor_value 1 descriptor_shallow r.descriptors in
     omega (arith, uses, descriptors)
 
-component_shallow : (n : ℕ) (c : ComponentOf) → depth (component_value n c) ≤ 1
+component_shallow : (n : ℕ) (c : PlaceOf) → depth (component_value n c) ≤ 1
 unfolding component_value
 component_shallow n c = omega arith
 
-pub inspection_shallow : (p : PackageText) → depth (inspection_value p) ≤ max_depth
-inspection_shallow p =
-    let records = counted_shallow record_value 3 record_shallow 1 p.records in
-    let components = counted_shallow component_value 1 component_shallow 1 p.components in
+pub outline_shallow : (o : OutlineOf) → depth (outline_value o) ≤ max_depth
+outline_shallow o =
+    let records = counted_shallow record_value 3 record_shallow 1 o.records in
+    let components = counted_shallow component_value 1 component_shallow 1 o.places in
     omega (arith, records, components)

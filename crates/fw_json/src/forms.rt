@@ -1,12 +1,13 @@
 //! What is written in a form.
 
-ghost use Rattle.std.specs.Prelude.{◌≡◌, ◌≢◌, Err, IfErr, IfOk, IsOk, Ok, map};
+ghost use Rattle.std.specs.Prelude.{◌≡◌, ◌≢◌, Err, IfErr, IfOk, IsOk, List, Ok, map, ℕ};
 ghost use Rattle.std.specs.Result.{result_map_both};
+ghost use Rattle.fw_package.specs.Outlines.{IsBeginning};
 ghost use Rattle.fw_package.specs.Reading.{package_of};
 ghost use Rattle.fw_script.specs.Seen.{device_of};
 ghost use Rattle.fw_json.specs.Forms.{inspection_in, plan_in, report_in};
 
-use crate::inspection::inspect_json;
+use crate::inspection::{inspect_json, inspect_json_beginning};
 use crate::plan::plan_json;
 use crate::report::report_json;
 use fd_core::Bank;
@@ -14,7 +15,7 @@ use fw_package::Package;
 use fw_script::{DeviceConfig, report};
 use fw_setup::forecast;
 use fw_world::World;
-use fwupd_base::{Form, InspectFault, inspect};
+use fwupd_base::{Form, InspectFault, inspect, inspect_beginning};
 use std::alloc::{AllocError, Global};
 
 /// Inspects a firmware package, in a form.
@@ -29,6 +30,27 @@ pub fn inspect_in(alloc: Global, bytes: &[u8], form: Form) -> Result<Vec<u8>, In
     match form {
         Form::Text => inspect(alloc, bytes),
         Form::Json => inspect_json(alloc, bytes),
+    }
+}
+
+/// Inspects in a form the firmware package whose file has this length and begins with these bytes, which are its first 65,535,
+/// or all where it has no more.
+///
+/// # Errors
+/// A file that is no package is refused by the first fault that holds; `Memory` only where memory was refused.
+pub fn inspect_beginning_in(
+    alloc: Global,
+    beginning: &[u8],
+    file_length: usize,
+    form: Form,
+) -> Result<Vec<u8>, InspectFault>
+    ensures text { (file : List ℕ) → IsBeginning file beginning.now file_length → IfOk result (λ text. result_map_both (inspection_in form) (λ e. e) (package_of file) ≡ Ok text.items) }
+    ensures fault { (file : List ℕ) → IsBeginning file beginning.now file_length → IfErr result (λ e. e ≢ InspectFault.Memory → result_map_both (λ p. p) InspectFault.Package (package_of file) ≡ Err e) }
+    ensures memory { (file : List ℕ) → IsBeginning file beginning.now file_length → IfErr result (λ e. e ≡ InspectFault.Memory → IsOk (package_of file)) }
+{
+    match form {
+        Form::Text => inspect_beginning(alloc, beginning, file_length),
+        Form::Json => inspect_json_beginning(alloc, beginning, file_length),
     }
 }
 

@@ -1,12 +1,13 @@
 //! The inspection of a package as a value of JSON.
 
-ghost use Rattle.std.specs.Prelude.{◌≡◌, ◌≢◌, ◌+◌, Err, IfErr, IfOk, IsOk, OnOk, Ok};
+ghost use Rattle.std.specs.Prelude.{◌≡◌, ◌≢◌, ◌+◌, Err, IfErr, IfOk, IsOk, List, OnOk, Ok, ℕ};
 ghost use Rattle.std.specs.Result.{result_map_both};
 ghost use Rattle.json.specs.Tree.{items_tokens, json_tokens};
-ghost use Rattle.fw_package.specs.Lent.{component_seen, record_seen};
+ghost use Rattle.fw_package.specs.Lent.{place_seen, record_seen};
+ghost use Rattle.fw_package.specs.Outlines.{IsBeginning};
 ghost use Rattle.fw_package.specs.Package.{descriptor_of};
 ghost use Rattle.fw_package.specs.Reading.{package_of};
-ghost use Rattle.fw_json.specs.Inspections.{component_value, descriptor_value, inspection_value, record_value, use_value};
+ghost use Rattle.fw_json.specs.Inspections.{component_value, descriptor_value, inspection_value, outline_value, record_value, use_value};
 ghost use Rattle.fw_json.specs.Values.{ReadsBack, counted_items, items, line_of};
 ghost use Rattle.fw_json.specs.Writing.{Tells};
 
@@ -14,8 +15,8 @@ use crate::fields::{
     close_array, close_object, line, open_array_field, open_object, push_digits_field, push_next,
     push_number_field, push_text_field, push_word_field,
 };
-use fw_package::{Component, Components, Descriptor, Descriptors, Package, Record, Records, Uses};
-use fwupd_base::InspectFault;
+use fw_package::{Descriptor, Descriptors, Outline, Place, Places, Record, Records, Uses};
+use fwupd_base::{InspectFault, beginning_of};
 use json::Writer;
 use std::alloc::{AllocError, Global};
 
@@ -108,9 +109,9 @@ fn push_component(
     alloc: Global,
     writer: &mut Writer,
     number: usize,
-    contents: Component<'_>,
+    contents: Place<'_>,
 ) -> Result<(), AllocError>
-    ensures { OnOk result (Tells writer.old writer.new (json_tokens (component_value number (component_seen contents.entry)))) }
+    ensures { OnOk result (Tells writer.old writer.new (json_tokens (component_value number (place_seen contents.entry)))) }
 {
     open_object(writer)?;
     push_number_field(writer, "number", number)?;
@@ -123,7 +124,7 @@ fn push_component(
     push_number_field(writer, "stamp", contents.stamp as usize)?;
     push_number_field(writer, "options", usize::from(contents.options))?;
     push_number_field(writer, "offset", contents.offset)?;
-    push_number_field(writer, "size", contents.image.len())?;
+    push_number_field(writer, "size", contents.size)?;
     push_text_field(alloc, writer, "version", contents.text.bytes)?;
     close_object(writer)?;
     Ok(())
@@ -134,7 +135,7 @@ fn push_component(
 fn push_components(
     alloc: Global,
     writer: &mut Writer,
-    mut components: Components<'_>,
+    mut components: Places<'_>,
 ) -> Result<(), AllocError>
     ensures { OnOk result (Tells writer.old writer.new (items_tokens (counted_items component_value 1 components.entry))) }
 {
@@ -152,9 +153,9 @@ fn push_components(
 fn push_package(
     alloc: Global,
     writer: &mut Writer,
-    contents: &Package<'_>,
+    contents: &Outline<'_>,
 ) -> Result<(), AllocError>
-    ensures { OnOk result (Tells writer.old writer.new (json_tokens (inspection_value contents.now))) }
+    ensures { OnOk result (Tells writer.old writer.new (json_tokens (outline_value contents.now))) }
 {
     open_object(writer)?;
     push_word_field(writer, "format", "fwupd-inspect/1")?;
@@ -162,15 +163,15 @@ fn push_package(
     open_array_field(writer, "records")?;
     push_records(alloc, writer, contents.records())?;
     open_array_field(writer, "components")?;
-    push_components(alloc, writer, contents.components())?;
+    push_components(alloc, writer, contents.places())?;
     close_object(writer)?;
     Ok(())
 }
 
 /// The line of a package.
-fn inspection(alloc: Global, contents: &Package<'_>) -> Result<Vec<u8>, AllocError>
-    ensures line { IfOk result (λ text. text.items ≡ line_of (inspection_value contents.now)) }
-    ensures reads_back { OnOk result (ReadsBack (inspection_value contents.now)) }
+fn inspection(alloc: Global, contents: &Outline<'_>) -> Result<Vec<u8>, AllocError>
+    ensures line { IfOk result (λ text. text.items ≡ line_of (outline_value contents.now)) }
+    ensures reads_back { OnOk result (ReadsBack (outline_value contents.now)) }
 {
     let mut writer = Writer::new(Vec::new(alloc));
     push_package(alloc, &mut writer, contents)?;
@@ -188,7 +189,25 @@ pub fn inspect_json(alloc: Global, bytes: &[u8]) -> Result<Vec<u8>, InspectFault
     ensures fault { IfErr result (λ e. e ≢ InspectFault.Memory → result_map_both (λ p. p) InspectFault.Package (package_of bytes.now) ≡ Err e) }
     ensures memory { IfErr result (λ e. e ≡ InspectFault.Memory → IsOk (package_of bytes.now)) }
 {
-    let contents = match Package::read(bytes) {
+    inspect_json_beginning(alloc, beginning_of(bytes), bytes.len())
+}
+
+/// Inspects in the same way the firmware package whose file has this length and begins with these bytes, which are its first
+/// 65,535, or all where it has no more.
+///
+/// # Errors
+/// A file that is no package is refused by the first fault that holds; `Memory` only where memory was refused.
+pub fn inspect_json_beginning(
+    alloc: Global,
+    beginning: &[u8],
+    file_length: usize,
+) -> Result<Vec<u8>, InspectFault>
+    ensures line { (file : List ℕ) → IsBeginning file beginning.now file_length → IfOk result (λ text. result_map_both (λ p. line_of (inspection_value p)) (λ e. e) (package_of file) ≡ Ok text.items) }
+    ensures reads_back { (file : List ℕ) → IsBeginning file beginning.now file_length → OnOk result (IfOk (package_of file) (λ p. ReadsBack (inspection_value p))) }
+    ensures fault { (file : List ℕ) → IsBeginning file beginning.now file_length → IfErr result (λ e. e ≢ InspectFault.Memory → result_map_both (λ p. p) InspectFault.Package (package_of file) ≡ Err e) }
+    ensures memory { (file : List ℕ) → IsBeginning file beginning.now file_length → IfErr result (λ e. e ≡ InspectFault.Memory → IsOk (package_of file)) }
+{
+    let contents = match Outline::read(beginning, file_length) {
         Ok(contents) => contents,
         Err(fault) => return Err(InspectFault::Package(fault)),
     };

@@ -8,7 +8,7 @@ mod inspection;
 mod plan;
 mod report;
 
-pub use forms::{inspect_in, plan_in, report_in};
-pub use inspection::inspect_json;
+pub use forms::{inspect_beginning_in, inspect_in, plan_in, report_in};
+pub use inspection::{inspect_json, inspect_json_beginning};
 pub use plan::plan_json;
 pub use report::report_json;

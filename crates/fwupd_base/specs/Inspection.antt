@@ -1,7 +1,9 @@
 -- What `fwupd inspect` prints of a package: a line for the package, its records with their descriptors, its components.
 use Rattle.std.specs.Prelude.{ℕ, ◌+◌, List, [], ◌∷◌, ◌++◌, codes, length}
 use Rattle.std.specs.List.{flat_map}
-use Rattle.fw_package.specs.Package.{ComponentOf, DescriptorOf, PackageText, RecordOf}
+use Rattle.fw_package.specs.Components.{PlaceOf}
+use Rattle.fw_package.specs.Outlines.{OutlineOf, outlined}
+use Rattle.fw_package.specs.Package.{DescriptorOf, PackageText, RecordOf}
 use Rattle.fw_text.specs.Printing.{data_text, in_eight, in_four, numbered, quoted}
 
 -- the numbers of the components that a record uses, from 1; none is a dash
@@ -12,10 +14,10 @@ unfoldable pub uses_text : List ℕ → List ℕ
 uses_text [] = codes " -"
 uses_text (n ∷ ns) = flat_map use_text (n ∷ ns)
 
-abbrev pub package_line : PackageText → List ℕ
-package_line p =
-    numbered (codes "package header ") p.header_size ++ numbered (codes " records ") (length p.records)
-    ++ numbered (codes " components ") (length p.components) ++ codes "\n"
+abbrev pub package_line : OutlineOf → List ℕ
+package_line o =
+    numbered (codes "package header ") o.header_size ++ numbered (codes " records ") (length o.records)
+    ++ numbered (codes " components ") (length o.places) ++ codes "\n"
 
 unfoldable pub descriptor_line : DescriptorOf → List ℕ
 descriptor_line d = in_four (codes "descriptor ") d.kind ++ codes " " ++ data_text d.bytes ++ codes "\n"
@@ -34,17 +36,22 @@ abbrev pub records_text : ℕ → List RecordOf → List ℕ
 records_text n [] = []
 records_text n (r ∷ rs) = record_text n r ++ records_text (n + 1) rs
 
-unfoldable pub component_line : ℕ → ComponentOf → List ℕ
+-- a component's line, which names its image by length and place
+unfoldable pub component_line : ℕ → PlaceOf → List ℕ
 component_line n c =
     numbered (codes "component ") n ++ numbered (codes " class ") c.classification ++ numbered (codes " ident ") c.identifier
     ++ in_eight (codes " stamp ") c.stamp ++ in_four (codes " options ") c.options ++ numbered (codes " offset ") c.offset
-    ++ numbered (codes " size ") (length c.image) ++ quoted (codes " version ") c.text.bytes ++ codes "\n"
+    ++ numbered (codes " size ") c.size ++ quoted (codes " version ") c.text.bytes ++ codes "\n"
 
 -- components from number n on
-abbrev pub components_text : ℕ → List ComponentOf → List ℕ
+abbrev pub components_text : ℕ → List PlaceOf → List ℕ
 components_text n [] = []
 components_text n (c ∷ cs) = component_line n c ++ components_text (n + 1) cs
 
+-- what is printed of a package without its images
+abbrev pub outline_text : OutlineOf → List ℕ
+outline_text o = package_line o ++ records_text 1 o.records ++ components_text 1 o.places
+
 -- what is printed of a package
 abbrev pub inspect_of : PackageText → List ℕ
-inspect_of p = package_line p ++ records_text 1 p.records ++ components_text 1 p.components
+inspect_of p = outline_text (outlined p)

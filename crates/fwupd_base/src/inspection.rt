@@ -1,27 +1,29 @@
 //! The text of `fwupd inspect`.
 
-ghost use Rattle.std.specs.Prelude.{◌≡◌, ◌≢◌, ◌++◌, ◌+◌, IfErr, IfOk, IsOk, OnOk};
+ghost use Rattle.std.specs.Prelude.{◌≡◌, ◌≢◌, ◌++◌, ◌+◌, IfErr, IfOk, IsOk, List, OnOk, length, ℕ};
 ghost use Rattle.std.specs.List.{flat_map};
 ghost use Rattle.std.specs.Result.{result_map_both};
 ghost use Rattle.fw_text.specs.Printing.{Adds};
-ghost use Rattle.fw_package.specs.Lent.{component_seen, record_seen};
+ghost use Rattle.fw_package.specs.Lent.{place_seen, record_seen};
+ghost use Rattle.fw_package.specs.Outlines.{IsBeginning};
 ghost use Rattle.fw_package.specs.Package.{descriptor_of};
 ghost use Rattle.fw_package.specs.Reading.{package_of};
-ghost use Rattle.fwupd_base.specs.Inspection.{component_line, components_text, descriptor_line, inspect_of, package_line, record_line, records_text, record_text, use_text, uses_text};
+ghost use Rattle.fwupd_base.specs.Inspection.{component_line, components_text, descriptor_line, inspect_of, outline_text, package_line, record_line, records_text, record_text, use_text, uses_text};
 
 use fw_package::{
-    Component, Components, Descriptor, Descriptors, Package, PackageFault, Record, Records, Uses,
+    BEGINNING_SIZE, Descriptor, Descriptors, Outline, PackageFault, Place, Places, Record, Records,
+    Uses,
 };
 use fw_text::{push_data, push_eight, push_four, push_number, push_quoted, push_words};
 use std::alloc::{AllocError, Global};
 
 /// Appends the package's line.
-fn push_package(alloc: Global, text: &mut Vec<u8>, contents: &Package<'_>) -> Result<(), AllocError>
+fn push_package(alloc: Global, text: &mut Vec<u8>, contents: &Outline<'_>) -> Result<(), AllocError>
     ensures { OnOk result (Adds text.old.items text.new.items (package_line contents.now)) }
 {
     push_number(alloc, text, "package header ", contents.header_size())?;
     push_number(alloc, text, " records ", contents.record_count())?;
-    push_number(alloc, text, " components ", contents.component_count())?;
+    push_number(alloc, text, " components ", contents.place_count())?;
     push_words(text, "\n")?;
     Ok(())
 }
@@ -88,9 +90,9 @@ fn push_component(
     alloc: Global,
     text: &mut Vec<u8>,
     number: usize,
-    contents: Component<'_>,
+    contents: Place<'_>,
 ) -> Result<(), AllocError>
-    ensures { OnOk result (Adds text.old.items text.new.items (component_line number (component_seen contents.entry))) }
+    ensures { OnOk result (Adds text.old.items text.new.items (component_line number (place_seen contents.entry))) }
 {
     push_number(alloc, text, "component ", number)?;
     push_number(alloc, text, " class ", usize::from(contents.classification))?;
@@ -98,7 +100,7 @@ fn push_component(
     push_eight(alloc, text, " stamp ", contents.stamp)?;
     push_four(alloc, text, " options ", contents.options)?;
     push_number(alloc, text, " offset ", contents.offset)?;
-    push_number(alloc, text, " size ", contents.image.len())?;
+    push_number(alloc, text, " size ", contents.size)?;
     push_quoted(alloc, text, " version ", contents.text.bytes)?;
     push_words(text, "\n")?;
     Ok(())
@@ -156,7 +158,7 @@ fn push_records(
 fn push_components(
     alloc: Global,
     text: &mut Vec<u8>,
-    mut components: Components<'_>,
+    mut components: Places<'_>,
 ) -> Result<(), AllocError>
     ensures { OnOk result (Adds text.old.items text.new.items (components_text 1 components.entry)) }
 {
@@ -173,13 +175,13 @@ fn push_components(
 ///
 /// # Errors
 /// Memory was refused.
-fn inspection(alloc: Global, contents: &Package<'_>) -> Result<Vec<u8>, AllocError>
-    ensures { IfOk result (λ text. text.items ≡ inspect_of contents.now) }
+fn inspection(alloc: Global, contents: &Outline<'_>) -> Result<Vec<u8>, AllocError>
+    ensures { IfOk result (λ text. text.items ≡ outline_text contents.now) }
 {
     let mut text = Vec::new(alloc);
     push_package(alloc, &mut text, contents)?;
     push_records(alloc, &mut text, contents.records())?;
-    push_components(alloc, &mut text, contents.components())?;
+    push_components(alloc, &mut text, contents.places())?;
     Ok(text)
 }
 
@@ -192,6 +194,13 @@ pub enum InspectFault {
     Memory,
 }
 
+/// The bytes of a whole file that `inspect_beginning` takes: the first 65,535, or all where there are no more.
+pub fn beginning_of(bytes: &[u8]) -> &[u8]
+    ensures { IsBeginning bytes.now result.now (length bytes.now) }
+{
+    &bytes[..BEGINNING_SIZE.min(bytes.len())]
+}
+
 /// Inspects a firmware package: what its records name, and its components, a line each.
 ///
 /// # Errors
@@ -201,7 +210,24 @@ pub fn inspect(alloc: Global, bytes: &[u8]) -> Result<Vec<u8>, InspectFault>
     ensures fault { IfErr result (λ e. e ≢ InspectFault.Memory → result_map_both (λ p. p) InspectFault.Package (package_of bytes.now) ≡ Err e) }
     ensures memory { IfErr result (λ e. e ≡ InspectFault.Memory → IsOk (package_of bytes.now)) }
 {
-    let contents = match Package::read(bytes) {
+    inspect_beginning(alloc, beginning_of(bytes), bytes.len())
+}
+
+/// Inspects the firmware package whose file has this length and begins with these bytes, which are its first 65,535, or all
+/// where it has no more.
+///
+/// # Errors
+/// A file that is no package is refused by the first fault that holds; `Memory` only where memory was refused.
+pub fn inspect_beginning(
+    alloc: Global,
+    beginning: &[u8],
+    file_length: usize,
+) -> Result<Vec<u8>, InspectFault>
+    ensures text { (file : List ℕ) → IsBeginning file beginning.now file_length → IfOk result (λ text. result_map_both inspect_of (λ e. e) (package_of file) ≡ Ok text.items) }
+    ensures fault { (file : List ℕ) → IsBeginning file beginning.now file_length → IfErr result (λ e. e ≢ InspectFault.Memory → result_map_both (λ p. p) InspectFault.Package (package_of file) ≡ Err e) }
+    ensures memory { (file : List ℕ) → IsBeginning file beginning.now file_length → IfErr result (λ e. e ≡ InspectFault.Memory → IsOk (package_of file)) }
+{
+    let contents = match Outline::read(beginning, file_length) {
         Ok(contents) => contents,
         Err(fault) => return Err(InspectFault::Package(fault)),
     };

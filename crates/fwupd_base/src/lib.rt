@@ -11,6 +11,6 @@ mod text;
 
 pub use drops::DropCause;
 pub use forms::Form;
-pub use inspection::{InspectFault, inspect};
+pub use inspection::{InspectFault, beginning_of, inspect, inspect_beginning};
 pub use retries::{read_some, write_whole};
 pub use stream::{AnswerFault, answer_stream};

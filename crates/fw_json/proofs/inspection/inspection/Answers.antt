@@ -1,12 +1,12 @@
 use Rattle.std.proofs.Common.{◌∙◌, ◌++◌, ap}
 use Rattle.json.specs.Tree.{json_tokens}
-use Rattle.fw_json.specs.Inspections.{inspection_value}
-use Rattle.fw_json.proofs.Inspected.{inspection_shallow}
+use Rattle.fw_json.specs.Inspections.{outline_value}
+use Rattle.fw_json.proofs.Inspected.{outline_shallow}
 use Rattle.fw_json.proofs.Reading.{on_ok, read_back}
 use Rattle.fw_json.proofs.inspection.inspection.Goals as goal
 
 pub returns-clause-reads_back : goal.returns-clause-reads_back
 returns-clause-reads_back c =
     let p = c.args.contents.now in
-    let told = c.in_ok-push_package.ensures.tokens ∙ ap (λ ts. ts ++ json_tokens (inspection_value p)) c.new-writer.ensures.tokens in
-    on_ok c.line.result (read_back (inspection_value p) c.push_package.new.writer.tokens told c.line.ensures.reads_back (inspection_shallow p))
+    let told = c.in_ok-push_package.ensures.tokens ∙ ap (λ ts. ts ++ json_tokens (outline_value p)) c.new-writer.ensures.tokens in
+    on_ok c.line.result (read_back (outline_value p) c.push_package.new.writer.tokens told c.line.ensures.reads_back (outline_shallow p))
