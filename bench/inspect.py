@@ -4,8 +4,8 @@
     bench/inspect.py PROGRAM
 
 PROGRAM is the built program. The packages are made here, in a folder of their own that is removed again. What is printed
-last are ratios: twice the records, or twice the components, should take about twice the time, and a package of 16 MiB
-should need its own size of memory more than a small one.
+last are ratios: twice the records, or twice the components, should take about twice the time, and a package of 200 MB
+should take the time and the memory of one with an image of a byte, since its header alone is read.
 """
 
 import os
@@ -52,8 +52,8 @@ def main():
         "40 records of 1,800 uses": (40, 1800, 0),
         "80 records of 900 uses": (80, 900, 0),
         "80 records of 1,800 uses": (80, 1800, 0),
-        "an image of 8 MiB": (1, 1, 8 * MIB),
-        "an image of 16 MiB": (1, 1, 16 * MIB),
+        "an image of 1 byte": (1, 1, 1),
+        "an image of 200 MB": (1, 1, 200_000_000),
     }
     found = {}
     with tempfile.TemporaryDirectory() as folder:
@@ -68,8 +68,8 @@ def main():
     spent = {name: seconds - small[0] for name, (seconds, _) in found.items()}
     print(f"twice the records: {spent['80 records of 1,800 uses'] / spent['40 records of 1,800 uses']:.2f} times the time")
     print(f"twice the components: {spent['80 records of 1,800 uses'] / spent['80 records of 900 uses']:.2f} times the time")
-    more = found["an image of 16 MiB"][1] - small[1]
-    print(f"memory of 16 MiB: {more / (16 * MIB):.2f} times its size")
+    byte, image = found["an image of 1 byte"], found["an image of 200 MB"]
+    print(f"200 MB: {image[0] / byte[0]:.2f} times the time of 1 byte, {image[1] / byte[1]:.2f} times its memory")
 
 
 if __name__ == "__main__":

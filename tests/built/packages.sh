@@ -139,6 +139,34 @@ for length in range(440):
 CODE
 }
 
+# A package of one component, whose image begins behind the header of 69 bytes and has so many.
+one_image() {
+    python3 - "$work/long" "$1" <<'CODE'
+import struct, sys, zlib
+header = bytes.fromhex("F018878CCB7D49439800A02F059ACA02") + struct.pack("<BH", 1, 69) + bytes(13)
+header += struct.pack("<HBB", 8, 1, 3) + b"pkg" + bytes([0]) + struct.pack("<H", 1)
+header += struct.pack("<HHIHHIIBB", 10, 1, 5, 0, 0, 69, int(sys.argv[2]), 1, 1) + b"v"
+open(sys.argv[1], "wb").write(header + struct.pack("<I", zlib.crc32(header)))
+CODE
+    truncate -s $((69 + $1)) "$work/long"
+}
+
+# What of a file isn't read: an image counts by its length alone, also where it stands behind all that a header can have. The file of 200
+# million bytes is inspected in the room of 64 MiB, and its end is known to the byte.
+unread_images() {
+    local size
+    for size in 0 65465 65466 65467 100000 200000000; do
+        one_image "$size"
+        compare "an image of $size bytes" "package header 69 records 0 components 1
+component 1 class 10 ident 1 stamp 00000005 options 0000 offset 69 size $size version \"v\"" "$(ulimit -v 65536 && fwupd inspect "$work/long" 2>&1)"
+        truncate -s -1 "$work/long"
+        row '' "1||fwupd: package: $([[ $size == 0 ]] && echo HeaderSize || echo ImageRange)" inspect "$work/long"
+    done
+    one_image 100000
+    compare 'a long package from a pipe' "$(fwupd inspect "$work/long" 2>&1)" "$(cat "$work/long" | fwupd inspect /dev/stdin 2>&1)"
+    compare 'the same, cut by a byte' 'fwupd: package: ImageRange' "$(head -c -1 "$work/long" | fwupd inspect /dev/stdin 2>&1)"
+}
+
 # A package whose texts are quoted: a record that names no component, a descriptor without data, and a component without an image.
 quoted() {
     local digits=f018878ccb7d49439800a02f059aca0201600000000000000000000000000000080001000111000104030201010100000022020000000100ffff

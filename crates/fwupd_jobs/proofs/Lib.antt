@@ -1,5 +1,6 @@
 mod Answering
 mod Barred
+mod Begun
 mod Builds
 mod Checks
 mod Ended
@@ -11,8 +12,10 @@ mod Noted
 mod Packed
 mod Refused
 mod Seen
+mod Shown
 mod Soakings
 mod Started
 mod Told
 mod Traced
 mod Turns
+mod WholeLines

@@ -1,6 +1,6 @@
 -- Steps that are noted, portion by portion.
 use Rattle.std.proofs.Common.{◌≡◌, ◌++◌, ◌∙◌, ℕ, zero, List, [], ◌∷◌, Option, Some, None, Result, Ok, Err, OnOk, ap, subst, sym, refl, true}
-use Rattle.std.specs.Prelude.{IfSome}
+use Rattle.std.specs.Prelude.{IfErr, IfSome}
 use Rattle.std.specs.Io.KnownBytes.{Appends}
 use Rattle.std.proofs.KnownBytes.{Appends-trans}
 use Rattle.fw_edge.proofs.Going.{run_append}
@@ -54,6 +54,22 @@ run_noted law w v u a b c before after slice h none k is noted = record {
   run = run_append w v u h.steps k.steps h.run k.run;
   noted = notes_on law a b c h.steps k.steps h.noted (subst (Notes b c) (is ∙ k.appended ∙ ap (λ ss. ss ++ k.steps) none) noted);
 }
+
+-- those of starts of which not all were allowed
+pub run_broken : (w v : WorldOf) (a b : Option RecordingOf) (listed slice : List Step) (r : Result (Prim.Unit {0}) WatchFault) (fault : Option WatchFault) → slice ≡ listed → Run w listed v → OnOk r (Notes a b slice)
+    → IfErr r (λ e. fault ≡ Some e) → fault ≡ None → NotesRun w v a b
+run_broken w v a b listed slice (Ok u) fault is run noted bad none = record { steps = listed; run = run; noted = subst (Notes a b) is noted }
+run_broken w v a b listed slice (Err e) fault is run noted bad none = absurd (let had : Some e ≡ None = sym bad ∙ none in cc)
+
+-- what looks on had no fault before it was let end
+pub none_before : (r : Result (Prim.Unit {0}) WatchFault) (before now : Option WatchFault) → IfSome before (λ f. r ≡ Err f) → IfErr r (λ e. now ≡ Some e) → now ≡ None → before ≡ None
+none_before r None now first bad none = refl
+none_before (Ok u) (Some f) now first bad none = absurd (let other : Ok u ≡ Err f = first in cc)
+none_before (Err e) (Some f) now first bad none = absurd (let had : Some e ≡ None = sym bad ∙ none in cc)
+
+pub well_ended : (r : Result (Prim.Unit {0}) WatchFault) (now : Option WatchFault) (P : Type 0) → IfErr r (λ e. now ≡ Some e) → now ≡ None → OnOk r P → P
+well_ended (Ok u) now P bad none h = h
+well_ended (Err e) now P bad none h = absurd (let had : Some e ≡ None = sym bad ∙ none in cc)
 
 -- none was taken
 pub run_still : (w v u : WorldOf) (a b : Option RecordingOf) → NotesRun w v a b → u ≡ v → NotesRun w u a b

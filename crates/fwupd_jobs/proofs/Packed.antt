@@ -19,7 +19,7 @@ use Rattle.fw_setup.specs.Nodes.{nodes_made}
 use Rattle.fw_setup.specs.Stocks.{AreStocked, IsUnopened, StoresOf}
 use Rattle.fw_setup.specs.declared.stores.Unopened.{Unopened}
 use Rattle.fwupd_jobs.specs.Running.{IsApart, IsBarred, IsNamed, IsWatched, LacksTrace, ShowOf, WatchOf}
-use Rattle.fwupd_jobs.specs.Setups.{AreDevices, ArePackages, ArePacked, FileOf, IsOver, IsOverOne, IsPacked, IsSetup, IsUnreadable, IsUnsaid, MayHold, PackageFails, PackagesFail, Says, SourceOf, StoresFail, TellsUnopened, TextFails, TextFault, misread_by, misread_told, unread_told}
+use Rattle.fwupd_jobs.specs.Setups.{AreDevices, ArePackages, ArePacked, FileOf, IsOver, IsOverOne, IsPacked, IsSetup, IsUnreadable, IsUnsaid, MayHold, NumberedSetupFails, PackageFails, PackagesFail, Says, SourceOf, StoresFail, TellsUnopened, TextFails, TextFault, misread_by, misread_told, unread_told}
 use Rattle.fwupd_jobs.specs.declared.faults.RunFault.{RunFault}
 use Rattle.fwupd_jobs.specs.declared.faults.RunFault.TheVariants as faults
 use Rattle.fwupd_jobs.specs.declared.files.FileFault.{FileFault}
@@ -165,6 +165,23 @@ fails_at files paths i p name contents told lt is called h (inr f) =
     inr (fails_there files (map (λ q. string_bytes q) paths) (map (λ q. string_bytes q) (take i paths)) (map (λ q. string_bytes q) (drop (suc i) paths)) contents (string_bytes p) told
     (ap (map (λ q. string_bytes q)) split ∙ map-append (λ q. string_bytes q) (take i paths) (p ∷ drop (suc i) paths)) h
     (subst (λ n. PackageFails files n told) called f))
+
+-- the packages of a configuration that names one of this number
+pub numbered_fails : (files : List ℕ → FileOf) (path : List ℕ) (number : ℕ) (config : Config) (slice : List (String Global)) (told : RunFault) → Says config_of (files path) (config_seen config) → slice ≡ config.packages.items
+    → 1 ≤ number → number ≤ length slice → (told ≡ faults.Memory) ⊎ PackagesFail files (map (λ q. string_bytes q) slice) told → (told ≡ faults.Memory) ⊎ NumberedSetupFails files path number told
+numbered_fails files path number config slice told says is counted there (inl e) = inl e
+numbered_fails files path number config slice told says is counted there (inr f) =
+    inr (inr (record {
+      config = config_seen config;
+      says = says;
+      counted = counted;
+      there = subst (λ n. number ≤ n) (ap length is ∙ sym (length-map config.packages.items (λ q. string_bytes q))) there;
+      fail = subst (λ xs. PackagesFail files (map (λ q. string_bytes q) xs) told) is f;
+    }))
+
+pub or_later : {A B C : Type 0} → A ⊎ B → A ⊎ (B ⊎ C)
+or_later (inl a) = inl a
+or_later (inr b) = inr (inl b)
 
 -- what is written is over the file of a path among texts
 pub over_item : (files : List ℕ → FileOf) (written : List ℕ) (others : List (String Global)) (i : ℕ) (other : String Global) (name : List ℕ) → i < length others → other ≡ get_or others i other

@@ -1,5 +1,5 @@
 -- Updates that are started one by one, and the steps that follow.
-use Rattle.std.proofs.Common.{◌≡◌, ◌≤◌, ◌⊎◌, ◌+◌, ◌-◌, ◌^◌, ◌++◌, ◌∙◌, ℕ, zero, suc, List, [], ◌∷◌, Some, None, Bool, true, Result, Err, inl, inr, append_assoc, append-nil, arith, ◌<◌, get_or, length, map, refl, sym, ap, subst, take}
+use Rattle.std.proofs.Common.{◌≡◌, ◌≢◌, ◌≤◌, ◌⊎◌, ◌+◌, ◌-◌, ◌^◌, ◌++◌, ◌∙◌, ℕ, zero, suc, List, [], ◌∷◌, Some, None, Bool, true, Result, Err, inl, inr, append_assoc, append-nil, arith, ◌<◌, get_or, length, map, refl, sym, ap, subst, take}
 use Rattle.std.specs.Prelude.{IfErr, IfSome, Option, option_map, slice_get}
 use Rattle.std.specs.List.{AllByRecursion}
 use Rattle.std.proofs.Math.Seq.{take-length}
@@ -13,14 +13,16 @@ use Rattle.fw_edge.specs.Ledgers.{OneFailed, packet_counts}
 use Rattle.fw_edge.specs.Links.{Rises}
 use Rattle.fw_node.specs.Nodes.{DeviceNodeOf}
 use Rattle.fw_world.specs.Headline.{Leads, Run, may_step}
+use Rattle.fw_world.specs.Replays.{Refuses}
 use Rattle.fw_world.specs.Worlds.{SiteOf, WorldOf}
 use Rattle.fw_world.specs.declared.step.StepFault.{StepFault}
+use Rattle.fw_world.specs.declared.step.StepFault.TheVariants as refusals
 use Rattle.mctp_wire.specs.declared.unit.Unit.{«Unit»}
 use Rattle.fw_world.specs.declared.step.Step.{Step}
 use Rattle.fw_world.specs.declared.step.Step.TheVariants as steps
 use Rattle.fw_edge.specs.declared.driving.EdgeFault.{EdgeFault}
 use Rattle.fw_edge.specs.declared.driving.EdgeFault.TheVariants as edges
-use Rattle.fwupd_jobs.specs.Running.{AreLinked, IsCaused, IsLost, IsRefusedStart, IsUnlinked, IsUnwritten, MayEnd, NamesLost, StepsLead, StepsSeen, Updates, WatchOf, starts_of, told_by, told_of, watch_of}
+use Rattle.fwupd_jobs.specs.Running.{AreLinked, IsCaused, IsLost, IsRefusedStart, IsUnlinked, IsUnwritten, MayEnd, MayStart, NamesLost, StepsLead, StepsSeen, TellsLost, Updates, WatchOf, starts_of, told_by, told_of, watch_of}
 use Rattle.fwupd_jobs.specs.declared.faults.RunFault.{RunFault}
 use Rattle.fwupd_jobs.specs.declared.faults.RunFault.TheVariants as told
 use Rattle.fwupd_jobs.specs.declared.running.WatchFault.{WatchFault}
@@ -82,6 +84,35 @@ refused_at number w v place device n fault h at is refused =
       fault = fault;
       refused = subst (λ d. may_step v (steps.Start d number) ≡ Some fault) own refused;
     }
+
+-- it isn't refused, but for want of memory
+not_other : (o : Option StepFault) (fault : StepFault) → (o ≡ Some refusals.Memory) ⊎ (o ≡ None) → fault ≢ refusals.Memory → o ≡ Some fault → ⊥
+not_other o fault (inl memory) other is = other (let same : Some fault ≡ Some refusals.Memory = sym is ∙ memory in cc)
+not_other o fault (inr none) other is = absurd (let bad : None ≡ Some fault = sym none ∙ is in cc)
+
+none_other : (v : WorldOf) (s : Step) → Refuses v s refusals.Memory → (may_step v s ≡ Some refusals.Memory) ⊎ (may_step v s ≡ None)
+none_other v s (inl e) = inl e
+none_other v s (inr e) = inr e.2
+
+pub allowed_at : (number : ℕ) (w v : WorldOf) (place device : ℕ) (n : DeviceNodeOf) → Begun number w place v → option_map (λ x. x.node) (slice_get v.sites place) ≡ Some n → device ≡ n.endpoint.eid
+    → Refuses v (steps.Start device number) refusals.Memory → MayStart number w v
+allowed_at number w v place device n h at is refused =
+    let there = node_there (slice_get v.sites place) n at in
+    let own : device ≡ there.0.node.endpoint.eid = is ∙ ap (λ m. m.endpoint.eid) (sym there.2) in
+    record {
+      place = place;
+      site = there.0;
+      at = ap (λ xs. slice_get xs place) (sym h.same) ∙ there.1;
+      begun = h.run;
+      allowed = λ fault other.
+          not_other (may_step v (steps.Start there.0.node.endpoint.eid number)) fault
+          (subst (λ d. (may_step v (steps.Start d number) ≡ Some refusals.Memory) ⊎ (may_step v (steps.Start d number) ≡ None)) own (none_other v (steps.Start device number) refused))
+          other;
+    }
+
+-- the steps that are listed led there
+pub begun_listed : (number : ℕ) (w v : WorldOf) (place : ℕ) (ss : List Step) → Begun number w place v → ss ≡ starts_of number (take place w.sites) → Run w ss v
+begun_listed number w v place ss h listed = subst (λ xs. Run w xs v) (sym listed) h.run
 
 -- and listed
 pub listed_by : (number : ℕ) (w v : WorldOf) (place device : ℕ) (n : DeviceNodeOf) (before after : List Step) → Begun number w place v → option_map (λ x. x.node) (slice_get v.sites place) ≡ Some n
@@ -234,31 +265,27 @@ unlinked_at w lacks place device n fault at is (inr h) =
     inr (record { place = place; site = there.0; at = there.1; is = h.0 ∙ ap (λ d. told.Socket d) own; lacking = subst (λ d. lacks d ≡ true) own h.1 })
 
 -- a link more, that of the device at its place
-linked_append : {L : Type 0} (is_to : «Unit» → ℕ → L → Bool) (xs : List SiteOf) (links : List L) (x : SiteOf) (link : L) → is_to x.node.half.unit x.node.endpoint.eid link ≡ true → AreLinked is_to xs links
-    → AreLinked is_to (xs ++ x ∷ []) (links ++ link ∷ [])
-linked_append is_to [] [] x link own h = (own, tt)
-linked_append is_to [] (l ∷ links) x link own h = absurd h
-linked_append is_to (y ∷ xs) [] x link own h = absurd h
-linked_append is_to (y ∷ xs) (l ∷ links) x link own h = (h.0, linked_append is_to xs links x link own h.1)
+linked_append : {L : Type 0} (IsTo : «Unit» → ℕ → L → Type 0) (xs : List SiteOf) (links : List L) (x : SiteOf) (link : L) → IsTo x.node.half.unit x.node.endpoint.eid link → AreLinked IsTo xs links
+    → AreLinked IsTo (xs ++ x ∷ []) (links ++ link ∷ [])
+linked_append IsTo [] [] x link own h = (own, tt)
+linked_append IsTo [] (l ∷ links) x link own h = absurd h
+linked_append IsTo (y ∷ xs) [] x link own h = absurd h
+linked_append IsTo (y ∷ xs) (l ∷ links) x link own h = (h.0, linked_append IsTo xs links x link own h.1)
 
-pub all_next : {A : Type 0} (P : A → Type 0) (xs : List A) (x : A) → AllByRecursion P xs → P x → AllByRecursion P (xs ++ x ∷ [])
-all_next P [] x h own = (own, tt)
-all_next P (y ∷ ys) x h own = (h.0, all_next P ys x h.1 own)
-
-pub linked_next : {L : Type 0} (is_to : «Unit» → ℕ → L → Bool) (sites : List SiteOf) (links longer : List L) (link : L) (place device : ℕ) (unit : «Unit») (n : DeviceNodeOf)
-    → option_map (λ x. x.node) (slice_get sites place) ≡ Some n → unit ≡ n.half.unit → device ≡ n.endpoint.eid → is_to unit device link ≡ true → longer ≡ links ++ link ∷ []
-    → AreLinked is_to (take place sites) links → AreLinked is_to (take (place + 1) sites) longer
-linked_next is_to sites links longer link place device unit n at is_unit is own all h =
+pub linked_next : {L : Type 0} (IsTo : «Unit» → ℕ → L → Type 0) (sites : List SiteOf) (links longer : List L) (link : L) (place device : ℕ) (unit : «Unit») (n : DeviceNodeOf)
+    → option_map (λ x. x.node) (slice_get sites place) ≡ Some n → unit ≡ n.half.unit → device ≡ n.endpoint.eid → IsTo unit device link → longer ≡ links ++ link ∷ []
+    → AreLinked IsTo (take place sites) links → AreLinked IsTo (take (place + 1) sites) longer
+linked_next IsTo sites links longer link place device unit n at is_unit is own all h =
     let there = node_there (slice_get sites place) n at in
-    let its : is_to there.0.node.half.unit there.0.node.endpoint.eid link ≡ true =
-    subst (λ m. is_to m.half.unit m.endpoint.eid link ≡ true) (sym there.2) (subst (λ d. is_to n.half.unit d link ≡ true) is (subst (λ u. is_to u device link ≡ true) is_unit own)) in
+    let its : IsTo there.0.node.half.unit there.0.node.endpoint.eid link =
+    subst (λ m. IsTo m.half.unit m.endpoint.eid link) (sym there.2) (subst (λ d. IsTo n.half.unit d link) is (subst (λ u. IsTo u device link) is_unit own)) in
     let next : suc place ≡ place + 1 = omega arith in
-    subst (λ ls. AreLinked is_to (take (place + 1) sites) ls) (sym all)
-    (subst (λ k. AreLinked is_to (take k sites) (links ++ link ∷ [])) next
-    (subst (λ xs. AreLinked is_to xs (links ++ link ∷ [])) (sym (take_next sites place there.0 there.1)) (linked_append is_to (take place sites) links there.0 link its h)))
+    subst (λ ls. AreLinked IsTo (take (place + 1) sites) ls) (sym all)
+    (subst (λ k. AreLinked IsTo (take k sites) (links ++ link ∷ [])) next
+    (subst (λ xs. AreLinked IsTo xs (links ++ link ∷ [])) (sym (take_next sites place there.0 there.1)) (linked_append IsTo (take place sites) links there.0 link its h)))
 
-pub linked_all : {L : Type 0} (is_to : «Unit» → ℕ → L → Bool) (sites : List SiteOf) (links : List L) (place : ℕ) → place ≡ length sites → AreLinked is_to (take place sites) links → AreLinked is_to sites links
-linked_all is_to sites links place all h = subst (λ xs. AreLinked is_to xs links) (ap (λ n. take n sites) all ∙ take-length sites) h
+pub linked_all : {L : Type 0} (IsTo : «Unit» → ℕ → L → Type 0) (sites : List SiteOf) (links : List L) (place : ℕ) → place ≡ length sites → AreLinked IsTo (take place sites) links → AreLinked IsTo sites links
+linked_all IsTo sites links place all h = subst (λ xs. AreLinked IsTo xs links) (ap (λ n. take n sites) all ∙ take-length sites) h
 
 -- as many counts as there are links, one a pair
 pub counted_alike : {A : Type 0} (sites : List SiteOf) (f : A → ℕ) (xs : List A) → length xs ≡ length sites → length (packet_counts sites) ≡ length (map f xs)
@@ -305,8 +332,8 @@ none_failed (o ∷ os) (n ∷ ns) none (inl h) = rises_some o n h.0 none.0
 none_failed (o ∷ os) (n ∷ ns) none (inr h) = none_failed os ns none.1 h.1
 
 -- the device of a link that has failed
-pub names_lost : (w : WorldOf) (failures : List ℕ) (device : ℕ) (lost : Option ℕ) → IsLost w failures device → lost ≡ Some device → NamesLost w lost
-names_lost w failures device lost h e = record { place = h.place; site = h.site; at = h.at; is = e ∙ ap Some h.is }
+pub names_lost : (w : WorldOf) (failures : List ℕ) (lost : Option ℕ) → TellsLost w failures lost → NamesLost w lost
+names_lost w failures lost h = record { place = h.first.place; site = h.first.site; at = h.first.at; is = h.told ∙ ap Some h.first.is }
 
 -- links of which none has failed, one after the other
 pub none_all : (ns : List ℕ) (n : ℕ) → length ns ≤ n → AllByRecursion (λ k. k ≡ 0) (take n ns) → AllByRecursion (λ k. k ≡ 0) ns
@@ -328,7 +355,7 @@ none_more failures links link place lt is none h =
 
 -- what looks on was told of a link where one failed just now
 pub lost_told : {A : Type 0} (failures : A → ℕ) (w : WorldOf) (olds news : List A) (lost : Option ℕ) → length news ≡ length w.sites → OneFailed (map failures olds) (map failures news)
-    → (length news ≡ length w.sites → AllByRecursion (λ n. n ≡ 0) (map failures news) ⊎ NamesLost w lost) → NamesLost w lost
+    → (length news ≡ length w.sites → AllByRecursion (λ n. n ≡ 0) (map failures news) ⊎ TellsLost w (map failures news) lost) → TellsLost w (map failures news) lost
 lost_told failures w olds news lost devices failed told = elim (told devices) [
   | inl none ↦ absurd (none_failed (map failures olds) (map failures news) none failed)
   | inr h ↦ h

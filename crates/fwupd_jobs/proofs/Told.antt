@@ -1,5 +1,6 @@
 -- What is told of a job on a world.
 use Rattle.std.proofs.Common.{◌++◌, ◌∷◌, take, true, ◌≡◌, ◌⊎◌, ◌<◌, ◌+◌, ℕ, Bool, List, Option, None, Some, inl, inr, length, refl, ap, subst}
+use Rattle.std.specs.Prelude.{IfSome}
 use Rattle.fw_json.specs.Forms.{report_in}
 use Rattle.fwupd_base.specs.declared.forms.Form.{Form}
 use Rattle.fw_script.specs.Configs.{ConfigOf, config_of}
@@ -11,9 +12,10 @@ use Rattle.fw_world.specs.declared.step.StepFault.{StepFault}
 use Rattle.fwupd_jobs.specs.Replayed.{IsReplayed, IsReport, Leaves, ReplayEnds, Reports, ReportsReplay}
 use Rattle.fwupd_jobs.specs.Outputs.{FailsToPrint, OutputOf, Prints}
 use Rattle.fwupd_jobs.specs.Promises.{IsSafeSince}
+use Rattle.fwupd_jobs.specs.Recordings.{IsRecorded}
 use Rattle.fwupd_jobs.specs.declared.running.WatchFault.{WatchFault}
 use Rattle.fwupd_jobs.specs.Running.{DrivingEnds, IsApart, IsBarred, IsBroken, IsUnlinked, IsWatched, LacksLink, LacksTrace, NamesLost, ShowOf, StepsLead, StepsSeen, UpdateEnds, WatchOf, shown_of, starts_of, told_by}
-use Rattle.fwupd_jobs.specs.Setups.{FileOf, IsSetup, LacksPackage, Says, SetupFails, SourceOf, StoresFail, TellsStore, TextFails}
+use Rattle.fwupd_jobs.specs.Setups.{FileOf, IsSetup, LacksPackage, NumberedSetupFails, Says, SourceOf, StoresFail, TellsStore, TextFails}
 use Rattle.fw_edge.specs.declared.driving.EdgeFault.TheVariants as edges
 use Rattle.fwupd_jobs.specs.declared.faults.RunFault.{RunFault}
 use Rattle.fwupd_jobs.specs.declared.faults.RunFault.TheVariants as faults
@@ -48,20 +50,21 @@ unbegun files source number show refuses lacks told watched before (inr h) = inr
 unopened : (files : List ℕ → FileOf) (source : SourceOf) (number : ℕ) (show : ShowOf) (refuses : List ℕ → Bool) (lacks : ℕ → Bool) (w : WorldOf) (told : RunFault) (watched : WatchOf) → IsWatched files source number show w
     → (told ≡ faults.Memory) ⊎ IsUnlinked w lacks told
     → (told ≡ faults.Memory)
-    ⊎ (SetupFails files source.path told
+    ⊎ (NumberedSetupFails files source.path number told
     ⊎ (((told ≡ faults.NoPackage) × LacksPackage files source.path number) ⊎ (StoresFail files source told ⊎ (LacksTrace files source number show refuses told watched ⊎ LacksLink files source number show lacks told))))
 unopened files source number show refuses lacks w told watched begins (inl e) = inl e
 unopened files source number show refuses lacks w told watched begins (inr u) = inr (inr (inr (inr (inr (record { world = w; begins = begins; unlinked = u })))))
 
 -- a run over links that doesn't end well
 pub update_ends : (files : List ℕ → FileOf) (source : SourceOf) (number : ℕ) (show : ShowOf) (refuses : List ℕ → Bool) (lacks : ℕ → Bool) (w v : WorldOf) (told : RunFault) (watched : WatchOf) (before now : OutputOf)
-    → IsWatched files source number show w → watched.shows ≡ shown_of show → StepsLead number w v → IsSafeSince w v → StepsSeen number w v watched.seen → (told ≡ faults.Edge edges.Frame → NamesLost v watched.lost) → DrivingEnds number show.form lacks w v told watched before now
+    → IsWatched files source number show w → watched.shows ≡ shown_of show → StepsLead number w v → IsSafeSince w v → StepsSeen number w v watched.seen → (told ≡ faults.Edge edges.Frame → NamesLost v watched.lost)
+    → (IsBroken told → watched.fault ≡ None → IfSome watched.recording (IsRecorded w v)) → DrivingEnds number show.form lacks w v told watched before now
     → UpdateEnds files source number show refuses lacks told watched before now
-update_ends files source number show refuses lacks w v told watched before now begins shown reached promised sees lost (inl h) =
-    inl (record { world = w; begins = begins; shown = shown; left = v; reached = reached; promised = promised; caused = h.0; sees = sees; lost = lost; written = h.1 })
-update_ends files source number show refuses lacks w v told watched before now begins shown reached promised sees lost (inr (inl h)) =
+update_ends files source number show refuses lacks w v told watched before now begins shown reached promised sees lost recorded (inl h) =
+    inl (record { world = w; begins = begins; shown = shown; left = v; reached = reached; promised = promised; caused = h.0; sees = sees; lost = lost; recorded = recorded h.0.broken; written = h.1 })
+update_ends files source number show refuses lacks w v told watched before now begins shown reached promised sees lost recorded (inr (inl h)) =
     inr (inl (record { is = h.0; world = w; begins = begins; left = v; reached = reached; promised = promised; begun = h.1 }))
-update_ends files source number show refuses lacks w v told watched before now begins shown reached promised sees lost (inr (inr h)) =
+update_ends files source number show refuses lacks w v told watched before now begins shown reached promised sees lost recorded (inr (inr h)) =
     inr (inr (record { kept = h.1; cause = unopened files source number show refuses lacks w told watched begins h.0 }))
 
 -- the store of a device isn't opened

@@ -6,7 +6,7 @@ use Rattle.ua_core.specs.Lent.{package_at}
 use Rattle.fw_json.specs.Forms.{plan_in}
 use Rattle.fwupd_base.specs.declared.forms.Form.{Form}
 use Rattle.fwupd_jobs.specs.Outputs.{FailsToPrint, OutputOf, Prints}
-use Rattle.fwupd_jobs.specs.Setups.{ArePackages, FileOf, LacksPackage, Says, SetupFails}
+use Rattle.fwupd_jobs.specs.Setups.{ArePackages, FileOf, LacksPackage, NumberedSetupFails, Says}
 use Rattle.fwupd_jobs.specs.declared.faults.RunFault.{RunFault}
 use Rattle.fwupd_jobs.specs.declared.faults.RunFault.TheVariants as faults
 
@@ -37,4 +37,4 @@ pub record BreaksPlan (files : List ℕ → FileOf) (path : List ℕ) (number : 
 abbrev pub PlanEnds : (files : List ℕ → FileOf) (path : List ℕ) (number : ℕ) (form : Form) (told : RunFault) (before now : OutputOf) → Type 0
 PlanEnds files path number form told before now =
     BreaksPlan files path number form told before now
-    ⊎ (((told ≡ faults.Memory) ⊎ (SetupFails files path told ⊎ ((told ≡ faults.NoPackage) × LacksPackage files path number))) × (now ≡ before))
+    ⊎ (((told ≡ faults.Memory) ⊎ (NumberedSetupFails files path number told ⊎ ((told ≡ faults.NoPackage) × LacksPackage files path number))) × (now ≡ before))

@@ -22,6 +22,11 @@ abbrev pub Leaves : WorldOf → List Step → Option (ℕ × StepFault) → Worl
 Leaves w steps None v = Run w steps v
 Leaves w steps (Some f) v = (f.0 < length steps) × Run w (take f.0 steps) v × IfSome (slice_get steps f.0) (λ s. Refuses v s f.1)
 
+-- how many were taken
+abbrev pub taken_of : List Step → Option (ℕ × StepFault) → ℕ
+taken_of steps None = length steps
+taken_of steps (Some f) = f.0
+
 -- the report is of the world that is left, which is safe
 pub record IsReplayed (w : WorldOf) (steps : List Step) (fault : Option (ℕ × StepFault)) (form : Form) (text : List ℕ) : Type 0 where
   pub world : WorldOf

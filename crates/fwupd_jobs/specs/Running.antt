@@ -11,6 +11,7 @@ use Rattle.fw_world.specs.Headline.{Run, may_step}
 use Rattle.fw_world.specs.Worlds.{SiteOf, WorldOf}
 use Rattle.mctp_wire.specs.declared.unit.Unit.{«Unit»}
 use Rattle.fw_world.specs.declared.step.StepFault.{StepFault}
+use Rattle.fw_world.specs.declared.step.StepFault.TheVariants as stops
 use Rattle.fw_world.specs.declared.step.Step.{Step}
 use Rattle.fw_world.specs.declared.step.Step.TheVariants as steps
 use Rattle.fwupd_jobs.specs.Histories.{AreKeptUp, HistoryOf}
@@ -18,7 +19,7 @@ use Rattle.fwupd_jobs.specs.Outputs.{FailsToPrint, OutputOf, Prints}
 use Rattle.fwupd_jobs.specs.Promises.{IsSafeSince}
 use Rattle.fwupd_jobs.specs.Recordings.{IsRecorded, RecordingOf}
 use Rattle.fwupd_jobs.specs.Sessions.{undone_in}
-use Rattle.fwupd_jobs.specs.Setups.{FileOf, IsApartFrom, IsOver, IsOverOne, IsSetup, LacksPackage, SetupFails, SourceOf, StoresFail}
+use Rattle.fwupd_jobs.specs.Setups.{FileOf, IsApartFrom, IsOver, IsOverOne, IsSetup, LacksPackage, NumberedSetupFails, SourceOf, StoresFail}
 use Rattle.fwupd_words.specs.declared.asked.Show.{Show}
 use Rattle.fwupd_words.specs.declared.asked.TraceForm.{TraceForm}
 use Rattle.fwupd_jobs.specs.declared.faults.RunFault.{RunFault}
@@ -111,6 +112,14 @@ pub record IsRefusedStart (number : ℕ) (w v : WorldOf) : Type 0 where
   pub fault : StepFault
   pub refused : may_step v (steps.Start site.node.endpoint.eid number) ≡ Some fault
 
+-- Those before one are started, and its start isn't refused, but for want of memory.
+pub record MayStart (number : ℕ) (w v : WorldOf) : Type 0 where
+  pub place : ℕ
+  pub site : SiteOf
+  pub at : slice_get w.sites place ≡ Some site
+  pub begun : Run w (starts_of number (take place w.sites)) v
+  pub allowed : (fault : StepFault) → fault ≢ stops.Memory → may_step v (steps.Start site.node.endpoint.eid number) ≢ Some fault
+
 -- or memory was refused
 abbrev pub MayEnd : RunFault → Type 0
 MayEnd fault = (fault ≡ faults.Memory) ⊎ IsBroken fault
@@ -147,6 +156,14 @@ pub record ShownOf : Type 0 where
   pub is_logged : Bool
   pub is_recorded : Bool
   pub has_history : Bool
+
+-- A fault of what looks on is one of what it shows, or want of memory.
+abbrev pub IsOfShown : ShownOf → WatchFault → Type 0
+IsOfShown shows watches.Unwritten = is_some shows.traced ≡ true
+IsOfShown shows watches.Unlogged = shows.is_logged ≡ true
+IsOfShown shows watches.Unrecorded = shows.is_recorded ≡ true
+IsOfShown shows watches.Unkept = shows.has_history ≡ true
+IsOfShown shows watches.Memory = Prim.Unit {0}
 
 -- what is shown where there is progress or not, it is to be quiet or not, and there is a trace of a form, a log, a recording, and a
 -- history, or not
@@ -218,10 +235,10 @@ pub record IsCaused (number : ℕ) (w v : WorldOf) (told : RunFault) (watched : 
   pub let_end : watched.has_ended ≡ true
 
 -- Each of these links is that of the device at its place, in a network with its transmission unit.
-abbrev pub AreLinked : {L : Type 0} → («Unit» → (device : ℕ) → L → Bool) → List SiteOf → List L → Type 0
-AreLinked is_to [] [] = Prim.Unit {0}
-AreLinked is_to (x ∷ xs) (link ∷ links) = (is_to x.node.half.unit x.node.endpoint.eid link ≡ true) × AreLinked is_to xs links
-AreLinked is_to xs links = ⊥
+abbrev pub AreLinked : {L : Type 0} → («Unit» → (device : ℕ) → L → Type 0) → List SiteOf → List L → Type 0
+AreLinked IsTo [] [] = Prim.Unit {0}
+AreLinked IsTo (x ∷ xs) (link ∷ links) = IsTo x.node.half.unit x.node.endpoint.eid link × AreLinked IsTo xs links
+AreLinked IsTo xs links = ⊥
 
 -- No link to this device of a world is opened, and it may be lacking.
 pub record IsUnlinked (w : WorldOf) (lacks : ℕ → Bool) (told : RunFault) : Type 0 where
@@ -240,6 +257,12 @@ pub record IsLost (w : WorldOf) (failures : List ℕ) (device : ℕ) : Type 0 wh
   pub site : SiteOf
   pub at : slice_get w.sites place ≡ Some site
   pub is : device ≡ site.node.endpoint.eid
+
+-- It is told of that link's device.
+pub record TellsLost (w : WorldOf) (failures : List ℕ) (lost : Option ℕ) : Type 0 where
+  pub device : ℕ
+  pub first : IsLost w failures device
+  pub told : lost ≡ Some device
 
 -- It is told of the link of a device of this world.
 pub record NamesLost (w : WorldOf) (lost : Option ℕ) : Type 0 where
@@ -285,7 +308,8 @@ pub record ReportsUpdate (files : List ℕ → FileOf) (config : SourceOf) (numb
   pub kept_up : AreKeptUp watched.history left.history
   pub written : Prints before now (report_in show.form left)
 
--- It is written of what was reached, and where a link failed, what looks on was told whose.
+-- It is written of what was reached; where a link failed, what looks on was told whose, and where it had no fault of its own, the steps
+-- that led there are recorded.
 pub record ReportsReached (files : List ℕ → FileOf) (config : SourceOf) (number : ℕ) (show : ShowOf) (told : RunFault) (watched : WatchOf) (before now : OutputOf) : Type 0 where
   pub world : WorldOf
   pub begins : IsWatched files config number show world
@@ -296,6 +320,7 @@ pub record ReportsReached (files : List ℕ → FileOf) (config : SourceOf) (num
   pub caused : IsCaused number world left told watched
   pub sees : StepsSeen number world left watched.seen
   pub lost : told ≡ faults.Edge edges.Frame → NamesLost left watched.lost
+  pub recorded : watched.fault ≡ None → IfSome watched.recording (IsRecorded world left)
   pub written : Prints before now (report_in show.form left)
 
 -- A beginning of it is.
@@ -325,7 +350,7 @@ pub record ReportsNothing (files : List ℕ → FileOf) (config : SourceOf) (num
   pub kept : now ≡ before
   pub cause :
       (told ≡ faults.Memory)
-      ⊎ (SetupFails files config.path told
+      ⊎ (NumberedSetupFails files config.path number told
       ⊎ (((told ≡ faults.NoPackage) × LacksPackage files config.path number) ⊎ (StoresFail files config told ⊎ (LacksTrace files config number show refuses told watched ⊎ LacksLink files config number show lacks told))))
 
 -- How an update ends that doesn't end well.

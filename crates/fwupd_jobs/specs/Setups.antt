@@ -1,6 +1,7 @@
 -- What the jobs on worlds begin with: the configuration in a file, and the packages in the files that it names.
 use Rattle.std.specs.Global.{Global}
-use Rattle.std.specs.Prelude.{ℕ, ◌≡◌, ◌≢◌, ◌<◌, ◌++◌, ◌⊎◌, Bool, true, false, List, [], ◌∷◌, Option, None, Some, Result, Ok, Err, IfSome, IsOk, IsSomeAnd, String, length, option_map, string_bytes}
+use Rattle.std.specs.Prelude.{ℕ, ◌≡◌, ◌≢◌, ◌<◌, ◌≤◌, ◌++◌, ◌⊎◌, Bool, true, false, List, [], ◌∷◌, Option, None, Some, Result, Ok, Err, IfSome, IsOk, IsSomeAnd, String, length, option_map, string_bytes}
+use Rattle.fw_package.specs.Outlines.{IsBeginning}
 use Rattle.fw_package.specs.Package.{PackageText}
 use Rattle.fw_package.specs.Reading.{package_of}
 use Rattle.fw_package.specs.declared.fault.PackageFault.{PackageFault}
@@ -32,6 +33,12 @@ any_file = record { bytes = None; may_fail = true; identity = None }
 -- bytes that a file may hold of which this is known
 abbrev pub MayHold : FileOf → List ℕ → Type 0
 MayHold file bytes = IfSome file.bytes (λ known. bytes ≡ known)
+
+-- bytes with which it may begin, as many as a package's header has at most, or all, and its length
+pub record MayBegin (file : FileOf) (beginning : List ℕ) (file_length : ℕ) : Type 0 where
+  pub bytes : List ℕ
+  pub held : MayHold file bytes
+  pub is : IsBeginning bytes beginning file_length
 
 -- which file it may be
 abbrev pub MayBe : FileOf → Option FileIdentity → Type 0
@@ -197,6 +204,17 @@ pub record PackagesOfFail (files : List ℕ → FileOf) (path : List ℕ) (fault
 
 abbrev pub SetupFails : (files : List ℕ → FileOf) → (path : List ℕ) → RunFault → Type 0
 SetupFails files path fault = TextFails config_of files path fault ⊎ PackagesOfFail files path fault
+
+-- and where a package of this number, from 1 on, is asked for: it is named before any is read
+pub record NumberedFail (files : List ℕ → FileOf) (path : List ℕ) (number : ℕ) (fault : RunFault) : Type 0 where
+  pub config : ConfigOf
+  pub says : Says config_of (files path) config
+  pub counted : 1 ≤ number
+  pub there : number ≤ length config.packages
+  pub fail : PackagesFail files config.packages fault
+
+abbrev pub NumberedSetupFails : (files : List ℕ → FileOf) → (path : List ℕ) → (number : ℕ) → RunFault → Type 0
+NumberedSetupFails files path number fault = TextFails config_of files path fault ⊎ NumberedFail files path number fault
 
 -- it is told of the first of these devices whose store isn't opened
 abbrev pub TellsUnopened : StoresOf → List DeviceConfigOf → RunFault → Type 0

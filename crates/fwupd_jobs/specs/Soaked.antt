@@ -10,7 +10,7 @@ use Rattle.fw_soak.specs.SummaryTexts.{summary_text}
 use Rattle.fw_soak.specs.declared.summary.Summary.{Summary}
 use Rattle.fwupd_words.specs.declared.asked.SoakOrder.{SoakOrder}
 use Rattle.fwupd_jobs.specs.Outputs.{FailsToPrint, OutputOf, Prints}
-use Rattle.fwupd_jobs.specs.Setups.{ArePackages, FileOf, IsOverOne, LacksPackage, Says, SetupFails}
+use Rattle.fwupd_jobs.specs.Setups.{ArePackages, FileOf, IsOverOne, LacksPackage, NumberedSetupFails, Says}
 use Rattle.fwupd_jobs.specs.declared.faults.RunFault.{RunFault}
 use Rattle.fwupd_jobs.specs.declared.faults.RunFault.TheVariants as faults
 
@@ -73,5 +73,5 @@ abbrev pub SoakEnds : (files : List ℕ → FileOf) (path : List ℕ) (order : S
 SoakEnds files path order file told is_known held before now =
     SoaksWrong files path order file told is_known held before now
     ⊎ (BreaksSoak files path order told before now
-    ⊎ (((told ≡ faults.Memory) ⊎ (SetupFails files path told ⊎ (((told ≡ faults.NoPackage) × LacksPackage files path 1) ⊎ WouldWriteOver files path file told)))
+    ⊎ (((told ≡ faults.Memory) ⊎ (NumberedSetupFails files path 1 told ⊎ (((told ≡ faults.NoPackage) × LacksPackage files path 1) ⊎ WouldWriteOver files path file told)))
     × (now ≡ before)))

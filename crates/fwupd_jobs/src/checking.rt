@@ -52,10 +52,8 @@ pub fn update_checked<
     ensures untouched { IfErr result (λ e. (watch.new ≡ watch.old) ⊎ IsUnwritten e (V.watched watch.new).fault) }
     ensures unopened { IfErr result (λ e. TellsStore e → (watch.new ≡ watch.old) × (wires.new ≡ wires.old)) }
 {
-    let number = order.number;
-    let roughness = order.roughness;
     let undone = match update_files(
-        alloc, files, stores, config, store, number, folder, roughness, show, wires, watch, output,
+        alloc, files, stores, config, store, order, folder, show, wires, watch, output,
     ) {
         Ok(undone) => undone,
         Err(fault) => return Err(fault),

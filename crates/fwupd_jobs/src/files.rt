@@ -3,8 +3,9 @@
 ghost use Rattle.std.specs.Io.KnownBytes.{IsAtEnd};
 ghost use Rattle.std.specs.Prelude.{◌≡◌, ◌≢◌, ◌∷◌, IfErr, IfOk, IfSome, IsSomeAnd, List, OnOk, option_map, false, map, string_bytes, true, ℕ};
 ghost use Rattle.std.specs.List.{AllByRecursion};
-ghost use Rattle.fwupd_jobs.specs.Setups.{FileOf, IsApartFrom, IsOver, IsOverOne, MayBe, MayHold, any_file};
+ghost use Rattle.fwupd_jobs.specs.Setups.{FileOf, IsApartFrom, IsOver, IsOverOne, MayBe, MayBegin, MayHold, any_file};
 
+use crate::beginnings::{BEGINNING, Beginning, read_first};
 use fwupd_base::read_some;
 use std::alloc::Global;
 use std::fs::{self, File};
@@ -41,6 +42,14 @@ pub trait Files {
         ensures held { IfOk result (λ bytes. MayHold (holds self.now path.now) bytes.items) }
         ensures fails { IfErr result (λ e. e ≡ FileFault.Unreadable → (holds self.now path.now).may_fail ≡ true) };
 
+    /// The first 65,535 bytes of the file of a path, or all where it has fewer, and how many it has.
+    ///
+    /// # Errors
+    /// The file can't be read, or memory for these bytes is refused.
+    fn beginning(&self, alloc: Global, path: &str) -> Result<Beginning, FileFault>
+        ensures held { IfOk result (λ b. MayBegin (holds self.now path.now) b.bytes.items b.file_length) }
+        ensures fails { IfErr result (λ e. e ≡ FileFault.Unreadable → (holds self.now path.now).may_fail ≡ true) };
+
     /// Which file a path names, if one is found there.
     fn identity(&self, path: &str) -> Option<FileIdentity>
         ensures { MayBe (holds self.now path.now) result };
@@ -61,16 +70,35 @@ impl<'a> SystemFiles<'a> {
     /// The bytes of a file, read once, into room of its size where it says one.
     pub(crate) fn read(&self, alloc: Global, path: &str) -> io::Result<Vec<u8>> {
         let mut file = File::open(self.rt, path)?;
-        let size = match file.metadata() {
-            Ok(found) => usize::try_from(found.len()).unwrap_or(0),
-            Err(_) => 0,
-        };
+        let size = size_of(&file);
         read_whole(alloc, &mut file, size)
+    }
+
+    /// The beginning of a file. One that says that it is longer isn't read further.
+    fn read_beginning(&self, alloc: Global, path: &str) -> io::Result<Beginning>
+        ensures { IfOk result (λ b. MayBegin any_file b.bytes.items b.file_length) }
+    {
+        let mut file = File::open(self.rt, path)?;
+        let size = size_of(&file);
+        if size <= BEGINNING {
+            let bytes = read_whole(alloc, &mut file, size)?;
+            return Ok(Beginning::of(bytes));
+        }
+        let bytes = read_first(alloc, &mut file, BEGINNING)?;
+        Ok(Beginning::said(bytes, size))
+    }
+}
+
+/// How many bytes a file says that it has, or 0 where it says nothing.
+fn size_of(file: &File) -> usize {
+    match file.metadata() {
+        Ok(found) => usize::try_from(found.len()).unwrap_or(0),
+        Err(_) => 0,
     }
 }
 
 /// The most bytes that are read at once.
-const PIECE: usize = 16_384;
+pub(crate) const PIECE: usize = 16_384;
 
 /// All bytes that a reader gives up to its end, into room for so many at first.
 ///
@@ -117,6 +145,13 @@ impl<'a> Files for SystemFiles<'a> {
     fn contents(&self, alloc: Global, path: &str) -> Result<Vec<u8>, FileFault> {
         match self.read(alloc, path) {
             Ok(bytes) => Ok(bytes),
+            Err(error) => Err(file_fault(error.kind())),
+        }
+    }
+
+    fn beginning(&self, alloc: Global, path: &str) -> Result<Beginning, FileFault> {
+        match self.read_beginning(alloc, path) {
+            Ok(beginning) => Ok(beginning),
             Err(error) => Err(file_fault(error.kind())),
         }
     }

@@ -1,13 +1,14 @@
-//! Inspecting the package in a file.
+//! Inspecting the package in a file, of which its header is read and no more.
 
 ghost use Rattle.std.specs.Prelude.{IfErr, OnOk};
 ghost use Rattle.fwupd_jobs.specs.Inspected.{InspectEnds, Inspects};
 
+use crate::beginnings::Beginning;
 use crate::faults::{RunFault, inspection_fault};
 use crate::files::Files;
 use crate::output::Output;
 use crate::setups::read_fault;
-use fw_json::inspect_in;
+use fw_json::inspect_beginning_in;
 use fwupd_base::Form;
 use std::alloc::Global;
 use std::io::Write;
@@ -27,11 +28,11 @@ pub fn inspect_file<F: Files, W: Write + Drop>(
     ensures ok { OnOk result (Inspects (F.holds files.now path.now) form output.old output.new) }
     ensures fault { IfErr result (λ e. InspectEnds (F.holds files.now) path.now form e output.old output.new) }
 {
-    let bytes = match files.contents(alloc, path) {
-        Ok(bytes) => bytes,
+    let Beginning { bytes, file_length } = match files.beginning(alloc, path) {
+        Ok(beginning) => beginning,
         Err(fault) => return Err(read_fault(alloc, path, fault)),
     };
-    let text = match inspect_in(alloc, &bytes, form) {
+    let text = match inspect_beginning_in(alloc, &bytes, file_length, form) {
         Ok(text) => text,
         Err(fault) => return Err(inspection_fault(fault)),
     };

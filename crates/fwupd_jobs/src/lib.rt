@@ -1,12 +1,14 @@
 //! The jobs of the program: answers, inspections, forecasts, replays and updates over links, and the words that ask for them.
 #![tactic(auto)]
 
+mod beginnings;
 mod building;
 mod checking;
 mod explaining;
 mod faults;
 mod files;
 mod history;
+mod history_opening;
 mod inspecting;
 mod jobs;
 mod logging;
@@ -33,6 +35,7 @@ mod watching;
 mod words;
 mod write_behind;
 
+pub use beginnings::Beginning;
 pub use building::build_file;
 pub use checking::update_checked;
 pub use faults::{RunFault, inspection_fault};

@@ -1,6 +1,6 @@
 //! The steps of a run, written as a schedule while they are taken.
 
-ghost use Rattle.std.specs.Prelude.{◌≡◌, ◌<◌, ◌^◌, [], IfErr, IfOk, List, OnOk, Option, true, ℕ};
+ghost use Rattle.std.specs.Prelude.{◌≡◌, ◌⊎◌, ◌<◌, ◌^◌, [], IfErr, IfOk, List, OnOk, Option, false, true, ℕ};
 ghost use Rattle.exch_lane.specs.Lanes.{IsEid};
 ghost use Rattle.std.specs.Io.Buffered.{writer_buffer, writer_contents, writer_inner};
 ghost use Rattle.fw_script.specs.ScheduleTexts.{AreSayable, IsSayable};
@@ -23,7 +23,8 @@ pub struct Recording<W: Write + Drop> {
 
 /// Whether a byte is the identifier of a node.
 fn is_eid(eid: u8) -> bool
-    ensures { result ≡ true → IsEid eid }
+    ensures is { result ≡ true → IsEid eid }
+    ensures not { result ≡ false → ¬ IsEid eid }
 {
     8 <= eid && eid <= 254
 }
@@ -90,6 +91,7 @@ impl<W: Write + Drop> Recording<W> {
     /// # Errors
     /// They can't be written, or a schedule can't say one of them, or memory for their lines is refused.
     pub fn note(&mut self, steps: &[Step]) -> Result<(), WatchFault>
+        ensures fault { IfErr result (λ e. (e ≡ WatchFault.Memory) ⊎ (e ≡ WatchFault.Unrecorded)) }
         ensures noted { (begun : Option (List ℕ)) → OnOk result (Writes (recording_of begun (writer_contents W.contents self.old.writer) self.old.text) (recording_of begun (writer_contents W.contents self.new.writer) self.new.text) steps.now) }
     {
         if !are_said(steps) {
@@ -110,6 +112,7 @@ impl<W: Write + Drop> Recording<W> {
     /// # Errors
     /// It can't be written, or memory is refused.
     pub fn end(&mut self) -> Result<(), WatchFault>
+        ensures fault { IfErr result (λ e. (e ≡ WatchFault.Memory) ⊎ (e ≡ WatchFault.Unrecorded)) }
         ensures ended { (begun : Option (List ℕ)) → OnOk result (Ends (recording_of begun (writer_contents W.contents self.old.writer) self.old.text) (recording_of begun (writer_contents W.contents self.new.writer) self.new.text)) }
         ensures all { OnOk result (writer_buffer self.new.writer ≡ []) }
     {

@@ -1,6 +1,6 @@
 //! Replaying a schedule on the nodes of a configuration.
 
-ghost use Rattle.std.specs.Prelude.{◌≡◌, ◌<◌, ◌≤◌, ◌-◌, ◌^◌, ◌⊎◌, ◌∷◌, IfErr, IfOk, IfSome, None, OnErr, OnOk, Some, length, map, option_map, slice_get, string_bytes, take, true};
+ghost use Rattle.std.specs.Prelude.{◌≡◌, ◌<◌, ◌≤◌, ◌-◌, ◌^◌, ◌⊎◌, ◌∷◌, IfErr, IfOk, IfSome, None, OnErr, OnOk, Some, is_some, length, map, option_map, slice_get, string_bytes, take, true};
 ghost use Rattle.fw_edge.specs.Links.{Rises};
 ghost use Rattle.fw_script.specs.ScheduleLines.{all_steps, step_said};
 ghost use Rattle.fw_script.specs.Seen.{device_of};
@@ -10,7 +10,7 @@ ghost use Rattle.fw_world.specs.Replays.{Refuses};
 ghost use Rattle.fw_world.specs.Worlds.{full_tick};
 ghost use Rattle.fw_setup.specs.Nodes.{nodes_made};
 ghost use Rattle.fw_setup.specs.Stocks.{stores_in};
-ghost use Rattle.fwupd_jobs.specs.Replayed.{IsReplayed, ReplayEnds, ReportsReplay};
+ghost use Rattle.fwupd_jobs.specs.Replayed.{IsReplayed, ReplayEnds, ReportsReplay, taken_of};
 ghost use Rattle.fwupd_jobs.specs.Running.{IsApart, IsBarred, IsUnwritten, show_of, shown_of};
 ghost use Rattle.fwupd_jobs.specs.Setups.{source_of};
 
@@ -136,6 +136,7 @@ pub fn replayed<'a, V: Watch>(
     ensures ended { OnOk result ((V.watched watch.new).has_ended ≡ true) }
     ensures unseen { IfOk result (λ r. IfErr r.watched (λ e. (V.watched watch.new).fault ≡ Some e)) }
     ensures seen { IfOk result (λ r. OnOk r.watched ((V.watched watch.new).fault ≡ None)) }
+    ensures each { IfOk result (λ r. is_some show.entry.trace ≡ true → (V.watched watch.old).seen ≡ 0 → (V.watched watch.new).seen ≡ taken_of (all_steps lines.now) r.fault) }
 {
     packets_are_safe();
     let mut world = opening_world(alloc, unit, agent, devices, packages)?;

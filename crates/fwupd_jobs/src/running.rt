@@ -3,9 +3,10 @@
 ghost use Rattle.std.specs.Prelude.{[], ◌≡◌, ◌≢◌, ◌-◌, ◌^◌, ◌⊎◌, Bool, Err, IfErr, IfSome, List, None, OnOk, Some, length, map, true, ℕ};
 ghost use Rattle.fw_edge.specs.Ledgers.{AllSent, packet_counts};
 ghost use Rattle.fw_edge.specs.Links.{Rises};
+ghost use Rattle.fw_world.specs.Headline.{Run};
 ghost use Rattle.fwupd_jobs.specs.Histories.{AreKeptUp, IsFresh, KeepsUp};
 ghost use Rattle.fwupd_jobs.specs.Recordings.{Closes, IsNew, IsRecorded, Notes, NotesRun};
-ghost use Rattle.fwupd_jobs.specs.Running.{AreToldOf, IsCaused, IsRefusedStart, IsUnwritten, IsUpdated, MayEnd, MayRefuse, Starts, StepsLead, StepsSeen, Updates, show_of, shown_of, starts_of, told_by, told_of, watch_of};
+ghost use Rattle.fwupd_jobs.specs.Running.{AreToldOf, IsCaused, IsRefusedStart, IsUnwritten, IsUpdated, MayEnd, MayRefuse, MayStart, Starts, StepsLead, StepsSeen, Updates, show_of, shown_of, starts_of, told_by, told_of, watch_of};
 
 use crate::faults::{RunFault, edge_fault};
 use fd_core::Bank;
@@ -36,7 +37,7 @@ pub enum WatchFault {
 /// What looks on while devices are updated, from its beginning until it has a fault, which is what each later call ends with.
 pub trait Watch {
     ghost use Rattle.fw_edge.specs.Links.{Rises};
-    ghost use Rattle.fwupd_jobs.specs.Running.{WatchOf};
+    ghost use Rattle.fwupd_jobs.specs.Running.{IsOfShown, WatchOf};
 
     ghost watched: { Self → WatchOf };
 
@@ -63,6 +64,7 @@ pub trait Watch {
         ensures ok { OnOk result ((watched self.new).fault ≡ None) }
         ensures err { IfErr result (λ e. (watched self.new).fault ≡ Some e) }
         ensures first { IfSome (watched self.old).fault (λ f. result ≡ Err f) }
+        ensures cause { IfErr result (λ e. (watched self.old).fault ≡ None → (e ≡ WatchFault.Memory) ⊎ ((e ≡ WatchFault.Unrecorded) × ((watched self.old).shows.is_recorded ≡ true))) }
         ensures noted { OnOk result (Notes (watched self.old).recording (watched self.new).recording steps.now) }
         ensures history { (watched self.new).history ≡ (watched self.old).history }
         ensures same { (watched self.new).shows ≡ (watched self.old).shows }
@@ -77,6 +79,7 @@ pub trait Watch {
         ensures ok { OnOk result ((watched self.new).fault ≡ None) }
         ensures err { IfErr result (λ e. (watched self.new).fault ≡ Some e) }
         ensures first { IfSome (watched self.old).fault (λ f. result ≡ Err f) }
+        ensures cause { IfErr result (λ e. (watched self.old).fault ≡ None → IsOfShown (watched self.old).shows e) }
         ensures same { (watched self.new).shows ≡ (watched self.old).shows }
         ensures seen { Rises (watched self.old).seen (watched self.new).seen }
         ensures lost { (watched self.new).lost ≡ (watched self.old).lost }
@@ -101,6 +104,7 @@ pub trait Watch {
         ensures ok { OnOk result ((watched self.new).fault ≡ None) }
         ensures err { IfErr result (λ e. (watched self.new).fault ≡ Some e) }
         ensures first { IfSome (watched self.old).fault (λ f. result ≡ Err f) }
+        ensures cause { IfErr result (λ e. (watched self.old).fault ≡ None → IsOfShown (watched self.old).shows e) }
         ensures same { (watched self.new).shows ≡ (watched self.old).shows }
         ensures seen { (watched self.new).seen ≡ (watched self.old).seen }
         ensures lost { (watched self.new).lost ≡ (watched self.old).lost }
@@ -138,17 +142,19 @@ fn start_all<B: Bank + Drop>(
     ensures unseen_steps { StepsSeen number world.old world.new 0 }
     ensures fault { IfErr result MayEnd }
     ensures refused { IfErr result (λ e. e ≡ RunFault.Edge EdgeFault.Step → IsRefusedStart number world.old world.new) }
+    ensures memory { IfErr result (λ e. e ≡ RunFault.Memory → (world.new ≡ world.old) ⊎ MayStart number world.old world.new) }
+    ensures run { Run world.old steps.new.items world.new }
     ensures none { IfErr result (λ e. e ≡ RunFault.Edge EdgeFault.Frame → ⊥) }
     ensures unseen { IfErr result (λ e. watch_of e ≡ None) }
 {
+    let Ok(()) = steps.reserve(world.device_count()) else {
+        return Err(RunFault::Memory);
+    };
     for place in 0..world.device_count() {
         let Some(node) = world.device_at(place) else {
             unreachable!()
         };
         let start = Step::Start(node.eid(), number);
-        let Ok(()) = steps.reserve(1) else {
-            return Err(RunFault::Memory);
-        };
         match world.step(&start) {
             Ok(()) => {}
             Err(StepFault::Memory) => return Err(RunFault::Memory),
@@ -185,6 +191,7 @@ fn broken_off<B: Bank + Drop, V: Watch>(
     fault: EdgeFault,
 ) -> RunFault
     ensures told { result ≡ told_of fault }
+    ensures noted { (V.watched watch.new).fault ≡ None → Notes (V.watched watch.old).recording (V.watched watch.new).recording steps.now }
     ensures same { (V.watched watch.new).shows ≡ (V.watched watch.old).shows }
     ensures seen { Rises (V.watched watch.old).seen (V.watched watch.new).seen }
     ensures lost { (V.watched watch.new).lost ≡ (V.watched watch.old).lost }
@@ -217,6 +224,7 @@ pub fn update_all<B: Bank + Drop, L: Link, V: Watch>(
     ensures devices { length links.new ≡ length world.new.sites }
     ensures unwritten { IfErr result (λ e. IsUnwritten e (V.watched watch.new).fault) }
     ensures noted { OnOk result (NotesRun world.old world.new (V.watched watch.old).recording (V.watched watch.new).recording) }
+    ensures noted_still { IfErr result (λ e. (V.watched watch.new).fault ≡ None → NotesRun world.old world.new (V.watched watch.old).recording (V.watched watch.new).recording) }
     ensures history { OnOk result (AreKeptUp (V.watched watch.old).history world.old.history → AreKeptUp (V.watched watch.new).history world.new.history) }
     ensures same { (V.watched watch.new).shows ≡ (V.watched watch.old).shows }
     ensures turns { OnOk result ((V.watched watch.old).seen ≡ 0 → Updates number world.old world.new (V.watched watch.new).seen) }
@@ -270,6 +278,7 @@ pub fn update_watched<B: Bank + Drop, L: Link, V: Watch>(
     ensures reached { StepsLead number world.old world.new }
     ensures seen { OnOk result ((V.watched watch.new).fault ≡ None) }
     ensures recorded { OnOk result (IfSome (V.watched watch.old).recording IsNew → IfSome (V.watched watch.new).recording (IsRecorded world.old world.new)) }
+    ensures recorded_still { IfErr result (λ e. (V.watched watch.new).fault ≡ None → IfSome (V.watched watch.old).recording IsNew → IfSome (V.watched watch.new).recording (IsRecorded world.old world.new)) }
     ensures history { OnOk result (AreKeptUp (V.watched watch.old).history world.old.history → AreKeptUp (V.watched watch.new).history world.new.history) }
     ensures ended { (V.watched watch.new).has_ended ≡ true }
     ensures devices { length links.new ≡ length world.new.sites }

@@ -147,6 +147,7 @@ fn write_pair<B: Bank + Drop, W: Write>(
     ensures lines { OnOk result (Appends (W.contents writer.old) (W.contents writer.new) (pair_text form (Some reader.old) (slice_get world.now.sites place) written)) }
     ensures read { OnOk result (reader.new ≡ reader_of_pair form reader.old (slice_get world.now.sites place) written) }
     ensures count { IfOk result (λ n. IfSome (slice_get world.now.sites place) (λ x. n ≡ length x.packets)) }
+    ensures fault { IfErr result (λ e. (e ≡ WatchFault.Memory) ⊎ (e ≡ WatchFault.Unwritten)) }
 {
     let (Some(node), Some(packets)) = (world.device_at(place), world.packets_at(place)) else {
         return Ok(0);
@@ -194,6 +195,7 @@ fn write_pairs<B: Bank + Drop, W: Write>(
     ensures lines { OnOk result (Appends (W.contents writer.old) (W.contents writer.new) (pairs_text form readers.old written.now world.now.sites (length world.now.sites))) }
     ensures counts { IfOk result (λ counts. counts.items ≡ packet_counts world.now.sites) }
     ensures read { OnOk result (ReadOn form written.now world.now.sites (length world.now.sites) readers.old readers.new) }
+    ensures fault { IfErr result (λ e. (e ≡ WatchFault.Memory) ⊎ (e ≡ WatchFault.Unwritten)) }
 {
     let mut counts = ArrayVec::new();
     for place in 0..world.device_count() {
@@ -274,6 +276,7 @@ impl<W: Write + Drop> Trace<W> {
             → HasTraced self.old.form seen self.old.written.items self.old.readers.items before (writer_contents W.contents self.old.writer) → GoesOnFrom seen world.now
             → HasTraced self.old.form (world.now ∷ seen) self.new.written.items self.new.readers.items before (writer_contents W.contents self.new.writer)) }
         ensures form { self.new.form ≡ self.old.form }
+        ensures fault { IfErr result (λ e. (e ≡ WatchFault.Memory) ⊎ (e ≡ WatchFault.Unwritten)) }
     {
         if add_readers(world, &mut self.readers).is_err() {
             return Err(WatchFault::Memory);
@@ -298,6 +301,7 @@ impl<W: Write + Drop> Trace<W> {
     /// # Errors
     /// It can't be written.
     pub fn end(&mut self) -> Result<(), WatchFault>
+        ensures fault { IfErr result (λ e. e ≡ WatchFault.Unwritten) }
         ensures all { OnOk result (writer_buffer self.new.writer ≡ []) }
         ensures form { self.new.form ≡ self.old.form }
         ensures kept { Keeps (writer_contents W.contents self.old.writer) (writer_contents W.contents self.new.writer) }

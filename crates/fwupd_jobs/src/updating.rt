@@ -2,6 +2,8 @@
 
 ghost use Rattle.std.specs.Prelude.{◌≡◌, ◌∷◌, ◌⊎◌, Bool, false, IfErr, IfOk, IfSome, IsSomeAnd, List, None, OnOk, length, map, option_map, string_bytes, true, ℕ};
 ghost use Rattle.std.specs.List.{AllByRecursion};
+ghost use Rattle.rand_pcg.specs.Lcg.{increment_of, started};
+ghost use Rattle.rand_pcg.specs.Pcg.{multiplier_64};
 ghost use Rattle.fw_json.specs.Forms.{report_in};
 ghost use Rattle.fw_setup.specs.Stocks.{stores_in};
 ghost use Rattle.fw_world.specs.Headline.{IsOpeningWorld};
@@ -10,7 +12,7 @@ ghost use Rattle.fwupd_jobs.specs.Sessions.{undone_in};
 ghost use Rattle.fwupd_jobs.specs.Setups.{IsApartFrom, IsOver, SourceOf, TellsStore, source_of};
 ghost use Rattle.fwupd_jobs.specs.Histories.{AreKeptUp, IsFresh};
 ghost use Rattle.fwupd_jobs.specs.Recordings.{IsNew, IsRecorded};
-ghost use Rattle.fwupd_jobs.specs.Running.{AreLinked, AreToldOf, DrivingEnds, IsApart, IsApartFromUsed, IsBarred, IsCaused, IsLost, IsNamed, IsOverUsed, IsUnlinked, IsUnwritten, IsUpdated, NamesLost, ReportsUpdate, StepsLead, StepsSeen, UpdateEnds, Updates, show_of, shown_of};
+ghost use Rattle.fwupd_jobs.specs.Running.{AreLinked, AreToldOf, DrivingEnds, IsApart, IsApartFromUsed, IsBarred, IsBroken, IsCaused, IsLost, IsNamed, IsOverUsed, IsUnlinked, IsUnwritten, IsUpdated, NamesLost, ReportsUpdate, StepsLead, StepsSeen, TellsLost, UpdateEnds, Updates, show_of, shown_of};
 
 use crate::faults::RunFault;
 use crate::files::{Files, is_read, is_same_file};
@@ -27,7 +29,7 @@ use fw_setup::{Stores, opening_world, opening_world_over};
 use fw_store::Folder;
 use fw_world::{World, packets_are_safe};
 use fwupd_base::Form;
-use fwupd_words::Show;
+use fwupd_words::{Order, Show};
 use mctp_wire::Unit;
 use std::alloc::Global;
 use std::io::Write;
@@ -60,8 +62,8 @@ fn open_all<B: Bank + Drop, L: Link + Drop, S: Wires<L>>(
     wires: &mut S,
 ) -> Result<Vec<Rough<L>>, RunFault>
     ensures links { IfOk result (λ links. length links.items ≡ length world.now.sites) }
-    ensures each { IfOk result (λ links. AreLinked (λ unit device link. S.is_to unit folder.now device link.link) world.now.sites links.items) }
-    ensures rough { IfOk result (λ links. AllByRecursion (λ link. link.roughness ≡ roughness) links.items) }
+    ensures each { IfOk result (λ links. AreLinked (λ unit device link. (S.is_to unit folder.now device link.link ≡ true)
+        × ((link.roughness ≡ roughness) × (link.generator ≡ started 64 multiplier_64 roughness.seed (increment_of 64 device)))) world.now.sites links.items) }
     ensures fault { IfErr result (λ e. (e ≡ RunFault.Memory) ⊎ IsUnlinked world.now (S.lacks wires.old folder.now) e) }
 {
     let mut links = Vec::new(alloc);
@@ -187,8 +189,9 @@ fn lost_device<B: Bank + Drop, L: Link>(world: &World<'_, B>, links: &[L]) -> Op
 /// Tells what looks on of the first device whose link has failed, if one has.
 fn lose_failed<B: Bank + Drop, L: Link, V: Watch>(world: &World<'_, B>, links: &[L], watch: &mut V)
     ensures seen { (V.watched watch.new).seen ≡ (V.watched watch.old).seen }
-    ensures lost { length links.now ≡ length world.now.sites → AllByRecursion (λ n. n ≡ 0) (map (λ l. (L.tally l).failures) links.now) ⊎ NamesLost world.now (V.watched watch.new).lost }
+    ensures lost { length links.now ≡ length world.now.sites → AllByRecursion (λ n. n ≡ 0) (map (λ l. (L.tally l).failures) links.now) ⊎ TellsLost world.now (map (λ l. (L.tally l).failures) links.now) (V.watched watch.new).lost }
     ensures fault { (V.watched watch.new).fault ≡ (V.watched watch.old).fault }
+    ensures recording { (V.watched watch.new).recording ≡ (V.watched watch.old).recording }
     ensures same { (V.watched watch.new).shows ≡ (V.watched watch.old).shows }
     ensures ended { (V.watched watch.new).has_ended ≡ (V.watched watch.old).has_ended }
 {
@@ -214,11 +217,12 @@ fn update_told<B: Bank + Drop, L: Link, V: Watch>(
     ensures reached { StepsLead number world.old world.new }
     ensures seen { OnOk result ((V.watched watch.new).fault ≡ None) }
     ensures recorded { OnOk result (IfSome (V.watched watch.old).recording IsNew → IfSome (V.watched watch.new).recording (IsRecorded world.old world.new)) }
+    ensures recorded_still { IfErr result (λ e. (V.watched watch.new).fault ≡ None → IfSome (V.watched watch.old).recording IsNew → IfSome (V.watched watch.new).recording (IsRecorded world.old world.new)) }
     ensures history { OnOk result (AreKeptUp (V.watched watch.old).history world.old.history → AreKeptUp (V.watched watch.new).history world.new.history) }
     ensures ended { (V.watched watch.new).has_ended ≡ true }
     ensures same { (V.watched watch.new).shows ≡ (V.watched watch.old).shows }
     ensures turns { OnOk result ((V.watched watch.old).seen ≡ 0 → Updates number world.old world.new (V.watched watch.new).seen) }
-    ensures lost { IfErr result (λ e. e ≡ RunFault.Edge EdgeFault.Frame → NamesLost world.new (V.watched watch.new).lost) }
+    ensures lost { IfErr result (λ e. e ≡ RunFault.Edge EdgeFault.Frame → TellsLost world.new (map (λ l. (L.tally l).failures) links.new) (V.watched watch.new).lost) }
     ensures none_lost { OnOk result ((V.watched watch.new).lost ≡ (V.watched watch.old).lost) }
     ensures fault { IfErr result (λ e. (e ≡ RunFault.Memory) ⊎ IsCaused number world.old world.new e (V.watched watch.new)) }
     ensures kept { OnOk result (map (λ l. (L.tally l).failures) links.new ≡ map (λ l. (L.tally l).failures) links.old) }
@@ -235,39 +239,39 @@ fn update_told<B: Bank + Drop, L: Link, V: Watch>(
     }
 }
 
-/// Updates each device of a new world with the package of this number over a link of its own, and writes the report of what that leaves.
+/// Updates each device of a new world with the package that is asked for over a link of its own, and writes the report of what that leaves.
 fn update_over<B: Bank + Drop, L: Link + Drop, S: Wires<L>, V: Watch, W: Write + Drop>(
     alloc: Global,
     world: &mut World<'_, B>,
-    number: usize,
+    order: Order,
     folder: &str,
-    roughness: Roughness,
     form: Form,
     wires: &mut S,
     watch: &mut V,
     output: &mut Output<W>,
 ) -> Result<Option<Undone>, RunFault>
-    ensures updated { OnOk result (IsUpdated number world.old world.new) }
+    ensures updated { OnOk result (IsUpdated order.number world.old world.new) }
     ensures seen { OnOk result ((V.watched watch.new).fault ≡ None) }
     ensures recorded { OnOk result (IfSome (V.watched watch.old).recording IsNew → IfSome (V.watched watch.new).recording (IsRecorded world.old world.new)) }
+    ensures recorded_still { IfErr result (λ e. IsBroken e → (V.watched watch.new).fault ≡ None → IfSome (V.watched watch.old).recording IsNew → IfSome (V.watched watch.new).recording (IsRecorded world.old world.new)) }
     ensures history { OnOk result (AreKeptUp (V.watched watch.old).history world.old.history → AreKeptUp (V.watched watch.new).history world.new.history) }
     ensures let_end { OnOk result ((V.watched watch.new).has_ended ≡ true) }
-    ensures turns { OnOk result ((V.watched watch.old).seen ≡ 0 → Updates number world.old world.new (V.watched watch.new).seen) }
+    ensures turns { OnOk result ((V.watched watch.old).seen ≡ 0 → Updates order.number world.old world.new (V.watched watch.new).seen) }
     ensures lost { IfErr result (λ e. e ≡ RunFault.Edge EdgeFault.Frame → NamesLost world.new (V.watched watch.new).lost) }
     ensures none_lost { OnOk result ((V.watched watch.new).lost ≡ (V.watched watch.old).lost) }
     ensures unwritten { IfErr result (λ e. IsUnwritten e (V.watched watch.new).fault) }
     ensures same { (V.watched watch.new).shows ≡ (V.watched watch.old).shows }
     ensures written { OnOk result (Prints output.old output.new (report_in form world.new)) }
     ensures undone { IfOk result (λ u. u ≡ undone_in world.new) }
-    ensures reached { StepsLead number world.old world.new }
-    ensures sees { (V.watched watch.old).seen ≡ 0 → StepsSeen number world.old world.new (V.watched watch.new).seen }
-    ensures fault { IfErr result (λ e. DrivingEnds number form (S.lacks wires.old folder.now) world.old world.new e (V.watched watch.new) output.old output.new) }
+    ensures reached { StepsLead order.number world.old world.new }
+    ensures sees { (V.watched watch.old).seen ≡ 0 → StepsSeen order.number world.old world.new (V.watched watch.new).seen }
+    ensures fault { IfErr result (λ e. DrivingEnds order.number form (S.lacks wires.old folder.now) world.old world.new e (V.watched watch.new) output.old output.new) }
 {
-    let mut links = match open_all(alloc, world, folder, roughness, wires) {
+    let mut links = match open_all(alloc, world, folder, order.roughness, wires) {
         Ok(links) => links,
         Err(fault) => return Err(fault),
     };
-    match update_told(alloc, world, number, links.as_mut_slice(), watch) {
+    match update_told(alloc, world, order.number, links.as_mut_slice(), watch) {
         Ok(()) => {}
         Err(RunFault::Memory) => return Err(RunFault::Memory),
         Err(fault) => {
@@ -284,29 +288,28 @@ fn update_over<B: Bank + Drop, L: Link + Drop, S: Wires<L>, V: Watch, W: Write +
     }
 }
 
-/// Lets what looks on begin, updates each device of a world that is new with the package of this number over a link of its own, and writes
-/// the report of what that leaves. The world is that of the configuration in a file, which names these packages.
+/// Lets what looks on begin, updates each device of a world that is new with the package that is asked for over a link of its own, and
+/// writes the report of what that leaves. The world is that of the configuration in a file, which names these packages.
 fn update_new<F: Files, B: Bank + Drop, L: Link + Drop, S: Wires<L>, V: Watch, W: Write + Drop>(
     alloc: Global,
     files: &F,
     config: &str,
     packages: &[String],
     world: &mut World<'_, B>,
-    number: usize,
+    order: Order,
     folder: &str,
-    roughness: Roughness,
     show: Show<'_>,
     wires: &mut S,
     watch: &mut V,
     output: &mut Output<W>,
 ) -> Result<Option<Undone>, RunFault>
     requires { IsOpeningWorld world.old }
-    ensures ok { IfOk result (λ undone. (source : SourceOf) (named : IsNamed (F.holds files.now) source number world.old) → source.path ≡ config.now
+    ensures ok { IfOk result (λ undone. (source : SourceOf) (named : IsNamed (F.holds files.now) source order.number world.old) → source.path ≡ config.now
         → named.setup.config.packages ≡ map (λ p. string_bytes p) packages.now
-        → ReportsUpdate (F.holds files.now) source number (show_of show.entry) (V.watched watch.new) output.old output.new undone) }
-    ensures fault { IfErr result (λ e. (source : SourceOf) (named : IsNamed (F.holds files.now) source number world.old) → source.path ≡ config.now
+        → ReportsUpdate (F.holds files.now) source order.number (show_of show.entry) (V.watched watch.new) output.old output.new undone) }
+    ensures fault { IfErr result (λ e. (source : SourceOf) (named : IsNamed (F.holds files.now) source order.number world.old) → source.path ≡ config.now
         → named.setup.config.packages ≡ map (λ p. string_bytes p) packages.now
-        → UpdateEnds (F.holds files.now) source number (show_of show.entry) (V.refuses watch.old) (S.lacks wires.old folder.now) e (V.watched watch.new) output.old output.new) }
+        → UpdateEnds (F.holds files.now) source order.number (show_of show.entry) (V.refuses watch.old) (S.lacks wires.old folder.now) e (V.watched watch.new) output.old output.new) }
     ensures untouched { IfErr result (λ e. (watch.new ≡ watch.old) ⊎ IsUnwritten e (V.watched watch.new).fault) }
     ensures stores { IfErr result (λ e. TellsStore e → ⊥) }
 {
@@ -315,16 +318,14 @@ fn update_new<F: Files, B: Bank + Drop, L: Link + Drop, S: Wires<L>, V: Watch, W
         Ok(()) => {}
         Err(fault) => return Err(fault),
     }
-    match update_over(
-        alloc, world, number, folder, roughness, show.form, wires, watch, output,
-    ) {
+    match update_over(alloc, world, order, folder, show.form, wires, watch, output) {
         Ok(undone) => Ok(undone),
         Err(fault) => Err(fault),
     }
 }
 
-/// Updates the devices of the configuration in a file with its package of this number, from 1 on, each over a link of its own, as rough
-/// as asked for, and writes the report of what that leaves. It gives the first session in configured order that isn't Done then. Where a
+/// Updates the devices of the configuration in a file with the package that is asked for, each over a link of its own, as rough as asked
+/// for, and writes the report of what that leaves. It gives the first session in configured order that isn't Done then. Where a
 /// folder of stores is named, each device begins with the images that its store keeps, and keeps there those that it activates.
 ///
 /// # Errors
@@ -348,16 +349,15 @@ pub fn update_files<
     stores: &T,
     config: &str,
     store: Option<&str>,
-    number: usize,
+    order: Order,
     folder: &str,
-    roughness: Roughness,
     show: Show<'_>,
     wires: &mut S,
     watch: &mut V,
     output: &mut Output<W>,
 ) -> Result<Option<Undone>, RunFault>
-    ensures ok { IfOk result (λ undone. ReportsUpdate (F.holds files.now) (source_of (stores_in (T.is_known stores.now) (T.files stores.now)) (option_map (λ p. p.now) store.entry) config.now) number (show_of show.entry) (V.watched watch.new) output.old output.new undone) }
-    ensures fault { IfErr result (λ e. UpdateEnds (F.holds files.now) (source_of (stores_in (T.is_known stores.now) (T.files stores.now)) (option_map (λ p. p.now) store.entry) config.now) number (show_of show.entry) (V.refuses watch.old) (S.lacks wires.old folder.now) e (V.watched watch.new) output.old output.new) }
+    ensures ok { IfOk result (λ undone. ReportsUpdate (F.holds files.now) (source_of (stores_in (T.is_known stores.now) (T.files stores.now)) (option_map (λ p. p.now) store.entry) config.now) order.number (show_of show.entry) (V.watched watch.new) output.old output.new undone) }
+    ensures fault { IfErr result (λ e. UpdateEnds (F.holds files.now) (source_of (stores_in (T.is_known stores.now) (T.files stores.now)) (option_map (λ p. p.now) store.entry) config.now) order.number (show_of show.entry) (V.refuses watch.old) (S.lacks wires.old folder.now) e (V.watched watch.new) output.old output.new) }
     ensures untouched { IfErr result (λ e. (watch.new ≡ watch.old) ⊎ IsUnwritten e (V.watched watch.new).fault) }
     ensures unopened { IfErr result (λ e. TellsStore e → (watch.new ≡ watch.old) × (wires.new ≡ wires.old)) }
 {
@@ -370,7 +370,7 @@ pub fn update_files<
         Ok(config) => config,
         Err(fault) => return Err(fault),
     };
-    if !is_numbered(paths.len(), number) {
+    if !is_numbered(paths.len(), order.number) {
         return Err(RunFault::NoPackage);
     }
     let contents = match package_files(alloc, files, paths.as_slice()) {
@@ -386,18 +386,7 @@ pub fn update_files<
             return Err(RunFault::Memory);
         };
         match update_new(
-            alloc,
-            files,
-            config,
-            paths.as_slice(),
-            &mut world,
-            number,
-            folder,
-            roughness,
-            show,
-            wires,
-            watch,
-            output,
+            alloc, files, config, &paths, &mut world, order, folder, show, wires, watch, output,
         ) {
             Ok(undone) => return Ok(undone),
             Err(fault) => return Err(fault),
@@ -420,18 +409,7 @@ pub fn update_files<
         return Err(RunFault::Memory);
     };
     match update_new(
-        alloc,
-        files,
-        config,
-        paths.as_slice(),
-        &mut world,
-        number,
-        folder,
-        roughness,
-        show,
-        wires,
-        watch,
-        output,
+        alloc, files, config, &paths, &mut world, order, folder, show, wires, watch, output,
     ) {
         Ok(undone) => Ok(undone),
         Err(fault) => Err(fault),

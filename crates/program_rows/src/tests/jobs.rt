@@ -9,8 +9,8 @@ use fw_setup::SystemStores;
 use fw_world::{Step, World};
 use fwupd_base::Form;
 use fwupd_jobs::{
-    FileFault, FileIdentity, Files, Order, Output, RunFault, Show, TraceForm, Watch, WatchFault,
-    Wires, plan_file, update_checked,
+    Beginning, FileFault, FileIdentity, Files, Order, Output, RunFault, Show, TraceForm, Watch,
+    WatchFault, Wires, plan_file, update_checked,
 };
 use mctp_wire::Unit;
 use std::alloc::Global;
@@ -36,6 +36,13 @@ impl<'a> Files for MemFiles<'a> {
             }
         }
         Err(FileFault::Unreadable)
+    }
+
+    fn beginning(&self, alloc: Global, path: &str) -> Result<Beginning, FileFault> {
+        match self.contents(alloc, path) {
+            Ok(bytes) => Ok(Beginning::of(bytes)),
+            Err(fault) => Err(fault),
+        }
     }
 
     fn identity(&self, path: &str) -> Option<FileIdentity> {

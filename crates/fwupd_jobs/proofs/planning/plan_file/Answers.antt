@@ -1,7 +1,7 @@
-use Rattle.std.proofs.Common.{map, rules}
+use Rattle.std.proofs.Common.{inr, map, refl, rules}
 use Rattle.std.specs.Prelude.{string_bytes}
 use Rattle.fwupd_jobs.proofs.Foretold.{foretold, package_there, plan_breaks}
-use Rattle.fwupd_jobs.proofs.Packed.{packed_slice}
+use Rattle.fwupd_jobs.proofs.Packed.{numbered_fails, or_later, packed_slice}
 use Rattle.fwupd_jobs.proofs.planning.plan_file.Goals as goal
 
 pub packages_in-requires : goal.packages_in-requires
@@ -35,3 +35,13 @@ unreachable-requires g c =
     package_there (g.F.Files.holds c.args.files.now) c.args.number c.len.result c.as_slice.result.now c.in-Ok-package_files.contents.items c.as_slice-2.result.now c.in-Ok-packages_in.packages.items
     c.as_slice-3.result.now c.in-Ok-package_files.ensures.packed c.as_slice-2.ensures.value c.in-Ok-packages_in.ensures.is c.as_slice-3.ensures.value (search rules)
     (search rules) (search rules) (rw c.in_default.is at c.numbered.ensures.none)
+
+pub returns-in-Err-package_files-clause-fault : goal.returns-in-Err-package_files-clause-fault
+returns-in-Err-package_files-clause-fault g c =
+    inr (
+      or_later (
+          numbered_fails (g.F.Files.holds c.args.files.now) c.args.config.now c.args.number c.in-Ok.config c.as_slice.result.now c.in-Err-package_files.fault c.in-Ok.ensures.says c.as_slice.ensures.value
+          (c.if-not-is_numbered.ensures.there refl).0 (search rules) c.in-Err-package_files.ensures.fault
+          ),
+      refl,
+    )

@@ -1,9 +1,9 @@
-use Rattle.std.proofs.Common.{map, subst, sym}
+use Rattle.std.proofs.Common.{◌≡◌, ◌∙◌, map, subst, sym}
 use Rattle.fw_script.specs.ScheduleLines.{all_steps}
 use Rattle.fw_script.specs.Seen.{device_of}
 use Rattle.fw_world.specs.Headline.{new_world}
 use Rattle.fw_setup.specs.Nodes.{nodes_made}
-use Rattle.fwupd_jobs.specs.Replayed.{Leaves}
+use Rattle.fwupd_jobs.specs.Replayed.{Leaves, taken_of}
 use Rattle.fwupd_jobs.proofs.Told.{replayed_by}
 use Rattle.fwupd_jobs.proofs.replaying.replayed.Goals.{in-Err, in-Ok}
 use Rattle.fwupd_jobs.proofs.replaying.replayed.Goals as goal
@@ -17,3 +17,11 @@ returns-clause-replayed g c =
       | in-Err h ↦ subst (λ f. Leaves c.in_ok-world.world (all_steps c.args.lines.now) f c.replay_lines.new.world) (sym h.fault-is) h.in-Err.ensures.stopped
     ])
     c.in_ok-report.ensures
+
+pub returns-clause-each : goal.returns-clause-each
+returns-clause-each g c traced none =
+    c.end-watched.ensures.seen
+    ∙ (elim c.match-replay_lines.branch [
+      | in-Ok h ↦ subst (λ f. (g.V.Watch.watched c.replay_lines.new.watch).seen ≡ taken_of (all_steps c.args.lines.now) f) (sym h.fault-is) (h.in-Ok.ensures.seen (c.is_some.ensures ∙ traced) none)
+      | in-Err h ↦ subst (λ f. (g.V.Watch.watched c.replay_lines.new.watch).seen ≡ taken_of (all_steps c.args.lines.now) f) (sym h.fault-is) (h.in-Err.ensures.seen_before (c.is_some.ensures ∙ traced) none)
+    ])

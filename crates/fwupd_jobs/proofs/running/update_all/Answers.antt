@@ -4,7 +4,7 @@ use Rattle.fw_edge.specs.Ledgers.{AllSent, packet_counts}
 use Rattle.fw_world.specs.Moments.{added}
 use Rattle.fw_edge.proofs.Sending.{sent_none, sent_on}
 use Rattle.fwupd_jobs.proofs.Happened.{kept_on, kept_same}
-use Rattle.fwupd_jobs.proofs.Noted.{none_driven, run_begun, run_noted, run_still}
+use Rattle.fwupd_jobs.proofs.Noted.{none_driven, run_begun, run_broken, run_noted, run_still}
 use Rattle.fwupd_jobs.proofs.Started.{counted_alike, none_unwritten, seen_next, turned_apart, unwritten_by, updates_more, updates_none, updates_off, updates_reached, updates_seen, updates_seen_off, watched_apart}
 use Rattle.fw_edge.specs.declared.driving.EdgeFault.TheVariants as edges
 use Rattle.fwupd_jobs.proofs.running.update_all.Goals as goal
@@ -153,3 +153,14 @@ pub returns-then-driven-eq0-clause-noted : goal.returns-then-driven-eq0-clause-n
 returns-then-driven-eq0-clause-noted g c =
     run_still c.args.world.now c.loop.world c.drive.new.world _ _ c.loop.invariant.recorded
     (none_driven c.in-Ok-drive.driven.turns c.loop.world c.loop.steps.items _ c.drive.new.world c.drive.new.steps.items _ c.in-Ok-drive.driven.foreign c.if-driven-eq0.true c.in-Ok-drive.ensures.done.drove)
+
+pub returns-in-Err-clause-noted_still : goal.returns-in-Err-clause-noted_still
+returns-in-Err-clause-noted_still g c none =
+    run_broken c.args.world.now c.start_all-started.new.world (g.V.Watch.watched c.args.watch.now).recording (g.V.Watch.watched c.note-noted.new.self).recording c.start_all-started.new.steps.items c.as_slice.result.now
+    c.note-noted.result (g.V.Watch.watched c.note-noted.new.self).fault c.as_slice.ensures.value c.start_all-started.ensures.run c.note-noted.ensures.noted c.note-noted.ensures.err none
+
+pub returns-in-Err-drive-clause-noted_still : goal.returns-in-Err-drive-clause-noted_still
+returns-in-Err-drive-clause-noted_still g c none =
+    run_noted c.schedules_read_back.ensures.portions c.args.world.now c.loop.world c.drive.new.world (g.V.Watch.watched c.args.watch.now).recording (g.V.Watch.watched c.loop.watch).recording
+    (g.V.Watch.watched c.broken_off.new.watch).recording c.loop.steps.items c.drive.new.steps.items c.as_slice-in-Err-drive.result.now c.loop.invariant.recorded c.loop.invariant.none c.drive.ensures.drives.drives
+    c.as_slice-in-Err-drive.ensures.value (c.broken_off.ensures.noted none)

@@ -2,7 +2,7 @@ use Rattle.std.proofs.Common.{refl, subst, sym, ◌∙◌}
 use Rattle.fwupd_jobs.specs.Running.{StepsSeen}
 use Rattle.fw_edge.specs.declared.driving.EdgeFault.TheVariants as edges
 use Rattle.fwupd_jobs.proofs.Happened.{kept_same}
-use Rattle.fwupd_jobs.proofs.Noted.{recorded_whole}
+use Rattle.fwupd_jobs.proofs.Noted.{none_before, recorded_whole, well_ended}
 use Rattle.fwupd_jobs.proofs.Started.{unwritten_by, unwritten_still, update_caused, watched_apart}
 use Rattle.fwupd_jobs.proofs.running.update_watched.Goals as goal
 
@@ -34,3 +34,11 @@ pub returns-in-Ok-watched-clause-history : goal.returns-in-Ok-watched-clause-his
 returns-in-Ok-watched-clause-history g c h =
     kept_same (g.V.Watch.watched c.update_all-end.new.watch).history (g.V.Watch.watched c.end-watched.new.self).history c.update_all-end.new.world.history c.update_all-end.new.world.history c.end-watched.ensures.history refl
     (c.in-Ok.ensures.history h)
+
+pub returns-in-Err-clause-recorded_still : goal.returns-in-Err-clause-recorded_still
+returns-in-Err-clause-recorded_still g c none new =
+    recorded_whole c.schedules_read_back.ensures.read c.args.world.now c.update_all-end.new.world (g.V.Watch.watched c.args.watch.now).recording (g.V.Watch.watched c.update_all-end.new.watch).recording
+    (g.V.Watch.watched c.end-watched.new.self).recording
+    (c.in-Err.ensures.noted_still (none_before c.end-watched.result (g.V.Watch.watched c.update_all-end.new.watch).fault (g.V.Watch.watched c.end-watched.new.self).fault c.end-watched.ensures.first c.end-watched.ensures.err none))
+    (well_ended c.end-watched.result (g.V.Watch.watched c.end-watched.new.self).fault _ c.end-watched.ensures.err none c.end-watched.ensures.closed)
+    new

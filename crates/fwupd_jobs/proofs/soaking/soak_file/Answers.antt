@@ -1,7 +1,7 @@
-use Rattle.std.proofs.Common.{ap, inl, inr, map, refl}
+use Rattle.std.proofs.Common.{ap, inl, inr, map, refl, rules}
 use Rattle.std.specs.Prelude.{option_map, string_bytes}
 use Rattle.fw_script.specs.Seen.{config_seen}
-use Rattle.fwupd_jobs.proofs.Packed.{packed_slice}
+use Rattle.fwupd_jobs.proofs.Packed.{numbered_fails, or_later, packed_slice}
 use Rattle.fwupd_jobs.proofs.Soakings.{ends_broken, ends_clean, ends_wrong, soaks_so, unmapped}
 use Rattle.fwupd_jobs.proofs.soaking.soak_file.Goals as goal
 
@@ -50,3 +50,13 @@ returns-clause-fault g c =
     c.in-Ok-packages_in.packages.items c.as_slice-4.result.now c.as_slice-3.result.now c.args.order.runs c.in-Ok-soak.soaked.summary (option_map (λ k. k.items) c.in-Ok-soak.soaked.kept)
     c.in-Ok.ensures.says c.as_slice.ensures.value c.in-Ok-package_files.ensures.packed c.as_slice-2.ensures.value c.in-Ok-packages_in.ensures.is c.as_slice-4.ensures.value
     c.as_slice-3.ensures.value c.in-Ok-soak.ensures.soaked) (rw c.in-Ok-summary_text.ensures at (rw c.deref.ensures.value at c.in-Ok-write.ensures.ok))
+
+pub returns-in-Err-package_files-clause-fault : goal.returns-in-Err-package_files-clause-fault
+returns-in-Err-package_files-clause-fault g c =
+    inr (inr (
+      or_later (
+          numbered_fails (g.F.Files.holds c.args.files.now) c.args.config.now 1 c.in-Ok.config c.as_slice.result.now c.in-Err-package_files.fault c.in-Ok.ensures.says c.as_slice.ensures.value
+          (c.if-not-is_numbered.ensures.there refl).0 (search rules) c.in-Err-package_files.ensures.fault
+          ),
+      refl,
+    ))

@@ -1,6 +1,8 @@
 use Rattle.std.proofs.Common.{◌≡◌, ◌⊎◌, ◌∙◌, arith, rules, subst, sym, true}
 use Rattle.fwupd_jobs.specs.declared.faults.RunFault.TheVariants as faults
-use Rattle.fwupd_jobs.proofs.Started.{all_next, linked_all, linked_next, unlinked_at}
+use Rattle.rand_pcg.specs.Lcg.{increment_of, started}
+use Rattle.rand_pcg.specs.Pcg.{multiplier_64}
+use Rattle.fwupd_jobs.proofs.Started.{linked_all, linked_next, unlinked_at}
 use Rattle.fwupd_jobs.proofs.updating.open_all.Goals as goal
 
 pub returns-in-Err-clause-fault : goal.returns-in-Err-clause-fault
@@ -12,12 +14,14 @@ pub loop-place-preserved : goal.loop-place-preserved
 loop-place-preserved g c = record {
   count = search rules;
   each =
-      linked_next (λ unit device link. g.S.Wires.is_to unit c.args.folder.now device link.link) c.args.world.now.sites c.loop-place.links.items c.push.new.self.items c.new.result c.loop-place.place c.eid.result c.unit.result c.in-Some.node.now
-      (sym (rw c.in-Some.is at c.device_at.ensures)) c.unit.ensures c.eid.ensures.eid (subst (λ link. g.S.Wires.is_to c.unit.result c.args.folder.now c.eid.result link ≡ true) (sym c.new.ensures.link) c.in-Ok.ensures.to) c.in-Ok-push.ensures.items c.loop-place.invariant.each;
-  rough = rw c.in-Ok-push.ensures.items (all_next (λ link. link.roughness ≡ c.args.roughness) c.loop-place.links.items c.new.result c.loop-place.invariant.rough c.new.ensures.roughness);
+      linked_next (λ unit device link. (g.S.Wires.is_to unit c.args.folder.now device link.link ≡ true)
+      × ((link.roughness ≡ c.args.roughness) × (link.generator ≡ started 64 multiplier_64 c.args.roughness.seed (increment_of 64 device)))) c.args.world.now.sites c.loop-place.links.items c.push.new.self.items c.new.result c.loop-place.place c.eid.result c.unit.result c.in-Some.node.now
+      (sym (rw c.in-Some.is at c.device_at.ensures)) c.unit.ensures c.eid.ensures.eid
+      (subst (λ link. g.S.Wires.is_to c.unit.result c.args.folder.now c.eid.result link ≡ true) (sym c.new.ensures.link) c.in-Ok.ensures.to, (c.new.ensures.roughness, search rules)) c.in-Ok-push.ensures.items c.loop-place.invariant.each;
   same = c.open.ensures.same ∙ c.loop-place.invariant.same;
 }
 
 pub returns-clause-each : goal.returns-clause-each
 returns-clause-each g c =
-    linked_all (λ unit device link. g.S.Wires.is_to unit c.args.folder.now device link.link) c.args.world.now.sites c.loop-place.links.items c.loop-place.place (omega arith) c.loop-place.invariant.each
+    linked_all (λ unit device link. (g.S.Wires.is_to unit c.args.folder.now device link.link ≡ true)
+    × ((link.roughness ≡ c.args.roughness) × (link.generator ≡ started 64 multiplier_64 c.args.roughness.seed (increment_of 64 device)))) c.args.world.now.sites c.loop-place.links.items c.loop-place.place (omega arith) c.loop-place.invariant.each

@@ -8,9 +8,9 @@ use Rattle.fwupd_jobs.proofs.updating.update_new.Goals as goal
 
 pub returns-in-Err-clause-fault : goal.returns-in-Err-clause-fault
 returns-in-Err-clause-fault g c source named path same =
-    unbegun (g.F.Files.holds c.args.files.now) source c.args.number (show_of c.args.show) (g.V.Watch.refuses c.args.watch.now) (g.S.Wires.lacks c.args.wires.now c.args.folder.now) c.in-Err.fault
+    unbegun (g.F.Files.holds c.args.files.now) source c.args.order.number (show_of c.args.show) (g.V.Watch.refuses c.args.watch.now) (g.S.Wires.lacks c.args.wires.now c.args.folder.now) c.in-Err.fault
     (g.V.Watch.watched c.begin_apart.new.watch) c.args.output.now
-    (barred_by (g.F.Files.holds c.args.files.now) source c.args.number (show_of c.args.show) (g.V.Watch.refuses c.args.watch.now) c.in-Err.fault (g.V.Watch.watched c.begin_apart.new.watch) c.args.world.now
+    (barred_by (g.F.Files.holds c.args.files.now) source c.args.order.number (show_of c.args.show) (g.V.Watch.refuses c.args.watch.now) c.in-Err.fault (g.V.Watch.watched c.begin_apart.new.watch) c.args.world.now
     named c.args.config.now (map (λ p. string_bytes p) c.args.packages.now) path same c.in-Err.ensures.fault)
 
 pub returns-in-Err-clause-stores : goal.returns-in-Err-clause-stores
@@ -21,12 +21,12 @@ pub returns-in-Ok-update_over-clause-ok : goal.returns-in-Ok-update_over-clause-
 returns-in-Ok-update_over-clause-ok g c source named path same = record {
   world = c.args.world.now;
   begins =
-      watched_by (g.F.Files.holds c.args.files.now) source c.args.number (show_of c.args.show) c.args.world.now named c.args.config.now (map (λ p. string_bytes p) c.args.packages.now) path same
+      watched_by (g.F.Files.holds c.args.files.now) source c.args.order.number (show_of c.args.show) c.args.world.now named c.args.config.now (map (λ p. string_bytes p) c.args.packages.now) path same
       c.in-Ok.ensures.apart;
   shown = c.update_over.ensures.same ∙ c.in-Ok.ensures.shows;
   left = c.update_over.new.world;
   updated = c.in-Ok-update_over.ensures.updated;
-  promised = safe_reached c.args.number c.args.world.now c.update_over.new.world c.packets_are_safe.ensures.law c.requires c.update_over.ensures.reached;
+  promised = safe_reached c.args.order.number c.args.world.now c.update_over.new.world c.packets_are_safe.ensures.law c.requires c.update_over.ensures.reached;
   seen = c.in-Ok-update_over.ensures.seen;
   turns = c.in-Ok-update_over.ensures.turns c.in-Ok.ensures.anew.0;
   none_lost = c.in-Ok-update_over.ensures.none_lost ∙ c.in-Ok.ensures.anew.1;
@@ -41,18 +41,19 @@ returns-in-Ok-update_over-clause-ok g c source named path same = record {
 
 pub returns-in-Err-update_over-clause-fault : goal.returns-in-Err-update_over-clause-fault
 returns-in-Err-update_over-clause-fault g c source named path same =
-    update_ends (g.F.Files.holds c.args.files.now) source c.args.number (show_of c.args.show) (g.V.Watch.refuses c.args.watch.now) (g.S.Wires.lacks c.args.wires.now c.args.folder.now) c.args.world.now
+    update_ends (g.F.Files.holds c.args.files.now) source c.args.order.number (show_of c.args.show) (g.V.Watch.refuses c.args.watch.now) (g.S.Wires.lacks c.args.wires.now c.args.folder.now) c.args.world.now
     c.update_over.new.world c.in-Err-update_over.fault (g.V.Watch.watched c.update_over.new.watch) c.args.output.now c.update_over.new.output
-    (watched_by (g.F.Files.holds c.args.files.now) source c.args.number (show_of c.args.show) c.args.world.now named c.args.config.now (map (λ p. string_bytes p) c.args.packages.now) path same
+    (watched_by (g.F.Files.holds c.args.files.now) source c.args.order.number (show_of c.args.show) c.args.world.now named c.args.config.now (map (λ p. string_bytes p) c.args.packages.now) path same
     c.in-Ok.ensures.apart)
     (c.update_over.ensures.same ∙ c.in-Ok.ensures.shows)
     c.update_over.ensures.reached
-    (safe_reached c.args.number c.args.world.now c.update_over.new.world c.packets_are_safe.ensures.law c.requires c.update_over.ensures.reached)
+    (safe_reached c.args.order.number c.args.world.now c.update_over.new.world c.packets_are_safe.ensures.law c.requires c.update_over.ensures.reached)
     (c.update_over.ensures.sees c.in-Ok.ensures.anew.0)
     c.in-Err-update_over.ensures.lost
+    (λ broken none. c.in-Err-update_over.ensures.recorded_still broken none c.in-Ok.ensures.recording)
     c.in-Err-update_over.ensures.fault
 
 pub returns-in-Err-update_over-clause-stores : goal.returns-in-Err-update_over-clause-stores
 returns-in-Err-update_over-clause-stores g c =
-    driven_of_none c.args.number c.args.show.form (g.S.Wires.lacks c.args.wires.now c.args.folder.now) c.args.world.now c.update_over.new.world c.in-Err-update_over.fault (g.V.Watch.watched c.update_over.new.watch)
+    driven_of_none c.args.order.number c.args.show.form (g.S.Wires.lacks c.args.wires.now c.args.folder.now) c.args.world.now c.update_over.new.world c.in-Err-update_over.fault (g.V.Watch.watched c.update_over.new.watch)
     c.args.output.now c.update_over.new.output c.in-Err-update_over.ensures.fault

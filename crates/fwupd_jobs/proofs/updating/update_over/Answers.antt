@@ -5,11 +5,11 @@ use Rattle.fwupd_jobs.proofs.updating.update_over.Goals as goal
 
 pub returns-in-Err-clause-sees : goal.returns-in-Err-clause-sees
 returns-in-Err-clause-sees g c none =
-    subst (StepsSeen c.args.number c.args.world.now c.args.world.now) (sym none) (begun_seen c.args.number c.args.world.now c.args.world.now 0 (begun_none c.args.number c.args.world.now))
+    subst (StepsSeen c.args.order.number c.args.world.now c.args.world.now) (sym none) (begun_seen c.args.order.number c.args.world.now c.args.world.now 0 (begun_none c.args.order.number c.args.world.now))
 
 pub returns-in-Err-update_told-clause-unwritten : goal.returns-in-Err-update_told-clause-unwritten
 returns-in-Err-update_told-clause-unwritten g c =
-    caused_unwritten c.args.number c.args.world.now c.update_told.new.world c.in-Err-update_told.fault (g.V.Watch.watched c.update_told.new.watch) c.in-Err-update_told.ensures.fault
+    caused_unwritten c.args.order.number c.args.world.now c.update_told.new.world c.in-Err-update_told.fault (g.V.Watch.watched c.update_told.new.watch) c.in-Err-update_told.ensures.fault
 
 pub returns-in-Err-write_report-clause-fault : goal.returns-in-Err-write_report-clause-fault
 returns-in-Err-write_report-clause-fault g c = elim c.in-Err-write_report.ensures.fault [

@@ -1,4 +1,6 @@
-use Rattle.std.proofs.Common.{inl, inr, subst, sym}
+use Rattle.std.proofs.Common.{inl, inr, subst, sym, ◌∙◌}
+use Rattle.std.specs.Prelude.{IfSome}
+use Rattle.fwupd_jobs.specs.Recordings.{IsRecorded}
 use Rattle.fwupd_jobs.specs.Running.{StepsSeen}
 use Rattle.fwupd_jobs.proofs.Started.{caused_still, lost_told}
 use Rattle.fwupd_jobs.proofs.updating.update_told.Goals as goal
@@ -17,3 +19,8 @@ returns-in-Err-clause-fault g c = elim c.in-Err.ensures.fault [
 pub returns-in-Err-clause-sees : goal.returns-in-Err-clause-sees
 returns-in-Err-clause-sees g c none =
     subst (StepsSeen c.args.number c.args.world.now c.update_watched.new.world) (sym c.lose_failed.ensures.seen) (c.update_watched.ensures.sees none)
+
+pub returns-in-Err-clause-recorded_still : goal.returns-in-Err-clause-recorded_still
+returns-in-Err-clause-recorded_still g c none new =
+    subst (λ r. IfSome r (IsRecorded c.args.world.now c.update_watched.new.world)) (sym c.lose_failed.ensures.recording)
+    (c.in-Err.ensures.recorded_still (sym c.lose_failed.ensures.fault ∙ none) new)
