@@ -134,7 +134,7 @@ impl Wires<StreamLink<UnixStream>> for CutWires {
     }
 }
 
-/// Counts the turns that it sees, and can't tell of the one of this number. It begins with each file but that of the path "/".
+/// Counts the turns that it sees, and can't tell of the one of this number where it is to tell of packets. It begins with each file but that of the path "/".
 #[derive(Drop)]
 pub struct Counter {
     is_quiet: bool,
@@ -216,7 +216,7 @@ impl Watch for Counter {
 
     fn see<B: Bank + Drop>(&mut self, _world: &World<'_, B>) -> Result<(), WatchFault> {
         self.turns = self.turns.saturating_add(1);
-        if self.turns == self.broken && self.fault.is_none() {
+        if self.traced.is_some() && self.turns == self.broken && self.fault.is_none() {
             self.fault = Some(WatchFault::Unwritten);
         }
         self.outcome()
@@ -396,7 +396,7 @@ fn an_update_is_reported_turn_by_turn(rt: HostRuntime) -> Result<(), Fail> {
             opened: 0,
             closed,
         };
-        let (text, seen, lost) = updated(&rt, config, &package, None, &mut wires, broken)?;
+        let (text, seen, lost) = updated(&rt, config, &package, Some("t"), &mut wires, broken)?;
         assert!(rt; text.starts_with(begins), "{turns} {}", text.escape_ascii());
         assert!(rt; text.ends_with(ends));
         assert!(rt; seen == turns && lost.is_none());
