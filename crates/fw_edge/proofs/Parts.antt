@@ -20,11 +20,11 @@ frame_is_no_step e is other = absurd (cc)
 
 -- a packet isn't taken
 pub stopped_refused : {A : Type 0} (t : A → Tally) (taken gave : A → EndsOf) (e : EdgeFault) (w : WorldOf) (ss : List Step) (written : List ℕ) (olds news : List A) → LinksRefused t e olds news
-    → PartStopped t taken gave (RoundStops (eids_of w.sites)) e w ss written olds w ss news
+    → PartStopped t taken gave (RoundStops e (eids_of w.sites)) e w ss written olds w ss news
 stopped_refused t taken gave e w ss written olds news h = record {
   drives = drives_none w ss;
   no_tick = refl;
-  stops_so = inl (refl, refl);
+  stops_so = inl (h.is, refl, refl);
   fault = frame_is_no_step e h.is;
   failed = told_at e (λ l. (t l).failures) olds news h.failed;
 }
@@ -32,7 +32,7 @@ stopped_refused t taken gave e w ss written olds news h = record {
 -- an end gives no answer, behind the writing
 pub stopped_reading : {A : Type 0} (t : A → Tally) (taken gave : A → EndsOf) (e : EdgeFault) (w v : WorldOf) (before after : List Step) (written : List ℕ) (olds mids news : List A)
     → map (λ l. (t l).failures) mids ≡ map (λ l. (t l).failures) olds → RoundStopped t e w before mids v after news
-    → PartStopped t taken gave (RoundStops (eids_of w.sites)) e w before written olds v after news
+    → PartStopped t taken gave (RoundStops e (eids_of w.sites)) e w before written olds v after news
 stopped_reading t taken gave e w v before after written olds mids news kept h = record {
   drives = h.drives;
   no_tick = h.no_tick;

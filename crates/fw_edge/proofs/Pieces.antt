@@ -1,5 +1,5 @@
 -- What is read or written piece by piece.
-use Rattle.std.proofs.Common.{◌≡◌, ◌≤◌, ◌+◌, ◌-◌, ℕ, List, length, take, drop, sym, subst, arith, Option}
+use Rattle.std.proofs.Common.{◌≡◌, ◌≢◌, ◌<◌, ◌≤◌, ◌+◌, ◌-◌, ℕ, List, length, take, drop, sym, subst, arith, Option}
 use Rattle.std.proofs.lemmas.List.{take_all, length-drop}
 use Rattle.std.proofs.Math.Seq.{take-add}
 use Rattle.std.specs.Io.KnownBytes.{Appends}
@@ -9,8 +9,8 @@ use Rattle.std.proofs.KnownBytes.{Appends-trans}
 pub slice_rest : (i : ℕ) (xs : List ℕ) → take (length xs - i) (drop i xs) ≡ drop i xs
 slice_rest i xs = take_all (length xs - i) (drop i xs) (rw (length-drop i xs) (omega arith))
 
-pub within_more : (i n : ℕ) (xs : List ℕ) → i ≤ length xs → n ≤ length (take (length xs - i) (drop i xs)) → i + n ≤ length xs
-within_more i n xs le more = let here : n ≤ length xs - i = rw (slice_rest i xs, length-drop i xs) at more in omega (arith, here)
+pub below_all : (i n : ℕ) (xs : List ℕ) → i < length xs → n ≤ length (take (length xs - i) (drop i xs)) → i + n ≢ length xs → i + n < length xs
+below_all i n xs lt more other = let here : n ≤ length xs - i = rw (slice_rest i xs, length-drop i xs) at more in omega (arith, here)
 
 -- so much more of a piece is written
 pub appends_more : (a b c : Option (List ℕ)) (xs : List ℕ) (i n : ℕ) → Appends a b (take i xs) → Appends b c (take n (drop i xs)) → Appends a c (take (i + n) xs)

@@ -1,13 +1,15 @@
 -- Packets that are held back, and go out.
-use Rattle.std.proofs.Common.{◌≡◌, ◌<◌, ◌≤◌, ◌+◌, ◌++◌, ◌∙◌, ℕ, Bool, true, false, List, [], ◌∷◌, append-nil, get_or, length, map, refl, sym, ap, subst, take}
+use Rattle.std.proofs.Common.{◌≡◌, ◌<◌, ◌≤◌, ◌+◌, ◌-◌, ◌^◌, ◌++◌, ◌∙◌, ℕ, Bool, true, false, List, [], ◌∷◌, append-nil, get_or, inl, inr, length, map, refl, sym, ap, subst, take, arith}
 use Rattle.std.proofs.lemmas.Bool.{le-ltb, lt-ltb}
-use Rattle.std.proofs.lemmas.List.{map-append, take_more}
+use Rattle.std.proofs.lemmas.List.{length-append, map-append, take_more}
 use Rattle.std.proofs.lemmas.List.Elements.{filter-append}
 use Rattle.std.specs.List.{filter}
 use Rattle.fw_edge.specs.Frames.{frames_of}
-use Rattle.fw_edge.specs.Links.{EndsOf, GrowsAt}
+use Rattle.fw_edge.specs.Ledgers.{Writes}
+use Rattle.fw_edge.specs.Links.{EndsOf, GrowsAt, Rises, Sends}
 use Rattle.fw_edge.specs.Roughening.{GoOut, HeldOf, held_of, helds_of, is_due, is_late}
 use Rattle.fw_edge.specs.declared.rough.Held.{Held}
+use Rattle.fw_edge.specs.declared.tally.Tally.{Tally}
 
 -- one more goes out
 pub out_more : (hs : List HeldOf) (h : HeldOf) (old mid new : EndsOf) → GoOut hs old mid → GrowsAt h.side (frames_of (h.bytes ∷ [])) mid new → GoOut (hs ++ h ∷ []) old new
@@ -50,3 +52,36 @@ stays_next turn i hs h old new lt is far out =
     subst (λ gs. GoOut gs old new)
     (sym (ap (filter (is_due turn)) (next_of i hs h lt is) ∙ late_next turn (helds_of (take i hs)) (held_of h) (lt-ltb turn h.due far)))
     out
+
+-- so many went out, and one more does, or none
+due_count : (turn i : ℕ) (hs : List Held) (h : Held) → i < length hs → h ≡ get_or hs i h → h.due ≤ turn
+    → length (filter (is_due turn) (helds_of (take (i + 1) hs))) ≡ length (filter (is_due turn) (helds_of (take i hs))) + 1
+due_count turn i hs h lt is due =
+    ap length (ap (filter (is_due turn)) (next_of i hs h lt is) ∙ due_next turn (helds_of (take i hs)) (held_of h) (le-ltb turn h.due due))
+    ∙ length-append (filter (is_due turn) (helds_of (take i hs))) (held_of h ∷ [])
+
+late_count : (turn i : ℕ) (hs : List Held) (h : Held) → i < length hs → h ≡ get_or hs i h → turn < h.due
+    → length (filter (is_due turn) (helds_of (take (i + 1) hs))) ≡ length (filter (is_due turn) (helds_of (take i hs)))
+late_count turn i hs h lt is far =
+    ap length (ap (filter (is_due turn)) (next_of i hs h lt is) ∙ late_next turn (helds_of (take i hs)) (held_of h) (lt-ltb turn h.due far))
+
+rises_to : (n o mid new : ℕ) → (mid < 2 ^ 64 - 1 → mid ≡ o + n) → Rises mid new → new < 2 ^ 64 - 1 → new ≡ o + (n + 1)
+rises_to n o mid new so (inl e) lt = let first = so (omega arith) in omega arith
+rises_to n o mid new so (inr h) lt = absurd (let a = h.0 in let b = h.1 in omega arith)
+
+writes_one : (n : ℕ) (o mid new : Tally) → Writes n o mid → Sends mid new → Writes (n + 1) o new
+writes_one n o mid new h s = record {
+  failures = s.failures ∙ h.failures;
+  sent_rise = rises_to n o.sent mid.sent new.sent h.sent_rise s.sent;
+  asked = s.asked ∙ h.asked;
+  given = s.given ∙ h.given;
+}
+
+pub counts_next : (turn i : ℕ) (hs : List Held) (h : Held) (o mid new : Tally) → i < length hs → h ≡ get_or hs i h → h.due ≤ turn
+    → Writes (length (filter (is_due turn) (helds_of (take i hs)))) o mid → Sends mid new → Writes (length (filter (is_due turn) (helds_of (take (i + 1) hs)))) o new
+counts_next turn i hs h o mid new lt is due so s =
+    subst (λ n. Writes n o new) (sym (due_count turn i hs h lt is due)) (writes_one (length (filter (is_due turn) (helds_of (take i hs)))) o mid new so s)
+
+pub counts_still : (turn i : ℕ) (hs : List Held) (h : Held) (o mid : Tally) → i < length hs → h ≡ get_or hs i h → turn < h.due
+    → Writes (length (filter (is_due turn) (helds_of (take i hs)))) o mid → Writes (length (filter (is_due turn) (helds_of (take (i + 1) hs)))) o mid
+counts_still turn i hs h o mid lt is far so = subst (λ n. Writes n o mid) (sym (late_count turn i hs h lt is far)) so

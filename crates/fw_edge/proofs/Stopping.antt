@@ -8,6 +8,7 @@ use Rattle.fw_world.specs.declared.step.Step.{Step}
 use Rattle.fw_edge.specs.Drives.{Drives, ticks_in}
 use Rattle.fw_edge.specs.Links.{Asks, EndsOf, Fails, LinksOf, Rises}
 use Rattle.fw_edge.specs.Ledgers.{Refuses, Writes}
+use Rattle.fw_edge.specs.Hearing.{IsKnown}
 use Rattle.fw_edge.specs.Outcomes.{EndsRead, LinkStopped, StepRefused}
 use Rattle.fw_edge.specs.Turns.{Ask, AsksSome, Came, Hears, RoundStops, both_ends, eid_in, round_ends}
 use Rattle.fw_edge.specs.declared.driving.EdgeFault.{EdgeFault}
@@ -28,23 +29,24 @@ refuses_then k o m n h f = record {
 }
 
 -- no end was asked
-pub asks_none : (w : WorldOf) (ss : List Step) (device : ℕ) (side : Side) → AsksSome ((device, side) ∷ []) w ss w ss
-asks_none w ss device side = record { asks = []; failed = (device, side); rest = []; are = refl; hears = (refl, refl) }
+asks_none : (e : EdgeFault) (w : WorldOf) (ss : List Step) (device : ℕ) (side : Side) → e ≡ faults.Frame → AsksSome e ((device, side) ∷ []) w ss w ss
+asks_none e w ss device side is = record { asks = []; failed = (device, side); rest = []; are = refl; hears = (refl, refl); known = λ other. absurd (other is) }
 
 -- or some were, of more
-pub asks_wider : (ends more : List (ℕ × Side)) (w v : WorldOf) (before after : List Step) → AsksSome ends w before v after → AsksSome (ends ++ more) w before v after
-asks_wider ends more w v before after h = record {
+pub asks_wider : (e : EdgeFault) (ends more : List (ℕ × Side)) (w v : WorldOf) (before after : List Step) → AsksSome e ends w before v after → AsksSome e (ends ++ more) w before v after
+asks_wider e ends more w v before after h = record {
   asks = h.asks;
   failed = h.failed;
   rest = h.rest ++ more;
   are = ap (λ xs. xs ++ more) h.are ∙ append_assoc (map (λ a. (a.device, a.side)) h.asks) (h.failed ∷ h.rest) more;
   hears = h.hears;
+  known = h.known;
 }
 
 -- behind others
-pub asks_on : (asks : List Ask) (ends more : List (ℕ × Side)) (w u v : WorldOf) (before mid after : List Step) → map (λ a. (a.device, a.side)) asks ≡ ends → Hears w before asks u mid
-    → AsksSome more u mid v after → AsksSome (ends ++ more) w before v after
-asks_on asks ends more w u v before mid after are hears k = record {
+pub asks_on : (e : EdgeFault) (asks : List Ask) (ends more : List (ℕ × Side)) (w u v : WorldOf) (before mid after : List Step) → map (λ a. (a.device, a.side)) asks ≡ ends → Hears w before asks u mid
+    → AsksSome e more u mid v after → AsksSome e (ends ++ more) w before v after
+asks_on e asks ends more w u v before mid after are hears k = record {
   asks = asks ++ k.asks;
   failed = k.failed;
   rest = k.rest;
@@ -52,6 +54,7 @@ asks_on asks ends more w u v before mid after are hears k = record {
       ap (λ xs. ends ++ xs) k.are ∙ sym (append_assoc ends (map (λ a. (a.device, a.side)) k.asks) (k.failed ∷ k.rest))
       ∙ ap (λ xs. xs ++ k.failed ∷ k.rest) (ap (λ xs. xs ++ map (λ a. (a.device, a.side)) k.asks) (sym are) ∙ sym (map-append (λ a. (a.device, a.side)) asks k.asks));
   hears = hears_append w u v before mid after asks k.asks hears k.hears;
+  known = k.known;
 }
 
 -- in a round
@@ -60,16 +63,16 @@ round_split [] i e there = absurd (cc)
 round_split (x ∷ es) zero e there = let same : x ≡ e = cc in ap (λ n. both_ends n ++ round_ends es) same
 round_split (x ∷ es) (suc i) e there = ap (λ xs. both_ends x ++ xs) (round_split es i e there)
 
-pub asks_round : (asks : List Ask) (es : List ℕ) (i e : ℕ) (w u v : WorldOf) (before mid after : List Step) → slice_get es i ≡ Some e
-    → map (λ a. (a.device, a.side)) asks ≡ round_ends (take i es) → Hears w before asks u mid → AsksSome (both_ends e) u mid v after → AsksSome (round_ends es) w before v after
-asks_round asks es i e w u v before mid after there are hears k =
-    subst (λ xs. AsksSome xs w before v after) (sym (round_split es i e there))
-    (asks_wider (round_ends (take i es) ++ both_ends e) (round_ends (drop (suc i) es)) w v before after (asks_on asks (round_ends (take i es)) (both_ends e) w u v before mid after are hears k))
+pub asks_round : (told : EdgeFault) (asks : List Ask) (es : List ℕ) (i e : ℕ) (w u v : WorldOf) (before mid after : List Step) → slice_get es i ≡ Some e
+    → map (λ a. (a.device, a.side)) asks ≡ round_ends (take i es) → Hears w before asks u mid → AsksSome told (both_ends e) u mid v after → AsksSome told (round_ends es) w before v after
+asks_round told asks es i e w u v before mid after there are hears k =
+    subst (λ xs. AsksSome told xs w before v after) (sym (round_split es i e there))
+    (asks_wider told (round_ends (take i es) ++ both_ends e) (round_ends (drop (suc i) es)) w v before after (asks_on told asks (round_ends (take i es)) (both_ends e) w u v before mid after are hears k))
 
-pub asks_at : (i n device : ℕ) (w u v : WorldOf) (before mid after : List Step) (old new : LinksOf) → Drives w before u mid → i < length w.sites → device ≡ eid_in (slice_get u.sites i)
-    → Came i (eids_of w.sites) w before old u mid new n → AsksSome (both_ends device) u mid v after → AsksSome (round_ends (eids_of w.sites)) w before v after
-asks_at i n device w u v before mid after old new d lt is h k =
-    asks_round h.asks (eids_of w.sites) i device w u v before mid after
+pub asks_at : (e : EdgeFault) (i n device : ℕ) (w u v : WorldOf) (before mid after : List Step) (old new : LinksOf) → Drives w before u mid → i < length w.sites → device ≡ eid_in (slice_get u.sites i)
+    → Came i (eids_of w.sites) w before old u mid new n → AsksSome e (both_ends device) u mid v after → AsksSome e (round_ends (eids_of w.sites)) w before v after
+asks_at e i n device w u v before mid after old new d lt is h k =
+    asks_round e h.asks (eids_of w.sites) i device w u v before mid after
     (ap (λ es. slice_get es i) (sym (drives_eids w before u mid d)) ∙ eid_there u.sites i (let same = as_many_sites w before u mid d in omega arith) ∙ ap Some (sym is)) h.ends_are h.hears k
 
 -- the fault isn't the clock's
@@ -90,7 +93,7 @@ link_failed t e device side w ss old new is f = record {
   no_tick = refl;
   fault = frame_is_no_step e is;
   failed = (λ same. f.failures, λ other. absurd (other is));
-  some = asks_none w ss device side;
+  some = asks_none e w ss device side is;
   sent = f.sent;
   answered = 0;
   fewer = λ same. omega arith;
@@ -108,13 +111,20 @@ rises_by o n (inr h) lt = absurd (let a = h.0 in let b = h.1 in omega arith)
 
 -- or a frame that isn't handed over
 pub link_refused : {A : Type 0} (t : A → Tally) (e : EdgeFault) (device : ℕ) (side : Side) (w v : WorldOf) (before after : List Step) (gave : Bool) (old new : A) → StepRefused e w before v after
-    → Asks gave (t old) (t new) → LinkStopped t e ((device, side) ∷ []) w before old v after new
-link_refused t e device side w v before after gave old new r a = record {
+    → (bytes : List ℕ) → IsKnown w device bytes → Asks gave (t old) (t new) → LinkStopped t e ((device, side) ∷ []) w before old v after new
+link_refused t e device side w v before after gave old new r bytes known a = record {
   drives = drives_same w w v before before after (drives_none w before) r.same r.unlisted;
   no_tick = ap ticks_in r.unlisted;
   fault = memory_is_no_step e r.fault;
   failed = (λ is. memory_is_no_frame e r.fault is, λ other. a.failures);
-  some = record { asks = []; failed = (device, side); rest = []; are = refl; hears = (r.same, r.unlisted) };
+  some = record {
+    asks = [];
+    failed = (device, side);
+    rest = [];
+    are = refl;
+    hears = (r.same, r.unlisted);
+    known = λ other. (bytes, subst (λ x. IsKnown x device bytes) (sym r.same) known);
+  };
   sent = a.sent;
   answered = 1;
   fewer = λ is. memory_is_no_frame e r.fault is;
@@ -130,7 +140,7 @@ link_first t e device w v before after old new h = record {
   no_tick = h.no_tick;
   fault = h.fault;
   failed = h.failed;
-  some = asks_wider ((device, sides.Device) ∷ []) ((device, sides.Agent) ∷ []) w v before after h.some;
+  some = asks_wider e ((device, sides.Device) ∷ []) ((device, sides.Agent) ∷ []) w v before after h.some;
   sent = h.sent;
   answered = h.answered;
   fewer = λ is. (let less = h.fewer is in omega arith);
@@ -147,7 +157,7 @@ link_second t taken gave e device w u v before mid after old between new known f
   no_tick = (let first = h.goes.ticks_rise in let second = k.no_tick in omega arith);
   fault = k.fault;
   failed = rw h.reads.failures at k.failed;
-  some = asks_on h.came.asks ((device, sides.Device) ∷ []) ((device, sides.Agent) ∷ []) w u v before mid after h.came.ends_are h.came.hears k.some;
+  some = asks_on e h.came.asks ((device, sides.Device) ∷ []) ((device, sides.Agent) ∷ []) w u v before mid after h.came.ends_are h.came.hears k.some;
   sent = k.sent ∙ h.reads.sent;
   answered = 1 + k.answered;
   fewer = λ is. (let less = k.fewer is in omega arith);
@@ -167,5 +177,5 @@ link_second t taken gave e device w u v before mid after old between new known f
         sum (t old).asked (t between).asked k.answered (t new).asked last (h.reads.asked_rise (below (t between).asked k.answered (t new).asked last lt))
 
 -- the devices of a round that stops are those of the first
-pub same_stops : (w u v : WorldOf) (before mid after : List Step) (old : LinksOf) → Drives w before u mid → RoundStops (eids_of u.sites) u mid old v after → RoundStops (eids_of w.sites) u mid old v after
-same_stops w u v before mid after old d h = subst (λ es. RoundStops es u mid old v after) (drives_eids w before u mid d) h
+pub same_stops : (e : EdgeFault) (w u v : WorldOf) (before mid after : List Step) (old : LinksOf) → Drives w before u mid → RoundStops e (eids_of u.sites) u mid old v after → RoundStops e (eids_of w.sites) u mid old v after
+same_stops e w u v before mid after old d h = subst (λ es. RoundStops e es u mid old v after) (drives_eids w before u mid d) h

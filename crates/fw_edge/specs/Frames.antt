@@ -23,9 +23,10 @@ pub record PartOf (before now : Option (List ℕ)) (size : ℕ) : Type 0 where
   pub read : Consumes before now bytes
   pub part : length bytes < size
 
--- a beginning of these bytes was written
+-- a beginning of these bytes was written, and not all
 pub record BeginsOf (before now : Option (List ℕ)) (bytes : List ℕ) : Type 0 where
   pub count : ℕ
+  pub fewer : count < length bytes
   pub written : Appends before now (take count bytes)
 
 -- the most bytes of a packet in a network with this transmission unit: a head and a body
@@ -81,4 +82,4 @@ abbrev pub WriteStops : «Unit» → FrameFault → (before now : Option (List �
 WriteStops u faults.End before now packet = ⊥
 WriteStops u faults.Cut before now packet = ⊥
 WriteStops u faults.Size before now packet = IsNoSize u (length packet) × Keeps before now
-WriteStops u faults.Io before now packet = BeginsOf before now (frame_of packet)
+WriteStops u faults.Io before now packet = IsSize u (length packet) × BeginsOf before now (frame_of packet)

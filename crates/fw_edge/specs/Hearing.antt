@@ -20,3 +20,7 @@ IsLastLiving now packets bytes (Some number) =
 -- with the packets of a pair
 abbrev pub IsHeard : WorldOf → (pair : ℕ) → List ℕ → Option ℕ → Type 0
 IsHeard w pair bytes number = IsLastLiving w.now (packets_of w pair) bytes number
+
+-- one of them does
+abbrev pub IsKnown : WorldOf → (pair : ℕ) → List ℕ → Type 0
+IsKnown w pair bytes = IsHeard w pair bytes None → ⊥

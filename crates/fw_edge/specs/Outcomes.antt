@@ -41,7 +41,7 @@ pub record LinkStopped {A : Type 0} (tally : A → Tally) (told : EdgeFault) (en
   pub no_tick : ticks_in after ≡ ticks_in before
   pub fault : told ≢ faults.Step
   pub failed : IsToldOf told (tally old).failures (tally new).failures
-  pub some : AsksSome ends w before v after
+  pub some : AsksSome told ends w before v after
   pub sent : (tally new).sent ≡ (tally old).sent
   pub answered : ℕ
   pub fewer : told ≡ faults.Frame → answered < length ends
@@ -90,7 +90,7 @@ pub record RoundStopped {A : Type 0} (tally : A → Tally) (told : EdgeFault) (w
   pub no_tick : ticks_in after ≡ ticks_in before
   pub fault : told ≢ faults.Step
   pub failed : StopsAt told (λ l. (tally l).failures) olds news
-  pub some : AsksSome (round_ends (eids_of w.sites)) w before v after
+  pub some : AsksSome told (round_ends (eids_of w.sites)) w before v after
 
 -- A part of a turn did what it is to do, over links to which so many packets of each pair were written before, and so many are now. Of the
 -- frames that came so many are living packets, each of which was delivered, and so many are foreign.
@@ -114,7 +114,7 @@ pub record PartStopped {A : Type 0} (tally : A → Tally) (taken gave : A → En
 pub record TurnStopped {A : Type 0} (tally : A → Tally) (taken gave : A → EndsOf) (told : EdgeFault) (w : WorldOf) (before : List Step) (written : List ℕ) (olds : List A) (v : WorldOf) (after : List Step) (news : List A) : Type 0 where
   pub drives : Drives w before v after
   pub few : ticks_in after ≤ ticks_in before + 1
-  pub last : TurnStops w before (links_at written (map taken olds) (map gave olds)) v after
+  pub last : TurnStops told w before (links_at written (map taken olds) (map gave olds)) v after
   pub failed : AreToldOf told (map (λ l. (tally l).failures) olds) (map (λ l. (tally l).failures) news)
   pub stops : StopsTurn told w before v after
 

@@ -1,9 +1,9 @@
 -- What a rough link does: it passes packets on to the link below it, at once or late, once, twice or never.
-use Rattle.std.specs.Prelude.{ℕ, ◌≡◌, ◌≤◌, ◌+◌, ◌-◌, ◌^◌, ◌==◌, ◌++◌, ◌∷◌, [], Bool, false, not, ◌&&◌, nat_lt, List, length, map, min}
+use Rattle.std.specs.Prelude.{ℕ, ◌≡◌, ◌≢◌, ◌≤◌, ◌+◌, ◌-◌, ◌^◌, ◌⊎◌, ◌==◌, ◌++◌, ◌∷◌, [], Bool, false, not, ◌&&◌, nat_lt, List, length, map, min}
 use Rattle.std.specs.List.{AllByRecursion, filter}
 use Rattle.fw_edge.specs.Fates.{fate_of}
 use Rattle.fw_edge.specs.Frames.{frames_of}
-use Rattle.fw_edge.specs.Links.{EndsOf, GrowsAt}
+use Rattle.fw_edge.specs.Links.{EndsOf, GrowsAt, Rises}
 use Rattle.fw_edge.specs.declared.fates.Fate.{Fate}
 use Rattle.fw_edge.specs.declared.fates.Fate.TheVariants as fates
 use Rattle.fw_edge.specs.declared.fates.Roughness.{Roughness}
@@ -42,6 +42,19 @@ late turn waits side bytes = map (λ w. record { side = side; due = min (turn + 
 pub record PassesOn (turn : ℕ) (waits : List ℕ) (side : Side) (bytes : List ℕ) (took took_now : EndsOf) (held held_now : List HeldOf) : Type 0 where
   pub now : GrowsAt side (frames_of (at_once waits bytes)) took took_now
   pub later : held_now ≡ held ++ late turn waits side bytes
+
+-- A copy of a packet isn't passed on: the link below refuses one that isn't late, and counts that; or there is no room to hold one back.
+pub record IsRefused (wait : ℕ) (failures failures_now held room : ℕ) : Type 0 where
+  pub failed : wait ≡ 0 → Rises failures failures_now
+  pub kept : wait ≢ 0 → failures_now ≡ failures
+  pub full : wait ≢ 0 → room ≤ held
+
+-- The copies of a packet are passed on up to one that isn't.
+abbrev pub PassesSome : (turn : ℕ) → List ℕ → Side → (bytes : List ℕ) → (failures failures_now room : ℕ) → (held held_now : List HeldOf) → Type 0
+PassesSome turn [] side bytes failures failures_now room held held_now = ⊥
+PassesSome turn (wait ∷ waits) side bytes failures failures_now room held held_now =
+    (IsRefused wait failures failures_now (length held_now) room × (held_now ≡ held))
+    ⊎ PassesSome turn waits side bytes failures failures_now room (held ++ late turn (wait ∷ []) side bytes) held_now
 
 -- A turn, as a link sees it, ends where its ends are asked one after the other, the device's first, and neither gives a frame.
 abbrev pub ends_turn : Side → (gave is_idle : Bool) → Bool

@@ -15,7 +15,7 @@ use Rattle.fw_edge.specs.Drives.{all_over, delivers_in}
 use Rattle.fw_edge.specs.declared.driving.EdgeFault.{EdgeFault}
 use Rattle.fw_edge.specs.declared.driving.EdgeFault.TheVariants as faults
 use Rattle.fw_edge.specs.Frames.{frames_of}
-use Rattle.fw_edge.specs.Hearing.{IsHeard}
+use Rattle.fw_edge.specs.Hearing.{IsHeard, IsKnown}
 use Rattle.fw_edge.specs.Links.{EndsOf, GrowsAt, LinksOf}
 use Rattle.fw_edge.specs.Outgoing.{WritesOut}
 
@@ -188,27 +188,29 @@ pub record TakesSome (w : WorldOf) (before : List Step) (ss : List Step) (v : Wo
   pub are : ss ≡ taken ++ refused ∷ rest
   pub takes : TakesAll w before taken v after
 
--- Some of these ends of links are asked, in this order, up to one that gives no answer, or a frame that can't be handed over.
-pub record AsksSome (ends : List (ℕ × Side)) (w : WorldOf) (before : List Step) (v : WorldOf) (after : List Step) : Type 0 where
+-- Some of these ends of links are asked, in this order, up to one that gives no answer, or whose frame, a living packet of the pair, can't
+-- be handed over.
+pub record AsksSome (told : EdgeFault) (ends : List (ℕ × Side)) (w : WorldOf) (before : List Step) (v : WorldOf) (after : List Step) : Type 0 where
   pub asks : List Ask
   pub failed : ℕ × Side
   pub rest : List (ℕ × Side)
   pub are : ends ≡ map (λ a. (a.device, a.side)) asks ++ failed ∷ rest
   pub hears : Hears w before asks v after
+  pub known : told ≢ faults.Frame → (bytes : List ℕ) × IsKnown v failed.0 bytes
 
 -- A round stops: where a packet isn't taken, so that no end is asked; or at one of the ends.
-abbrev pub RoundStops : List ℕ → WorldOf → List Step → LinksOf → WorldOf → List Step → Type 0
-RoundStops es w before old v after = ((v ≡ w) × (after ≡ before)) ⊎ AsksSome (round_ends es) w before v after
+abbrev pub RoundStops : EdgeFault → List ℕ → WorldOf → List Step → LinksOf → WorldOf → List Step → Type 0
+RoundStops told es w before old v after = ((told ≡ faults.Frame) × (v ≡ w) × (after ≡ before)) ⊎ AsksSome told (round_ends es) w before v after
 
 -- The rounds of a turn stop within one, behind rounds that go on.
-pub record RoundsStop (es : List ℕ) (w : WorldOf) (before : List Step) (old : LinksOf) (v : WorldOf) (after : List Step) : Type 0 where
+pub record RoundsStop (told : EdgeFault) (es : List ℕ) (w : WorldOf) (before : List Step) (old : LinksOf) (v : WorldOf) (after : List Step) : Type 0 where
   pub rounds : ℕ
   pub mid : WorldOf
   pub steps : List Step
   pub links : LinksOf
   pub read : ℕ
   pub earlier : RoundsOn es rounds w before old mid steps links read
-  pub last : RoundStops es mid steps links v after
+  pub last : RoundStops told es mid steps links v after
 
 -- The rounds of a turn are over, and something unwritten isn't taken.
 pub record RoundsOver (es : List ℕ) (w : WorldOf) (before : List Step) (old : LinksOf) (v : WorldOf) (after : List Step) : Type 0 where
@@ -216,15 +218,15 @@ pub record RoundsOver (es : List ℕ) (w : WorldOf) (before : List Step) (old : 
   pub count : ℕ
   pub rounds : Rounds es w before old v after links count
 
-abbrev pub ExchangeStops : List ℕ → WorldOf → List Step → LinksOf → WorldOf → List Step → Type 0
-ExchangeStops es w before old v after = RoundsStop es w before old v after ⊎ RoundsOver es w before old v after
+abbrev pub ExchangeStops : EdgeFault → List ℕ → WorldOf → List Step → LinksOf → WorldOf → List Step → Type 0
+ExchangeStops told es w before old v after = RoundsStop told es w before old v after ⊎ ((told ≡ faults.Frame) × RoundsOver es w before old v after)
 
 -- A turn stops in its rounds.
-pub record StopsInRounds (w : WorldOf) (before : List Step) (old : LinksOf) (v : WorldOf) (after : List Step) : Type 0 where
+pub record StopsInRounds (told : EdgeFault) (w : WorldOf) (before : List Step) (old : LinksOf) (v : WorldOf) (after : List Step) : Type 0 where
   pub ticked : WorldOf
   pub ticked_steps : List Step
   pub tick : TakesIf w before (Some full_tick) ticked ticked_steps
-  pub stops : ExchangeStops (eids_of ticked.sites) ticked ticked_steps old v after
+  pub stops : ExchangeStops told (eids_of ticked.sites) ticked ticked_steps old v after
 
 -- Its rounds are over.
 pub record TurnsHeard (w : WorldOf) (before : List Step) (old : LinksOf) (heard : WorldOf) (heard_steps : List Step) : Type 0 where
@@ -253,10 +255,11 @@ pub record StopsInActivations (w : WorldOf) (before : List Step) (old : LinksOf)
   pub some : TakesSome judged judged_steps (all_due activation_for judged (eids_of judged.sites)) v after
 
 -- A turn stops: at its tick, so that nothing is done; or in one of its parts, of which the steps before are taken, and no others.
-abbrev pub TurnStops : WorldOf → List Step → LinksOf → WorldOf → List Step → Type 0
-TurnStops w before old v after =
-    ((v ≡ w) × (after ≡ before))
-    ⊎ (StopsInRounds w before old v after ⊎ (StopsInVerdicts w before old v after ⊎ StopsInActivations w before old v after))
+abbrev pub TurnStops : EdgeFault → WorldOf → List Step → LinksOf → WorldOf → List Step → Type 0
+TurnStops told w before old v after =
+    ((told ≢ faults.Frame) × (v ≡ w) × (after ≡ before))
+    ⊎ (StopsInRounds told w before old v after
+    ⊎ ((told ≡ faults.Memory) × (StopsInVerdicts w before old v after ⊎ StopsInActivations w before old v after)))
 
 -- A turn stops for this reason: `Step` where the clock stands at its last unit, which is looked at before all else, so that nothing is
 -- done; and another fault where it doesn't.
@@ -288,4 +291,4 @@ pub record Stopped (fault : EdgeFault) (w : WorldOf) (before : List Step) (old :
   pub turned : Turns turns w before old mid steps links count
   pub on : all_over mid ≡ false
   pub stops : StopsTurn fault mid steps v after
-  pub last : TurnStops mid steps links v after
+  pub last : TurnStops fault mid steps links v after

@@ -43,23 +43,26 @@ pub(crate) fn read_up_to<R: Read>(reader: &mut R, size: usize) -> io::Result<Raw
     Err(io::Error::from(ErrorKind::TimedOut))
 }
 
-/// Writes all these bytes.
+/// Writes all these bytes, one or more.
 ///
 /// # Errors
 /// Why the writer failed, which isn't that it was interrupted; or `WriteZero` where it takes no more bytes.
 pub(crate) fn write_whole<W: Write>(writer: &mut W, bytes: &[u8]) -> io::Result<()>
+    requires some { 1 ≤ length bytes.now }
     ensures ok { OnOk result (Appends (W.contents writer.old) (W.contents writer.new) bytes.now) }
     ensures begun { OnErr result (BeginsOf (W.contents writer.old) (W.contents writer.new) bytes.now) }
     ensures retried { IfErr result (λ e. error_kind e ≢ ErrorKind.Interrupted) }
 {
     let mut written = 0;
     for _ in 0..u64::MAX {
-        if written == bytes.len() {
-            return Ok(());
-        }
         match writer.write(&bytes[written..]) {
             Ok(0) => return Err(io::Error::from(ErrorKind::WriteZero)),
-            Ok(count) => written += count,
+            Ok(count) => {
+                written += count;
+                if written == bytes.len() {
+                    return Ok(());
+                }
+            }
             Err(error) => {
                 if error.kind() != ErrorKind::Interrupted {
                     return Err(error);

@@ -1,13 +1,14 @@
 //! A link that is bad on purpose.
 
-ghost use Rattle.std.specs.Prelude.{[], ◌∷◌, ◌≡◌, ◌+◌, ◌-◌, ◌^◌, false, true, IfOk, OnErr, OnOk, is_some, min, option_map, option_to_list};
+ghost use Rattle.std.specs.Prelude.{[], ◌∷◌, ◌≡◌, ◌≤◌, ◌+◌, ◌-◌, ◌^◌, false, true, IfOk, OnErr, OnOk, is_some, length, min, option_map, option_to_list, vec_capacity};
 ghost use Rattle.std.specs.List.{filter};
 ghost use Rattle.rand_pcg.specs.Lcg.{increment_of, started};
 ghost use Rattle.rand_pcg.specs.Pcg.{multiplier_64};
 ghost use Rattle.fw_edge.specs.Fates.{fate_of, generator_after};
 ghost use Rattle.fw_edge.specs.Frames.{frames_of};
-ghost use Rattle.fw_edge.specs.Links.{Asks, Fails, GrowsAt, Sends};
-ghost use Rattle.fw_edge.specs.Roughening.{GoOut, PassesOn, Releases, ends_turn, helds_of, idle_after, is_due, is_late, waits_of};
+ghost use Rattle.fw_edge.specs.Ledgers.{Writes};
+ghost use Rattle.fw_edge.specs.Links.{Asks, Fails, GrowsAt, Rises, RisesIf, Sends};
+ghost use Rattle.fw_edge.specs.Roughening.{GoOut, PassesOn, PassesSome, Releases, at_once, ends_turn, helds_of, idle_after, is_due, is_late, waits_of};
 
 use crate::fates::{Fate, Roughness, next_fate};
 use crate::frame::FrameFault;
@@ -59,7 +60,10 @@ fn pass_copy<L: Link>(
     wait: u32,
 ) -> Result<(), FrameFault>
     ensures passes { OnOk result (PassesOn turn (wait ∷ []) side packet.now.items (L.taken link.old) (L.taken link.new) (helds_of held.old.items) (helds_of held.new.items)) }
+    ensures counts { OnOk result (Writes (length (at_once (wait ∷ []) packet.now.items)) (L.tally link.old) (L.tally link.new)) }
     ensures gave { OnOk result (L.gave link.new ≡ L.gave link.old) }
+    ensures stops { OnErr result (PassesSome turn (wait ∷ []) side packet.now.items (L.tally link.old).failures (L.tally link.new).failures (vec_capacity held.old) (helds_of held.old.items) (helds_of held.new.items)) }
+    ensures room { vec_capacity held.old ≤ vec_capacity held.new }
 {
     if wait == 0 {
         return link.send(side, packet);
@@ -85,7 +89,9 @@ fn pass<L: Link>(
     fate: Fate,
 ) -> Result<(), FrameFault>
     ensures passes { OnOk result (PassesOn turn (waits_of fate) side packet.now.items (L.taken link.old) (L.taken link.new) (helds_of held.old.items) (helds_of held.new.items)) }
+    ensures counts { OnOk result (Writes (length (at_once (waits_of fate) packet.now.items)) (L.tally link.old) (L.tally link.new)) }
     ensures gave { OnOk result (L.gave link.new ≡ L.gave link.old) }
+    ensures stops { OnErr result (PassesSome turn (waits_of fate) side packet.now.items (L.tally link.old).failures (L.tally link.new).failures (vec_capacity held.old) (helds_of held.old.items) (helds_of held.new.items)) }
 {
     match fate {
         Fate::Lost => Ok(()),
@@ -103,7 +109,9 @@ fn pass<L: Link>(
 /// Passes on those packets that are due behind a turn.
 fn send_due<L: Link>(link: &mut L, held: &[Held], turn: u64) -> Result<(), FrameFault>
     ensures out { OnOk result (GoOut (filter (is_due turn) (helds_of held.now)) (L.taken link.old) (L.taken link.new)) }
+    ensures counts { OnOk result (Writes (length (filter (is_due turn) (helds_of held.now))) (L.tally link.old) (L.tally link.new)) }
     ensures gave { OnOk result (L.gave link.new ≡ L.gave link.old) }
+    ensures refused { OnErr result (Rises (L.tally link.old).failures (L.tally link.new).failures) }
 {
     for packet in held {
         if packet.due <= turn {
@@ -126,7 +134,10 @@ fn let_go(held: &mut Vec<Held>, turn: u64)
 /// Passes on what is held back and due behind a turn.
 fn release<L: Link>(link: &mut L, held: &mut Vec<Held>, turn: u64) -> Result<(), FrameFault>
     ensures released { OnOk result (Releases turn (L.taken link.old) (L.taken link.new) (helds_of held.old.items) (helds_of held.new.items)) }
+    ensures counts { OnOk result (Writes (length (filter (is_due turn) (helds_of held.old.items))) (L.tally link.old) (L.tally link.new)) }
     ensures gave { OnOk result (L.gave link.new ≡ L.gave link.old) }
+    ensures refused { OnErr result (Rises (L.tally link.old).failures (L.tally link.new).failures) }
+    ensures kept { OnErr result (held.new ≡ held.old) }
 {
     match send_due(link, held.as_slice(), turn) {
         Ok(()) => {}
@@ -168,7 +179,11 @@ impl<L: Link + Drop> Rough<L> {
         ensures on { ends_turn side gave self.old.is_idle ≡ false → OnOk result ((self.new.link ≡ self.old.link) × (self.new.held ≡ self.old.held) × (self.new.turn ≡ self.old.turn)) }
         ensures turn { ends_turn side gave self.old.is_idle ≡ true → OnOk result (self.new.turn ≡ min (self.old.turn + 1) (2 ^ 64 - 1)) }
         ensures released { ends_turn side gave self.old.is_idle ≡ true → OnOk result (Releases self.new.turn (L.taken self.old.link) (L.taken self.new.link) (helds_of self.old.held.items) (helds_of self.new.held.items)) }
+        ensures counts { ends_turn side gave self.old.is_idle ≡ true → OnOk result (Writes (length (filter (is_due self.new.turn) (helds_of self.old.held.items))) (L.tally self.old.link) (L.tally self.new.link)) }
         ensures gave { OnOk result (L.gave self.new.link ≡ L.gave self.old.link) }
+        ensures sound { OnErr result (ends_turn side gave self.old.is_idle ≡ true) }
+        ensures refused { OnErr result (Rises (L.tally self.old.link).failures (L.tally self.new.link).failures) }
+        ensures kept { OnErr result (self.new.held ≡ self.old.held) }
     {
         let was_idle = self.is_idle;
         self.is_idle = side == Side::Device && !gave;
@@ -191,6 +206,9 @@ impl<L: Link + Drop> Link for Rough<L> {
         ensures gave { OnOk result (L.gave self.new.link ≡ L.gave self.old.link) }
         ensures passes { OnOk result (PassesOn self.old.turn (waits_of (fate_of self.old.roughness self.old.generator)) side packet.now.items
             (L.taken self.old.link) (L.taken self.new.link) (helds_of self.old.held.items) (helds_of self.new.held.items)) }
+        ensures counts { OnOk result (Writes (length (at_once (waits_of (fate_of self.old.roughness self.old.generator)) packet.now.items)) (L.tally self.old.link) (L.tally self.new.link)) }
+        ensures stops { OnErr result (PassesSome self.old.turn (waits_of (fate_of self.old.roughness self.old.generator)) side packet.now.items (L.tally self.old.link).failures (L.tally self.new.link).failures
+            (vec_capacity self.old.held) (helds_of self.old.held.items) (helds_of self.new.held.items)) }
         ensures generator { self.new.generator ≡ generator_after self.old.generator }
         ensures same { (self.new.roughness ≡ self.old.roughness) × (self.new.turn ≡ self.old.turn) × (self.new.is_idle ≡ self.old.is_idle) }
     {
@@ -223,6 +241,11 @@ impl<L: Link + Drop> Link for Rough<L> {
         ensures turn { IfOk result (λ p. ends_turn side (is_some p) self.old.is_idle ≡ true → self.new.turn ≡ min (self.old.turn + 1) (2 ^ 64 - 1)) }
         ensures released { IfOk result (λ p. ends_turn side (is_some p) self.old.is_idle ≡ true
             → Releases self.new.turn (L.taken self.old.link) (L.taken self.new.link) (helds_of self.old.held.items) (helds_of self.new.held.items)) }
+        ensures asked { IfOk result (λ p. Rises (L.tally self.old.link).asked (L.tally self.new.link).asked) }
+        ensures given { IfOk result (λ p. RisesIf (is_some p) (L.tally self.old.link).given (L.tally self.new.link).given) }
+        ensures refused { OnErr result (Rises (L.tally self.old.link).failures (L.tally self.new.link).failures) }
+        ensures kept { OnErr result (self.new.held ≡ self.old.held) }
+        ensures sound { side ≡ Side.Device → OnErr result (self.new.turn ≡ self.old.turn) }
         ensures idle { IfOk result (λ p. self.new.is_idle ≡ idle_after side (is_some p)) }
         ensures same { (self.new.generator ≡ self.old.generator) × (self.new.roughness ≡ self.old.roughness) }
     {

@@ -1,10 +1,10 @@
 //! Rounds of a turn: what was sent goes out, and a frame is read at each end.
 
-ghost use Rattle.std.specs.Prelude.{[], ◌∷◌, ◌≡◌, ◌≤◌, ◌<◌, ◌+◌, ◌⊎◌, IfErr, IfOk, None, OnOk, length, slice_get};
+ghost use Rattle.std.specs.Prelude.{[], ◌∷◌, ◌≡◌, ◌≤◌, ◌<◌, ◌+◌, ◌⊎◌, IfErr, IfOk, None, OnErr, OnOk, length, slice_get};
 ghost use Rattle.fw_edge.specs.Links.{links_at};
 ghost use Rattle.fw_edge.specs.Turns.{Came, CameAt, ExchangeStops, Exchanged, HandsOver, RoundOf, RoundStops, Rounds, RoundsStop, both_ends, eid_in, node_at, round_ends};
 ghost use Rattle.fw_edge.specs.Drives.{Drives, DrivesCounted};
-ghost use Rattle.fw_edge.specs.Hearing.{IsHeard};
+ghost use Rattle.fw_edge.specs.Hearing.{IsHeard, IsKnown};
 ghost use Rattle.fw_edge.specs.Ledgers.{NoneFell, packet_counts};
 ghost use Rattle.fw_edge.specs.Outcomes.{EndsRead, LinkStopped, PartDone, PartStopped, RoundRead, RoundStopped, StepRefused};
 ghost use Rattle.fw_world.specs.Headline.{may_step};
@@ -92,6 +92,7 @@ fn hand_over<B: Bank + Drop>(
     ensures one { IfOk result (λ f. f.known + f.foreign ≡ 1) }
     ensures over { OnOk result (HandsOver world.old steps.old.items device end packet.now.items world.new steps.new.items) }
     ensures refused { IfErr result (λ e. StepRefused e world.old steps.old.items world.new steps.new.items) }
+    ensures known { OnErr result (IsKnown world.old device packet.now.items) }
 {
     let Some(number) = heard(world, device, packet) else {
         return Ok(Frames {
@@ -201,7 +202,7 @@ fn round<B: Bank + Drop, L: Link>(
     requires within { NoneFell written.old (packet_counts world.old.sites) }
     ensures done { IfOk result (λ f. PartDone L.tally L.taken L.gave (RoundOf (eids_of world.old.sites)) 0 32 world.old steps.old.items written.old links.old world.new steps.new.items written.new links.new f.known f.foreign) }
     ensures within { OnOk result (NoneFell written.new (packet_counts world.new.sites)) }
-    ensures stopped { IfErr result (λ e. PartStopped L.tally L.taken L.gave (RoundStops (eids_of world.old.sites)) e world.old steps.old.items written.old links.old world.new steps.new.items links.new) }
+    ensures stopped { IfErr result (λ e. PartStopped L.tally L.taken L.gave (RoundStops e (eids_of world.old.sites)) e world.old steps.old.items written.old links.old world.new steps.new.items links.new) }
     ensures links { length links.new ≡ length links.old }
     ensures written { length written.new ≡ length written.old }
 {
@@ -228,7 +229,7 @@ fn rounds<B: Bank + Drop, L: Link>(
     requires within { NoneFell written.old (packet_counts world.old.sites) }
     ensures done { IfOk result (λ f. PartDone L.tally L.taken L.gave (Rounds (eids_of world.old.sites)) 0 1055 world.old steps.old.items written.old links.old world.new steps.new.items written.new links.new f.known f.foreign) }
     ensures within { OnOk result (NoneFell written.new (packet_counts world.new.sites)) }
-    ensures stopped { IfErr result (λ e. PartStopped L.tally L.taken L.gave (RoundsStop (eids_of world.old.sites)) e world.old steps.old.items written.old links.old world.new steps.new.items links.new) }
+    ensures stopped { IfErr result (λ e. PartStopped L.tally L.taken L.gave (RoundsStop e (eids_of world.old.sites)) e world.old steps.old.items written.old links.old world.new steps.new.items links.new) }
     ensures links { length links.new ≡ length links.old }
     ensures written { length written.new ≡ length written.old }
 {
@@ -258,7 +259,7 @@ pub(crate) fn exchange<B: Bank + Drop, L: Link>(
     requires within { NoneFell written.old (packet_counts world.old.sites) }
     ensures done { IfOk result (λ f. PartDone L.tally L.taken L.gave (Exchanged (eids_of world.old.sites)) 0 1055 world.old steps.old.items written.old links.old world.new steps.new.items written.new links.new f.known f.foreign) }
     ensures all { OnOk result (written.new ≡ packet_counts world.new.sites) }
-    ensures stopped { IfErr result (λ e. PartStopped L.tally L.taken L.gave (ExchangeStops (eids_of world.old.sites)) e world.old steps.old.items written.old links.old world.new steps.new.items links.new) }
+    ensures stopped { IfErr result (λ e. PartStopped L.tally L.taken L.gave (ExchangeStops e (eids_of world.old.sites)) e world.old steps.old.items written.old links.old world.new steps.new.items links.new) }
     ensures links { length links.new ≡ length links.old }
     ensures written { length written.new ≡ length written.old }
 {

@@ -110,6 +110,7 @@ fn judge<B: Bank + Drop>(
     ensures quiet { OnOk result (SentNone world.old steps.old.items world.new steps.new.items) }
     ensures refused { IfErr result (λ e. StepRefused e world.old steps.old.items world.new steps.new.items) }
     ensures one { OnErr result (is_some (due_at verdict_for world.old (slice_get world.old.sites place)) ≡ true) }
+    ensures lacked { OnErr result (IfSome (due_at verdict_for world.old (slice_get world.old.sites place)) (λ s. LacksMemory s (vec_len steps.old) (vec_capacity steps.old) (vec_capacity steps.new))) }
 {
     let Some(node) = world.device_at(place) else {
         return Ok(());
@@ -132,6 +133,7 @@ fn activate<B: Bank + Drop>(
     ensures quiet { OnOk result (SentNone world.old steps.old.items world.new steps.new.items) }
     ensures refused { IfErr result (λ e. StepRefused e world.old steps.old.items world.new steps.new.items) }
     ensures one { OnErr result (is_some (due_at activation_for world.old (slice_get world.old.sites place)) ≡ true) }
+    ensures lacked { OnErr result (IfSome (due_at activation_for world.old (slice_get world.old.sites place)) (λ s. LacksMemory s (vec_len steps.old) (vec_capacity steps.old) (vec_capacity steps.new))) }
 {
     let Some(node) = world.device_at(place) else {
         return Ok(());

@@ -1,32 +1,32 @@
 -- A soak of the devices of a configuration, and how it ends.
-use Rattle.std.proofs.Common.{◌≡◌, ◌∙◌, ℕ, Bool, List, Ok, Option, None, Some, ap, inl, inr, map, refl, subst, sym, Vec, String, Global}
-use Rattle.std.specs.Prelude.{option_map, string_bytes}
+use Rattle.std.proofs.Common.{◌≡◌, ◌∙◌, ◌∷◌, ℕ, Bool, List, Ok, Option, None, Some, ap, inl, inr, map, refl, subst, Vec, String, Global}
+use Rattle.std.specs.List.{AllByRecursion}
+use Rattle.std.specs.Prelude.{IfSome, option_map, string_bytes}
 use Rattle.fw_package.specs.Package.{PackageText}
 use Rattle.fw_package.specs.Reading.{package_of}
 use Rattle.fw_script.specs.Configs.{config_of}
 use Rattle.fw_script.specs.Seen.{config_seen, device_of}
 use Rattle.fw_script.specs.declared.config.Config.{Config}
 use Rattle.fw_script.specs.declared.config.DeviceConfig.{DeviceConfig}
-use Rattle.fw_soak.specs.Courses.{SetupOf}
 use Rattle.fw_soak.specs.Summaries.{IsSoaked}
 use Rattle.fw_soak.specs.SummaryTexts.{summary_text}
 use Rattle.fw_soak.specs.declared.summary.Summary.{Summary}
 use Rattle.fw_world.specs.declared.step.Step.{Step}
 use Rattle.fwupd_words.specs.declared.asked.SoakOrder.{SoakOrder}
 use Rattle.fwupd_jobs.specs.Outputs.{FailsToPrint, OutputOf, Prints}
-use Rattle.fwupd_jobs.specs.Setups.{ArePacked, FileOf, Says}
-use Rattle.fwupd_jobs.specs.Soaked.{IsJudged, SoakEnds, Soaks, SoaksClean, SoaksWrong, setup_said}
+use Rattle.fwupd_jobs.specs.Setups.{ArePacked, FileOf, IsApartFrom, Says}
+use Rattle.fwupd_jobs.specs.Soaked.{IsJudged, SoakEnds, Soaks, SoaksClean, setup_said}
 use Rattle.fwupd_jobs.specs.declared.faults.RunFault.{RunFault}
 use Rattle.fwupd_jobs.specs.declared.faults.RunFault.TheVariants as faults
 use Rattle.fwupd_jobs.proofs.Packed.{packages_so, through}
 
 -- so many runs of what a configuration's file says
 pub soaks_so : (files : List ℕ → FileOf) (path : List ℕ) (config : Config) (names : List (String Global)) (contents slice : List (Vec ℕ Global)) (ps packs : List PackageText)
-    (devices : List DeviceConfig) (runs : ℕ) (sum : Summary) (kept : Option (List Step)) → Says config_of (files path) (config_seen config) → names ≡ config.packages.items
-    → ArePacked files (map (λ p. string_bytes p) names) (map (λ f. f.items) contents) → slice ≡ contents → map (λ p. Ok p) ps ≡ map (λ f. package_of f.items) slice
+    (devices : List DeviceConfig) (file : Option (List ℕ)) (runs : ℕ) (sum : Summary) (kept : Option (List Step)) → Says config_of (files path) (config_seen config) → names ≡ config.packages.items
+    → ArePacked files (map (λ p. string_bytes p) names) (map (λ f. f.items) contents) → IfSome file (λ p. AllByRecursion (IsApartFrom files p) (path ∷ map (λ s. string_bytes s) names)) → slice ≡ contents → map (λ p. Ok p) ps ≡ map (λ f. package_of f.items) slice
     → packs ≡ ps → devices ≡ config.devices.items
-    → IsSoaked (record { agent = config.agent; unit = config.unit; devices = map device_of devices; packages = packs }) runs sum kept → Soaks files path runs sum kept
-soaks_so files path config names contents slice ps packs devices runs sum kept says named packed same read lent all soaked = record {
+    → IsSoaked (record { agent = config.agent; unit = config.unit; devices = map device_of devices; packages = packs }) runs sum kept → Soaks files path file runs sum kept
+soaks_so files path config names contents slice ps packs devices file runs sum kept says named packed apart same read lent all soaked = record {
   config = config_seen config;
   packages = ps;
   says = says;
@@ -34,6 +34,7 @@ soaks_so files path config names contents slice ps packs devices runs sum kept s
       packages_so files (map (λ p. string_bytes p) config.packages.items) (map (λ f. f.items) contents) ps
       (subst (λ ns. ArePacked files (map (λ p. string_bytes p) ns) (map (λ f. f.items) contents)) named packed)
       (read ∙ ap (map (λ f. package_of f.items)) same ∙ through contents);
+  apart = subst (λ ns. IfSome file (λ p. AllByRecursion (IsApartFrom files p) (path ∷ map (λ s. string_bytes s) ns))) named apart;
   soaked =
       subst (λ qs. IsSoaked (setup_said (config_seen config) qs) runs sum kept) lent
       (subst (λ ds. IsSoaked (record { agent = config.agent; unit = config.unit; devices = map device_of ds; packages = packs }) runs sum kept) all soaked);
@@ -45,18 +46,18 @@ unmapped f None e = refl
 unmapped f (Some x) e = absurd (cc)
 
 -- none went wrong
-pub ends_clean : (files : List ℕ → FileOf) (path : List ℕ) (order : SoakOrder) (sum : Summary) (kept : Option (List Step)) (before now : OutputOf) → kept ≡ None
-    → Soaks files path order.runs sum kept → sum.violations ≡ 0 → Prints before now (summary_text sum) → SoaksClean files path order before now
-ends_clean files path order sum kept before now e h none written = record {
+pub ends_clean : (files : List ℕ → FileOf) (path : List ℕ) (order : SoakOrder) (file : Option (List ℕ)) (sum : Summary) (kept : Option (List Step)) (before now : OutputOf) → kept ≡ None
+    → Soaks files path file order.runs sum kept → sum.violations ≡ 0 → Prints before now (summary_text sum) → SoaksClean files path order file before now
+ends_clean files path order file sum kept before now e h none written = record {
   sum = sum;
-  soaks = subst (Soaks files path order.runs sum) e h;
+  soaks = subst (Soaks files path file order.runs sum) e h;
   none = none;
   written = written;
 }
 
 -- one did
 pub ends_wrong : (files : List ℕ → FileOf) (path : List ℕ) (order : SoakOrder) (file : Option (List ℕ)) (told : RunFault) (is_known : Bool) (held : List ℕ → Option (List ℕ)) (sum : Summary)
-    (kept : Option (List Step)) (before now : OutputOf) → IsJudged kept file told is_known held → Soaks files path order.runs sum kept → Prints before now (summary_text sum)
+    (kept : Option (List Step)) (before now : OutputOf) → IsJudged kept file told is_known held → Soaks files path file order.runs sum kept → Prints before now (summary_text sum)
     → SoakEnds files path order file told is_known held before now
 ends_wrong files path order file told is_known held sum None before now judged h written = absurd judged
 ends_wrong files path order file told is_known held sum (Some steps) before now judged h written =
@@ -64,7 +65,7 @@ ends_wrong files path order file told is_known held sum (Some steps) before now 
 
 -- what is said isn't written whole
 pub ends_broken : (files : List ℕ → FileOf) (path : List ℕ) (order : SoakOrder) (file : Option (List ℕ)) (told : RunFault) (is_known : Bool) (held : List ℕ → Option (List ℕ)) (sum : Summary)
-    (kept : Option (List Step)) (before now : OutputOf) → told ≡ faults.Output → Soaks files path order.runs sum kept → FailsToPrint before now (summary_text sum)
+    (kept : Option (List Step)) (before now : OutputOf) → told ≡ faults.Output → Soaks files path file order.runs sum kept → FailsToPrint before now (summary_text sum)
     → SoakEnds files path order file told is_known held before now
 ends_broken files path order file told is_known held sum kept before now is h begun =
     inr (inl (record { is = is; sum = sum; kept = kept; soaks = h; begun = begun }))

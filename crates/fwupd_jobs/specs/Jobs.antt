@@ -24,7 +24,7 @@ IsDone (jobs.Replay config schedule show) files stores read_before read_now watc
 IsDone (jobs.Run config folder order show) files stores read_before read_now watched is_known held before now = ReportsChecked files (source_of stores (option_map (λ p. p.now) show.store) config.now) order (show_of show) watched before now
 IsDone (jobs.Build spec file) files stores read_before read_now watched is_known held before now = Builds files spec.now is_known (held file.now) × (now ≡ before)
 IsDone (jobs.Sel path) files stores read_before read_now watched is_known held before now = LogIsTold (files path.now) before now
-IsDone (jobs.Soak config order file) files stores read_before read_now watched is_known held before now = SoaksClean files config.now order before now
+IsDone (jobs.Soak config order file) files stores read_before read_now watched is_known held before now = SoaksClean files config.now order (option_map (λ p. p.now) file) before now
 IsDone (jobs.Plan config number form) files stores read_before read_now watched is_known held before now = Plans files config.now number form before now
 
 -- How a job ends that isn't done.

@@ -5,11 +5,14 @@ use Rattle.fw_edge.specs.Drives.{AreDriven, all_over, ticks_in}
 use Rattle.fw_edge.specs.Ledgers.{OneFailed}
 use Rattle.fw_edge.specs.declared.driving.EdgeFault.{EdgeFault}
 use Rattle.fw_edge.specs.declared.driving.EdgeFault.TheVariants as edges
+use Rattle.fw_edge.specs.declared.fates.Roughness.{Roughness}
 use Rattle.fw_json.specs.Forms.{report_in}
 use Rattle.fwupd_base.specs.declared.forms.Form.{Form}
 use Rattle.fw_world.specs.Headline.{Run, may_step}
 use Rattle.fw_world.specs.Worlds.{SiteOf, WorldOf}
 use Rattle.mctp_wire.specs.declared.unit.Unit.{«Unit»}
+use Rattle.rand_pcg.specs.Lcg.{Lcg, increment_of, started}
+use Rattle.rand_pcg.specs.Pcg.{multiplier_64}
 use Rattle.fw_world.specs.declared.step.StepFault.{StepFault}
 use Rattle.fw_world.specs.declared.step.StepFault.TheVariants as stops
 use Rattle.fw_world.specs.declared.step.Step.{Step}
@@ -233,6 +236,10 @@ pub record IsCaused (number : ℕ) (w v : WorldOf) (told : RunFault) (watched : 
   pub stopped : told ≡ faults.Edge edges.Step → IsRefusedStart number w v ⊎ (v.now ≡ 2 ^ 32 - 1)
   pub unwritten : IsUnwritten told watched.fault
   pub let_end : watched.has_ended ≡ true
+
+-- A link to a device is as rough as asked for, by chances of its own: a stream of its own among those of the seed.
+abbrev pub IsRough : Roughness → (device : ℕ) → Roughness → Lcg → Type 0
+IsRough asked device roughness generator = (roughness ≡ asked) × (generator ≡ started 64 multiplier_64 asked.seed (increment_of 64 device))
 
 -- Each of these links is that of the device at its place, in a network with its transmission unit.
 abbrev pub AreLinked : {L : Type 0} → («Unit» → (device : ℕ) → L → Type 0) → List SiteOf → List L → Type 0

@@ -1,5 +1,6 @@
 -- What is written of a soak, and what is kept of it.
-use Rattle.std.specs.Prelude.{ℕ, ◌≡◌, ◌⊎◌, Bool, List, ◌∷◌, Option, None, Some, IfSome, IsSome, true}
+use Rattle.std.specs.Prelude.{ℕ, ◌≡◌, ◌⊎◌, Bool, List, ◌∷◌, Option, None, Some, IfSome, IsSome, IsSomeAnd, true}
+use Rattle.std.specs.List.{AllByRecursion}
 use Rattle.fw_package.specs.Package.{PackageText}
 use Rattle.fw_script.specs.Configs.{ConfigOf, config_of}
 use Rattle.fw_script.specs.ScheduleTexts.{schedule_text}
@@ -10,7 +11,7 @@ use Rattle.fw_soak.specs.SummaryTexts.{summary_text}
 use Rattle.fw_soak.specs.declared.summary.Summary.{Summary}
 use Rattle.fwupd_words.specs.declared.asked.SoakOrder.{SoakOrder}
 use Rattle.fwupd_jobs.specs.Outputs.{FailsToPrint, OutputOf, Prints}
-use Rattle.fwupd_jobs.specs.Setups.{ArePackages, FileOf, IsOverOne, LacksPackage, NumberedSetupFails, Says}
+use Rattle.fwupd_jobs.specs.Setups.{ArePackages, FileOf, IsApartFrom, IsOverOne, LacksPackage, NumberedSetupFails, Says}
 use Rattle.fwupd_jobs.specs.declared.faults.RunFault.{RunFault}
 use Rattle.fwupd_jobs.specs.declared.faults.RunFault.TheVariants as faults
 
@@ -19,18 +20,19 @@ abbrev pub setup_said : ConfigOf → List PackageText → SetupOf
 setup_said c packages = record { agent = c.agent; unit = c.unit; devices = c.devices; packages = packages }
 
 -- So many runs were made of the configuration in a file with its packages: this is said of them, and the steps of the first that went
--- wrong are these.
-pub record Soaks (files : List ℕ → FileOf) (path : List ℕ) (runs : ℕ) (sum : Summary) (kept : Option (List Step)) : Type 0 where
+-- wrong are these. The file in which they are to be kept, if one is, is none of those that were read.
+pub record Soaks (files : List ℕ → FileOf) (path : List ℕ) (file : Option (List ℕ)) (runs : ℕ) (sum : Summary) (kept : Option (List Step)) : Type 0 where
   pub config : ConfigOf
   pub packages : List PackageText
   pub says : Says config_of (files path) config
   pub are : ArePackages files config.packages packages
+  pub apart : IfSome file (λ p. AllByRecursion (IsApartFrom files p) (path ∷ config.packages))
   pub soaked : IsSoaked (setup_said config packages) runs sum kept
 
 -- None went wrong, and that is written.
-pub record SoaksClean (files : List ℕ → FileOf) (path : List ℕ) (order : SoakOrder) (before now : OutputOf) : Type 0 where
+pub record SoaksClean (files : List ℕ → FileOf) (path : List ℕ) (order : SoakOrder) (file : Option (List ℕ)) (before now : OutputOf) : Type 0 where
   pub sum : Summary
-  pub soaks : Soaks files path order.runs sum None
+  pub soaks : Soaks files path file order.runs sum None
   pub none : sum.violations ≡ 0
   pub written : Prints before now (summary_text sum)
 
@@ -47,16 +49,16 @@ IsJudged (Some steps) file told is_known held =
 pub record SoaksWrong (files : List ℕ → FileOf) (path : List ℕ) (order : SoakOrder) (file : Option (List ℕ)) (told : RunFault) (is_known : Bool) (held : List ℕ → Option (List ℕ)) (before now : OutputOf) : Type 0 where
   pub sum : Summary
   pub steps : List Step
-  pub soaks : Soaks files path order.runs sum (Some steps)
+  pub soaks : Soaks files path file order.runs sum (Some steps)
   pub written : Prints before now (summary_text sum)
   pub judged : IsJudged (Some steps) file told is_known held
 
 -- What is said of the runs isn't written whole.
-pub record BreaksSoak (files : List ℕ → FileOf) (path : List ℕ) (order : SoakOrder) (told : RunFault) (before now : OutputOf) : Type 0 where
+pub record BreaksSoak (files : List ℕ → FileOf) (path : List ℕ) (order : SoakOrder) (file : Option (List ℕ)) (told : RunFault) (before now : OutputOf) : Type 0 where
   pub is : told ≡ faults.Output
   pub sum : Summary
   pub kept : Option (List Step)
-  pub soaks : Soaks files path order.runs sum kept
+  pub soaks : Soaks files path file order.runs sum kept
   pub begun : FailsToPrint before now (summary_text sum)
 
 -- The steps would be written over a file that is read.
@@ -64,14 +66,12 @@ pub record WouldWriteOver (files : List ℕ → FileOf) (path : List ℕ) (file 
   pub is : told ≡ faults.Record
   pub config : ConfigOf
   pub says : Says config_of (files path) config
-  pub written : List ℕ
-  pub asked : file ≡ Some written
-  pub over : IsOverOne files written (path ∷ config.packages)
+  pub over : IsSomeAnd file (λ p. IsOverOne files p (path ∷ config.packages))
 
 -- How a soak ends that doesn't end well: else nothing is written.
 abbrev pub SoakEnds : (files : List ℕ → FileOf) (path : List ℕ) (order : SoakOrder) (file : Option (List ℕ)) (told : RunFault) (is_known : Bool) (held : List ℕ → Option (List ℕ)) (before now : OutputOf) → Type 0
 SoakEnds files path order file told is_known held before now =
     SoaksWrong files path order file told is_known held before now
-    ⊎ (BreaksSoak files path order told before now
+    ⊎ (BreaksSoak files path order file told before now
     ⊎ (((told ≡ faults.Memory) ⊎ (NumberedSetupFails files path 1 told ⊎ (((told ≡ faults.NoPackage) × LacksPackage files path 1) ⊎ WouldWriteOver files path file told)))
     × (now ≡ before)))

@@ -1,6 +1,6 @@
 //! Why a run ends with status 1.
 
-ghost use Rattle.std.specs.Prelude.{◌≡◌, ◌⊎◌};
+ghost use Rattle.std.specs.Prelude.{◌≡◌, ◌≢◌, ◌⊎◌};
 ghost use Rattle.fwupd_jobs.specs.Inspected.{told_as};
 ghost use Rattle.fwupd_jobs.specs.Running.{MayEnd, told_of};
 
@@ -95,7 +95,9 @@ pub fn edge_fault(fault: EdgeFault) -> RunFault
 
 /// Why a device's store isn't opened.
 pub fn store_fault(unopened: Unopened) -> RunFault
-    ensures { (result ≡ RunFault.Memory) ⊎ (result ≡ RunFault.Store unopened.device unopened.why) }
+    ensures told { (result ≡ RunFault.Memory) ⊎ (result ≡ RunFault.Store unopened.device unopened.why) }
+    ensures memory { unopened.why ≡ OpenFault.Memory → result ≡ RunFault.Memory }
+    ensures other { unopened.why ≢ OpenFault.Memory → result ≡ RunFault.Store unopened.device unopened.why }
 {
     match unopened.why {
         OpenFault::Memory => RunFault::Memory,

@@ -212,3 +212,19 @@ pub fn is_read<F: Files>(files: &F, path: &str, config: &str, packages: &[String
 {
     is_same_file(files, config, path) || is_one_of(files, path, packages)
 }
+
+/// Whether the file of a path that is to be written, if one is, is one of those that a run reads.
+pub(crate) fn is_over_read<F: Files>(
+    files: &F,
+    path: Option<&str>,
+    config: &str,
+    packages: &[String],
+) -> bool
+    ensures over { result ≡ true → IsSomeAnd (option_map (λ p. p.now) path.entry) (λ p. IsOverOne (F.holds files.now) p (config.now ∷ map (λ p. string_bytes p) packages.now)) }
+    ensures apart { result ≡ false → IfSome (option_map (λ p. p.now) path.entry) (λ p. AllByRecursion (IsApartFrom (F.holds files.now) p) (config.now ∷ map (λ p. string_bytes p) packages.now)) }
+{
+    match path {
+        Some(path) => is_read(files, path, config, packages),
+        None => false,
+    }
+}

@@ -1,11 +1,11 @@
 //! Many rough runs of the devices of a configuration.
 
-ghost use Rattle.std.specs.Prelude.{◌≡◌, ◌⊎◌, IfErr, None, OnErr, OnOk, Some, option_map, true};
+ghost use Rattle.std.specs.Prelude.{◌≡◌, ◌≢◌, IfErr, None, OnErr, OnOk, Some, false, option_map, true};
 ghost use Rattle.fw_script.specs.ScheduleTexts.{schedule_text};
 ghost use Rattle.fwupd_jobs.specs.Soaked.{IsJudged, SoakEnds, SoaksClean};
 
 use crate::faults::RunFault;
-use crate::files::{Files, is_read};
+use crate::files::{Files, is_over_read};
 use crate::numbering::is_numbered;
 use crate::output::Output;
 use crate::places::Places;
@@ -20,7 +20,8 @@ use std::io::Write;
 
 /// The fault of a recording, where a file isn't made.
 fn unrecorded(fault: RunFault) -> RunFault
-    ensures { (result ≡ RunFault.Memory) ⊎ (result ≡ RunFault.Record) }
+    ensures memory { fault ≡ RunFault.Memory → result ≡ RunFault.Memory }
+    ensures other { fault ≢ RunFault.Memory → result ≡ RunFault.Record }
 {
     match fault {
         RunFault::Memory => RunFault::Memory,
@@ -40,6 +41,7 @@ fn keep<W: Write + Drop, P: Places<W>>(
 ) -> Result<(), RunFault>
     ensures ok { OnOk result (P.is_known places.old ≡ true → P.held places.new path.now ≡ Some (schedule_text steps.now)) }
     ensures kept { OnErr result (P.held places.new ≡ P.held places.old) }
+    ensures left { P.is_begun places.old ≡ false → P.is_begun places.new ≡ false }
     ensures fault { IfErr result (λ e. (e ≡ RunFault.Memory) ⊎ (e ≡ RunFault.Record)) }
 {
     let Ok(text) = write_schedule(alloc, steps) else {
@@ -74,6 +76,7 @@ fn judge<W: Write + Drop, P: Places<W>>(
 ) -> Result<(), RunFault>
     ensures ok { OnOk result (option_map (λ k. k.items) kept ≡ None) }
     ensures fault { IfErr result (λ e. IsJudged (option_map (λ k. k.items) kept) (option_map (λ p. p.now) file.entry) e (P.is_known places.old) (P.held places.new)) }
+    ensures left { P.is_begun places.old ≡ false → P.is_begun places.new ≡ false }
 {
     let Some(steps) = kept else {
         return Ok(());
@@ -104,8 +107,9 @@ pub fn soak_file<F: Files, V: Onlooker, B: Write + Drop, P: Places<B>, W: Write 
     places: &mut P,
     output: &mut Output<W>,
 ) -> Result<(), RunFault>
-    ensures ok { OnOk result (SoaksClean (F.holds files.now) config.now order output.old output.new) }
+    ensures ok { OnOk result (SoaksClean (F.holds files.now) config.now order (option_map (λ p. p.now) file.entry) output.old output.new) }
     ensures fault { IfErr result (λ e. SoakEnds (F.holds files.now) config.now order (option_map (λ p. p.now) file.entry) e (P.is_known places.old) (P.held places.new) output.old output.new) }
+    ensures left { P.is_begun places.old ≡ false → P.is_begun places.new ≡ false }
 {
     let Config {
         agent,
@@ -127,10 +131,8 @@ pub fn soak_file<F: Files, V: Onlooker, B: Write + Drop, P: Places<B>, W: Write 
         Ok(packages) => packages,
         Err(fault) => return Err(fault),
     };
-    if let Some(path) = file {
-        if is_read(files, path, config, paths.as_slice()) {
-            return Err(RunFault::Record);
-        }
+    if is_over_read(files, file, config, paths.as_slice()) {
+        return Err(RunFault::Record);
     }
     let setup = Setup {
         agent,

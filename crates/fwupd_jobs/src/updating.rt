@@ -2,8 +2,6 @@
 
 ghost use Rattle.std.specs.Prelude.{◌≡◌, ◌∷◌, ◌⊎◌, Bool, false, IfErr, IfOk, IfSome, IsSomeAnd, List, None, OnOk, length, map, option_map, string_bytes, true, ℕ};
 ghost use Rattle.std.specs.List.{AllByRecursion};
-ghost use Rattle.rand_pcg.specs.Lcg.{increment_of, started};
-ghost use Rattle.rand_pcg.specs.Pcg.{multiplier_64};
 ghost use Rattle.fw_json.specs.Forms.{report_in};
 ghost use Rattle.fw_setup.specs.Stocks.{stores_in};
 ghost use Rattle.fw_world.specs.Headline.{IsOpeningWorld};
@@ -12,7 +10,7 @@ ghost use Rattle.fwupd_jobs.specs.Sessions.{undone_in};
 ghost use Rattle.fwupd_jobs.specs.Setups.{IsApartFrom, IsOver, SourceOf, TellsStore, source_of};
 ghost use Rattle.fwupd_jobs.specs.Histories.{AreKeptUp, IsFresh};
 ghost use Rattle.fwupd_jobs.specs.Recordings.{IsNew, IsRecorded};
-ghost use Rattle.fwupd_jobs.specs.Running.{AreLinked, AreToldOf, DrivingEnds, IsApart, IsApartFromUsed, IsBarred, IsBroken, IsCaused, IsLost, IsNamed, IsOverUsed, IsUnlinked, IsUnwritten, IsUpdated, NamesLost, ReportsUpdate, StepsLead, StepsSeen, TellsLost, UpdateEnds, Updates, show_of, shown_of};
+ghost use Rattle.fwupd_jobs.specs.Running.{AreLinked, AreToldOf, DrivingEnds, IsApart, IsApartFromUsed, IsBarred, IsBroken, IsCaused, IsLost, IsNamed, IsOverUsed, IsRough, IsUnlinked, IsUnwritten, IsUpdated, NamesLost, ReportsUpdate, StepsLead, StepsSeen, TellsLost, UpdateEnds, Updates, show_of, shown_of};
 
 use crate::faults::RunFault;
 use crate::files::{Files, is_read, is_same_file};
@@ -62,8 +60,8 @@ fn open_all<B: Bank + Drop, L: Link + Drop, S: Wires<L>>(
     wires: &mut S,
 ) -> Result<Vec<Rough<L>>, RunFault>
     ensures links { IfOk result (λ links. length links.items ≡ length world.now.sites) }
-    ensures each { IfOk result (λ links. AreLinked (λ unit device link. (S.is_to unit folder.now device link.link ≡ true)
-        × ((link.roughness ≡ roughness) × (link.generator ≡ started 64 multiplier_64 roughness.seed (increment_of 64 device)))) world.now.sites links.items) }
+    ensures each { IfOk result (λ links. AreLinked (λ unit device link. S.is_to unit folder.now device link.link ≡ true) world.now.sites links.items) }
+    ensures rough { IfOk result (λ links. AreLinked (λ unit device link. IsRough roughness device link.roughness link.generator) world.now.sites links.items) }
     ensures fault { IfErr result (λ e. (e ≡ RunFault.Memory) ⊎ IsUnlinked world.now (S.lacks wires.old folder.now) e) }
 {
     let mut links = Vec::new(alloc);
@@ -201,35 +199,37 @@ fn lose_failed<B: Bank + Drop, L: Link, V: Watch>(world: &World<'_, B>, links: &
     }
 }
 
-/// Updates each device of a new world, and lets what looks on end; where a link failed, it is told whose.
+/// Updates each device of a new world over its link, as rough as asked for, and lets what looks on end; where a link failed, it is
+/// told whose.
 ///
 /// # Errors
 /// That of the update, and else what ends the watch.
-fn update_told<B: Bank + Drop, L: Link, V: Watch>(
+fn update_told<B: Bank + Drop, L: Link + Drop, V: Watch>(
     alloc: Global,
     world: &mut World<'_, B>,
-    number: usize,
-    links: &mut [L],
+    order: Order,
+    links: &mut [Rough<L>],
     watch: &mut V,
 ) -> Result<(), RunFault>
-    requires { length links.old ≡ length world.old.sites }
-    ensures updated { OnOk result (IsUpdated number world.old world.new) }
-    ensures reached { StepsLead number world.old world.new }
+    requires each { length links.old ≡ length world.old.sites }
+    requires rough { AreLinked (λ unit device link. IsRough order.roughness device link.roughness link.generator) world.old.sites links.old }
+    ensures updated { OnOk result (IsUpdated order.number world.old world.new) }
+    ensures reached { StepsLead order.number world.old world.new }
     ensures seen { OnOk result ((V.watched watch.new).fault ≡ None) }
     ensures recorded { OnOk result (IfSome (V.watched watch.old).recording IsNew → IfSome (V.watched watch.new).recording (IsRecorded world.old world.new)) }
     ensures recorded_still { IfErr result (λ e. (V.watched watch.new).fault ≡ None → IfSome (V.watched watch.old).recording IsNew → IfSome (V.watched watch.new).recording (IsRecorded world.old world.new)) }
     ensures history { OnOk result (AreKeptUp (V.watched watch.old).history world.old.history → AreKeptUp (V.watched watch.new).history world.new.history) }
     ensures ended { (V.watched watch.new).has_ended ≡ true }
     ensures same { (V.watched watch.new).shows ≡ (V.watched watch.old).shows }
-    ensures turns { OnOk result ((V.watched watch.old).seen ≡ 0 → Updates number world.old world.new (V.watched watch.new).seen) }
-    ensures lost { IfErr result (λ e. e ≡ RunFault.Edge EdgeFault.Frame → TellsLost world.new (map (λ l. (L.tally l).failures) links.new) (V.watched watch.new).lost) }
+    ensures turns { OnOk result ((V.watched watch.old).seen ≡ 0 → Updates order.number world.old world.new (V.watched watch.new).seen) }
+    ensures lost { IfErr result (λ e. e ≡ RunFault.Edge EdgeFault.Frame → TellsLost world.new (map (λ l. l.tally.failures) links.new) (V.watched watch.new).lost) }
     ensures none_lost { OnOk result ((V.watched watch.new).lost ≡ (V.watched watch.old).lost) }
-    ensures fault { IfErr result (λ e. (e ≡ RunFault.Memory) ⊎ IsCaused number world.old world.new e (V.watched watch.new)) }
-    ensures kept { OnOk result (map (λ l. (L.tally l).failures) links.new ≡ map (λ l. (L.tally l).failures) links.old) }
-    ensures failed { IfErr result (λ e. AreToldOf e (map (λ l. (L.tally l).failures) links.old) (map (λ l. (L.tally l).failures) links.new)) }
-    ensures sees { (V.watched watch.old).seen ≡ 0 → StepsSeen number world.old world.new (V.watched watch.new).seen }
+    ensures fault { IfErr result (λ e. (e ≡ RunFault.Memory) ⊎ IsCaused order.number world.old world.new e (V.watched watch.new)) }
+    ensures kept { OnOk result (map (λ l. l.tally.failures) links.new ≡ map (λ l. l.tally.failures) links.old) }
+    ensures failed { IfErr result (λ e. AreToldOf e (map (λ l. l.tally.failures) links.old) (map (λ l. l.tally.failures) links.new)) }
+    ensures sees { (V.watched watch.old).seen ≡ 0 → StepsSeen order.number world.old world.new (V.watched watch.new).seen }
 {
-    match update_watched(alloc, world, number, links, watch) {
+    match update_watched(alloc, world, order.number, links, watch) {
         Ok(()) => Ok(()),
         Err(RunFault::Memory) => Err(RunFault::Memory),
         Err(fault) => {
@@ -271,7 +271,7 @@ fn update_over<B: Bank + Drop, L: Link + Drop, S: Wires<L>, V: Watch, W: Write +
         Ok(links) => links,
         Err(fault) => return Err(fault),
     };
-    match update_told(alloc, world, order.number, links.as_mut_slice(), watch) {
+    match update_told(alloc, world, order, links.as_mut_slice(), watch) {
         Ok(()) => {}
         Err(RunFault::Memory) => return Err(RunFault::Memory),
         Err(fault) => {

@@ -12,7 +12,7 @@ returns-in-Err-clause-stopped g c = record {
       drives_same c.args.world.now c.args.world.now c.tick.new.world c.args.steps.now.items c.args.steps.now.items c.tick.new.steps.items (drives_none c.args.world.now c.args.steps.now.items)
       c.in-Err.ensures.same c.in-Err.ensures.unlisted;
   few = (let same = ap ticks_in c.in-Err.ensures.unlisted in omega arith);
-  last = inl (c.in-Err.ensures.same, c.in-Err.ensures.unlisted);
+  last = inl (c.in-Err.ensures.fault, c.in-Err.ensures.same, c.in-Err.ensures.unlisted);
   failed = (λ is. absurd (c.in-Err.ensures.fault is), λ other. refl);
   stops = (λ is. (c.in-Err.ensures.end is, c.in-Err.ensures.same, c.in-Err.ensures.unlisted), λ other. c.in-Err.ensures.before_end other);
 }
@@ -38,19 +38,22 @@ returns-in-Err-judge_all-clause-stopped g c =
           goes_off c.args.world.now c.exchange.new.world c.judge_all.new.world c.args.steps.now.items c.exchange.new.steps.items c.judge_all.new.steps.items
           1 c.in-Ok-exchange.frames.known first c.in-Err-judge_all.ensures.stopped.drives;
       few = (let earlier = first.ticks_rise in let later = c.in-Err-judge_all.ensures.stopped.no_tick in omega arith);
-      last = inr (inr (inl (record {
-        heard = c.exchange.new.world;
-        heard_steps = c.exchange.new.steps.items;
-        hears = record {
-          ticked = c.tick.new.world;
-          ticked_steps = c.tick.new.steps.items;
-          tick = c.in-Ok.ensures.tick;
-          links = links_at c.exchange.new.written (map g.L.Link.taken c.exchange.new.links) (map g.L.Link.gave c.exchange.new.links);
-          count = c.in-Ok-exchange.frames.known + c.in-Ok-exchange.frames.foreign;
-          exchanged = c.in-Ok-exchange.ensures.done.does_so;
-        };
-        some = c.in-Err-judge_all.ensures.stopped.some;
-      })));
+      last = inr (inr (
+        c.in-Err-judge_all.ensures.stopped.fault,
+        inl (record {
+          heard = c.exchange.new.world;
+          heard_steps = c.exchange.new.steps.items;
+          hears = record {
+            ticked = c.tick.new.world;
+            ticked_steps = c.tick.new.steps.items;
+            tick = c.in-Ok.ensures.tick;
+            links = links_at c.exchange.new.written (map g.L.Link.taken c.exchange.new.links) (map g.L.Link.gave c.exchange.new.links);
+            count = c.in-Ok-exchange.frames.known + c.in-Ok-exchange.frames.foreign;
+            exchanged = c.in-Ok-exchange.ensures.done.does_so;
+          };
+          some = c.in-Err-judge_all.ensures.stopped.some;
+        }),
+      ));
       failed =
           told_kept c.in-Err-judge_all.fault (map (λ k. (g.L.Link.tally k).failures) c.args.links.now) (map (λ k. (g.L.Link.tally k).failures) c.exchange.new.links)
           c.in-Err-judge_all.ensures.stopped.fault c.in-Ok-exchange.ensures.done.counts.kept;
@@ -70,22 +73,25 @@ returns-in-Err-activate_all-clause-stopped g c =
           goes_off c.args.world.now c.judge_all.new.world c.activate_all.new.world c.args.steps.now.items c.judge_all.new.steps.items c.activate_all.new.steps.items
           1 c.in-Ok-exchange.frames.known second c.in-Err-activate_all.ensures.stopped.drives;
       few = (let earlier = second.ticks_rise in let later = c.in-Err-activate_all.ensures.stopped.no_tick in omega arith);
-      last = inr (inr (inr (record {
-        heard = c.exchange.new.world;
-        heard_steps = c.exchange.new.steps.items;
-        hears = record {
-          ticked = c.tick.new.world;
-          ticked_steps = c.tick.new.steps.items;
-          tick = c.in-Ok.ensures.tick;
-          links = links_at c.exchange.new.written (map g.L.Link.taken c.exchange.new.links) (map g.L.Link.gave c.exchange.new.links);
-          count = c.in-Ok-exchange.frames.known + c.in-Ok-exchange.frames.foreign;
-          exchanged = c.in-Ok-exchange.ensures.done.does_so;
-        };
-        judged = c.judge_all.new.world;
-        judged_steps = c.judge_all.new.steps.items;
-        verdicts = c.in-Ok-judge_all.ensures.due;
-        some = c.in-Err-activate_all.ensures.stopped.some;
-      })));
+      last = inr (inr (
+        c.in-Err-activate_all.ensures.stopped.fault,
+        inr (record {
+          heard = c.exchange.new.world;
+          heard_steps = c.exchange.new.steps.items;
+          hears = record {
+            ticked = c.tick.new.world;
+            ticked_steps = c.tick.new.steps.items;
+            tick = c.in-Ok.ensures.tick;
+            links = links_at c.exchange.new.written (map g.L.Link.taken c.exchange.new.links) (map g.L.Link.gave c.exchange.new.links);
+            count = c.in-Ok-exchange.frames.known + c.in-Ok-exchange.frames.foreign;
+            exchanged = c.in-Ok-exchange.ensures.done.does_so;
+          };
+          judged = c.judge_all.new.world;
+          judged_steps = c.judge_all.new.steps.items;
+          verdicts = c.in-Ok-judge_all.ensures.due;
+          some = c.in-Err-activate_all.ensures.stopped.some;
+        }),
+      ));
       failed =
           told_kept c.in-Err-activate_all.fault (map (λ k. (g.L.Link.tally k).failures) c.args.links.now) (map (λ k. (g.L.Link.tally k).failures) c.exchange.new.links)
           c.in-Err-activate_all.ensures.stopped.fault c.in-Ok-exchange.ensures.done.counts.kept;

@@ -1,12 +1,12 @@
 use Rattle.std.proofs.KnownBytes.{Appends-kept}
-use Rattle.fw_edge.proofs.Pieces.{appends_more, slice_rest, within_more}
+use Rattle.fw_edge.proofs.Pieces.{appends_more, below_all, slice_rest}
 use Rattle.fw_edge.proofs.retries.write_whole.Goals as goal
-use Rattle.fw_edge.proofs.retries.write_whole.Goals.{in-Ok, in-Err+else-ne}
+use Rattle.fw_edge.proofs.retries.write_whole.Goals.{in-Err+else-ne, in-Ok+else-written-bytes}
 
 pub loop-preserved : goal.loop-preserved
 loop-preserved g c = elim c.match-write.branch [
-  | in-Ok w ↦ rw w.written-is (record {
-    within = within_more _ _ c.args.bytes.now c.loop.invariant.within w.in-Ok.ensures.bound;
+  | in-Ok+else-written-bytes w ↦ rw w.written-is (record {
+    within = below_all _ _ c.args.bytes.now c.loop.invariant.within w.in-Ok.ensures.bound w.if-written-bytes.false;
     so_far = appends_more _ _ _ c.args.bytes.now _ _ c.loop.invariant.so_far (rw (slice_rest c.loop.written c.args.bytes.now) at w.in-Ok.ensures.bytes);
   })
   | in-Err+else-ne w ↦ rw w.written-is (record {

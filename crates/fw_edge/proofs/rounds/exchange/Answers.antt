@@ -16,16 +16,19 @@ returns-in-Err-clause-stopped g c = record {
 
 pub returns-in-Err-write_out-clause-stopped : goal.returns-in-Err-write_out-clause-stopped
 returns-in-Err-write_out-clause-stopped g c =
-    stopped_later g.L.Link.tally g.L.Link.taken g.L.Link.gave (RoundStops (eids_of c.rounds.new.world.sites)) (ExchangeStops (eids_of c.args.world.now.sites)) c.in-Err-write_out.fault
+    stopped_later g.L.Link.tally g.L.Link.taken g.L.Link.gave (RoundStops c.in-Err-write_out.fault (eids_of c.rounds.new.world.sites)) (ExchangeStops c.in-Err-write_out.fault (eids_of c.args.world.now.sites)) c.in-Err-write_out.fault
     c.args.world.now c.rounds.new.world c.rounds.new.world c.args.steps.now.items c.rounds.new.steps.items c.rounds.new.steps.items c.args.written.now c.rounds.new.written
     c.args.links.now c.rounds.new.links c.write_out.new.links c.in-Ok.frames.known c.in-Ok.ensures.done.goes c.in-Ok.ensures.done.counts.kept
     (stopped_refused g.L.Link.tally g.L.Link.taken g.L.Link.gave c.in-Err-write_out.fault c.rounds.new.world c.rounds.new.steps.items c.rounds.new.written c.rounds.new.links c.write_out.new.links
     c.in-Err-write_out.ensures.refused)
-    (inr (record {
-      links = links_at c.rounds.new.written (map g.L.Link.taken c.rounds.new.links) (map g.L.Link.gave c.rounds.new.links);
-      count = c.in-Ok.frames.known + c.in-Ok.frames.foreign;
-      rounds = c.in-Ok.ensures.done.does_so;
-    }))
+    (inr (
+      c.in-Err-write_out.ensures.refused.is,
+      record {
+        links = links_at c.rounds.new.written (map g.L.Link.taken c.rounds.new.links) (map g.L.Link.gave c.rounds.new.links);
+        count = c.in-Ok.frames.known + c.in-Ok.frames.foreign;
+        rounds = c.in-Ok.ensures.done.does_so;
+      },
+    ))
 
 pub returns-clause-done : goal.returns-clause-done
 returns-clause-done g c = record {

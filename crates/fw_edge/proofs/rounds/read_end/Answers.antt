@@ -12,7 +12,7 @@ returns-in-Err-clause-stopped g c =
 pub returns-in-Err-hand_over-clause-stopped : goal.returns-in-Err-hand_over-clause-stopped
 returns-in-Err-hand_over-clause-stopped g c =
     link_refused g.L.Link.tally c.in-Err-hand_over.fault c.args.device c.args.end c.args.world.now c.hand_over.new.world c.args.steps.now.items c.hand_over.new.steps.items _ c.args.link.now c.receive.new.self
-    c.in-Err-hand_over.ensures.refused c.in-Ok.ensures.ok
+    c.in-Err-hand_over.ensures.refused c.in-Some.packet.items c.in-Err-hand_over.ensures.known c.in-Ok.ensures.ok
 
 pub returns-in_default-clause-read : goal.returns-in_default-clause-read
 returns-in_default-clause-read g c = record {

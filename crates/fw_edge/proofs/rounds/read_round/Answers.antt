@@ -19,7 +19,7 @@ returns-in-Err-clause-stopped g c = record {
       stops_put c.in-Err.fault (λ k. (g.L.Link.tally k).failures) c.loop-place.place c.loop-place.links c.args.links.now c.index-links-place.result c.read_both.new.link (omega arith) (omega arith)
       c.loop-place.invariant.kept c.loop-place.invariant.behind c.in-Err.ensures.stopped.failed;
   some =
-      asks_at c.loop-place.place (c.loop-place.frames.known + c.loop-place.frames.foreign) c.eid_at-device.result c.args.world.now c.loop-place.world c.read_both.new.world c.args.steps.now.items
+      asks_at c.in-Err.fault c.loop-place.place (c.loop-place.frames.known + c.loop-place.frames.foreign) c.eid_at-device.result c.args.world.now c.loop-place.world c.read_both.new.world c.args.steps.now.items
       c.loop-place.steps.items c.read_both.new.steps.items (links_at [] (map g.L.Link.taken c.args.links.now) (map g.L.Link.gave c.args.links.now))
       (links_at [] (map g.L.Link.taken c.loop-place.links) (map g.L.Link.gave c.loop-place.links)) c.loop-place.invariant.goes.drives (omega (arith, c.requires.devices)) c.eid_at-device.ensures
       c.loop-place.invariant.came c.in-Err.ensures.stopped.some;

@@ -11,7 +11,7 @@ use Rattle.fw_edge.proofs.rounds.rounds.Goals as goal
 
 pub returns-in-Err-clause-stopped : goal.returns-in-Err-clause-stopped
 returns-in-Err-clause-stopped g c =
-    stopped_later g.L.Link.tally g.L.Link.taken g.L.Link.gave (RoundStops (eids_of c.loop.world.sites)) (RoundsStop (eids_of c.args.world.now.sites)) c.in-Err.fault
+    stopped_later g.L.Link.tally g.L.Link.taken g.L.Link.gave (RoundStops c.in-Err.fault (eids_of c.loop.world.sites)) (RoundsStop c.in-Err.fault (eids_of c.args.world.now.sites)) c.in-Err.fault
     c.args.world.now c.loop.world c.round.new.world c.args.steps.now.items c.loop.steps.items c.round.new.steps.items c.args.written.now c.loop.written
     c.args.links.now c.loop.links c.round.new.links c.loop.frames.known c.loop.invariant.goes c.loop.invariant.counts.kept c.in-Err.ensures.stopped
     (record {
@@ -22,7 +22,7 @@ returns-in-Err-clause-stopped g c =
       read = c.loop.frames.known + c.loop.frames.foreign;
       earlier = c.loop.invariant.on;
       last =
-          same_stops c.args.world.now c.loop.world c.round.new.world c.args.steps.now.items c.loop.steps.items c.round.new.steps.items
+          same_stops c.in-Err.fault c.args.world.now c.loop.world c.round.new.world c.args.steps.now.items c.loop.steps.items c.round.new.steps.items
           (links_at c.loop.written (map g.L.Link.taken c.loop.links) (map g.L.Link.gave c.loop.links)) c.loop.invariant.goes.drives c.in-Err.ensures.stopped.stops_so;
     })
 

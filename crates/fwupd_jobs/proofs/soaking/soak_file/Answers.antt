@@ -1,4 +1,4 @@
-use Rattle.std.proofs.Common.{ap, inl, inr, map, refl, rules}
+use Rattle.std.proofs.Common.{inr, map, refl, rules}
 use Rattle.std.specs.Prelude.{option_map, string_bytes}
 use Rattle.fw_script.specs.Seen.{config_seen}
 use Rattle.fwupd_jobs.proofs.Packed.{numbered_fails, or_later, packed_slice}
@@ -10,16 +10,14 @@ packages_in-requires g c =
     packed_slice (g.F.Files.holds c.args.files.now) (map (λ p. string_bytes p) c.as_slice.result.now) c.in-Ok-package_files.contents.items c.as_slice-2.result.now c.in-Ok-package_files.ensures.packed
     c.as_slice-2.ensures.value
 
-pub returns-then-is_read-clause-fault : goal.returns-then-is_read-clause-fault
-returns-then-is_read-clause-fault g c =
+pub returns-then-is_over_read-clause-fault : goal.returns-then-is_over_read-clause-fault
+returns-then-is_over_read-clause-fault g c =
     inr (inr (
       inr (inr (inr (record {
         is = refl;
         config = config_seen c.in-Ok.config;
         says = c.in-Ok.ensures.says;
-        written = c.in-Some.path.now;
-        asked = ap (option_map (λ p. p.now)) c.in-Some.is;
-        over = rw c.as_slice-in-Some.ensures.value at (c.is_read.ensures.over c.if-is_read.true);
+        over = rw c.as_slice-3.ensures.value at (c.is_over_read.ensures.over c.if-is_over_read.true);
       }))),
       refl,
     ))
@@ -29,17 +27,17 @@ returns-in-Err-write-clause-fault g c =
     ends_broken (g.F.Files.holds c.args.files.now) c.args.config.now c.args.order (option_map (λ p. p.now) c.args.file) c.in-Err-write.fault (g.P.Places.is_known c.args.places.now)
     (g.P.Places.held c.args.places.now) c.in-Ok-soak.soaked.summary (option_map (λ k. k.items) c.in-Ok-soak.soaked.kept) c.args.output.now c.write.new.self c.in-Err-write.ensures.fault
     (soaks_so (g.F.Files.holds c.args.files.now) c.args.config.now c.in-Ok.config c.as_slice.result.now c.in-Ok-package_files.contents.items c.as_slice-2.result.now
-    c.in-Ok-packages_in.packages.items c.as_slice-4.result.now c.as_slice-3.result.now c.args.order.runs c.in-Ok-soak.soaked.summary (option_map (λ k. k.items) c.in-Ok-soak.soaked.kept)
-    c.in-Ok.ensures.says c.as_slice.ensures.value c.in-Ok-package_files.ensures.packed c.as_slice-2.ensures.value c.in-Ok-packages_in.ensures.is c.as_slice-4.ensures.value
-    c.as_slice-3.ensures.value c.in-Ok-soak.ensures.soaked) (rw c.in-Ok-summary_text.ensures at (rw c.deref.ensures.value at c.in-Err-write.ensures.failed))
+    c.in-Ok-packages_in.packages.items c.as_slice-5.result.now c.as_slice-4.result.now (option_map (λ p. p.now) c.args.file) c.args.order.runs c.in-Ok-soak.soaked.summary (option_map (λ k. k.items) c.in-Ok-soak.soaked.kept)
+    c.in-Ok.ensures.says c.as_slice.ensures.value c.in-Ok-package_files.ensures.packed (rw c.as_slice-3.ensures.value at (c.is_over_read.ensures.apart c.if-is_over_read.false)) c.as_slice-2.ensures.value c.in-Ok-packages_in.ensures.is c.as_slice-5.ensures.value
+    c.as_slice-4.ensures.value c.in-Ok-soak.ensures.soaked) (rw c.in-Ok-summary_text.ensures at (rw c.deref.ensures.value at c.in-Err-write.ensures.failed))
 
 pub returns-in-Ok-judge-clause-ok : goal.returns-in-Ok-judge-clause-ok
 returns-in-Ok-judge-clause-ok g c =
-    ends_clean (g.F.Files.holds c.args.files.now) c.args.config.now c.args.order c.in-Ok-soak.soaked.summary (option_map (λ k. k.items) c.in-Ok-soak.soaked.kept) c.args.output.now c.write.new.self
+    ends_clean (g.F.Files.holds c.args.files.now) c.args.config.now c.args.order (option_map (λ p. p.now) c.args.file) c.in-Ok-soak.soaked.summary (option_map (λ k. k.items) c.in-Ok-soak.soaked.kept) c.args.output.now c.write.new.self
     c.in-Ok-judge.ensures.ok (soaks_so (g.F.Files.holds c.args.files.now) c.args.config.now c.in-Ok.config c.as_slice.result.now c.in-Ok-package_files.contents.items c.as_slice-2.result.now
-    c.in-Ok-packages_in.packages.items c.as_slice-4.result.now c.as_slice-3.result.now c.args.order.runs c.in-Ok-soak.soaked.summary (option_map (λ k. k.items) c.in-Ok-soak.soaked.kept)
-    c.in-Ok.ensures.says c.as_slice.ensures.value c.in-Ok-package_files.ensures.packed c.as_slice-2.ensures.value c.in-Ok-packages_in.ensures.is c.as_slice-4.ensures.value
-    c.as_slice-3.ensures.value c.in-Ok-soak.ensures.soaked) (c.in-Ok-soak.ensures.none (unmapped (λ k. k.items) c.in-Ok-soak.soaked.kept c.in-Ok-judge.ensures.ok))
+    c.in-Ok-packages_in.packages.items c.as_slice-5.result.now c.as_slice-4.result.now (option_map (λ p. p.now) c.args.file) c.args.order.runs c.in-Ok-soak.soaked.summary (option_map (λ k. k.items) c.in-Ok-soak.soaked.kept)
+    c.in-Ok.ensures.says c.as_slice.ensures.value c.in-Ok-package_files.ensures.packed (rw c.as_slice-3.ensures.value at (c.is_over_read.ensures.apart c.if-is_over_read.false)) c.as_slice-2.ensures.value c.in-Ok-packages_in.ensures.is c.as_slice-5.ensures.value
+    c.as_slice-4.ensures.value c.in-Ok-soak.ensures.soaked) (c.in-Ok-soak.ensures.none (unmapped (λ k. k.items) c.in-Ok-soak.soaked.kept c.in-Ok-judge.ensures.ok))
     (rw c.in-Ok-summary_text.ensures at (rw c.deref.ensures.value at c.in-Ok-write.ensures.ok))
 
 pub returns-clause-fault : goal.returns-clause-fault
@@ -47,9 +45,9 @@ returns-clause-fault g c =
     ends_wrong (g.F.Files.holds c.args.files.now) c.args.config.now c.args.order (option_map (λ p. p.now) c.args.file) c.in-Err-judge.fault (g.P.Places.is_known c.args.places.now)
     (g.P.Places.held c.judge.new.places) c.in-Ok-soak.soaked.summary (option_map (λ k. k.items) c.in-Ok-soak.soaked.kept) c.args.output.now c.write.new.self c.in-Err-judge.ensures.fault
     (soaks_so (g.F.Files.holds c.args.files.now) c.args.config.now c.in-Ok.config c.as_slice.result.now c.in-Ok-package_files.contents.items c.as_slice-2.result.now
-    c.in-Ok-packages_in.packages.items c.as_slice-4.result.now c.as_slice-3.result.now c.args.order.runs c.in-Ok-soak.soaked.summary (option_map (λ k. k.items) c.in-Ok-soak.soaked.kept)
-    c.in-Ok.ensures.says c.as_slice.ensures.value c.in-Ok-package_files.ensures.packed c.as_slice-2.ensures.value c.in-Ok-packages_in.ensures.is c.as_slice-4.ensures.value
-    c.as_slice-3.ensures.value c.in-Ok-soak.ensures.soaked) (rw c.in-Ok-summary_text.ensures at (rw c.deref.ensures.value at c.in-Ok-write.ensures.ok))
+    c.in-Ok-packages_in.packages.items c.as_slice-5.result.now c.as_slice-4.result.now (option_map (λ p. p.now) c.args.file) c.args.order.runs c.in-Ok-soak.soaked.summary (option_map (λ k. k.items) c.in-Ok-soak.soaked.kept)
+    c.in-Ok.ensures.says c.as_slice.ensures.value c.in-Ok-package_files.ensures.packed (rw c.as_slice-3.ensures.value at (c.is_over_read.ensures.apart c.if-is_over_read.false)) c.as_slice-2.ensures.value c.in-Ok-packages_in.ensures.is c.as_slice-5.ensures.value
+    c.as_slice-4.ensures.value c.in-Ok-soak.ensures.soaked) (rw c.in-Ok-summary_text.ensures at (rw c.deref.ensures.value at c.in-Ok-write.ensures.ok))
 
 pub returns-in-Err-package_files-clause-fault : goal.returns-in-Err-package_files-clause-fault
 returns-in-Err-package_files-clause-fault g c =

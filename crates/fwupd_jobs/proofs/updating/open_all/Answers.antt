@@ -1,7 +1,6 @@
 use Rattle.std.proofs.Common.{◌≡◌, ◌⊎◌, ◌∙◌, arith, rules, subst, sym, true}
 use Rattle.fwupd_jobs.specs.declared.faults.RunFault.TheVariants as faults
-use Rattle.rand_pcg.specs.Lcg.{increment_of, started}
-use Rattle.rand_pcg.specs.Pcg.{multiplier_64}
+use Rattle.fwupd_jobs.specs.Running.{IsRough}
 use Rattle.fwupd_jobs.proofs.Started.{linked_all, linked_next, unlinked_at}
 use Rattle.fwupd_jobs.proofs.updating.open_all.Goals as goal
 
@@ -14,14 +13,20 @@ pub loop-place-preserved : goal.loop-place-preserved
 loop-place-preserved g c = record {
   count = search rules;
   each =
-      linked_next (λ unit device link. (g.S.Wires.is_to unit c.args.folder.now device link.link ≡ true)
-      × ((link.roughness ≡ c.args.roughness) × (link.generator ≡ started 64 multiplier_64 c.args.roughness.seed (increment_of 64 device)))) c.args.world.now.sites c.loop-place.links.items c.push.new.self.items c.new.result c.loop-place.place c.eid.result c.unit.result c.in-Some.node.now
-      (sym (rw c.in-Some.is at c.device_at.ensures)) c.unit.ensures c.eid.ensures.eid
-      (subst (λ link. g.S.Wires.is_to c.unit.result c.args.folder.now c.eid.result link ≡ true) (sym c.new.ensures.link) c.in-Ok.ensures.to, (c.new.ensures.roughness, search rules)) c.in-Ok-push.ensures.items c.loop-place.invariant.each;
+      linked_next (λ unit device link. g.S.Wires.is_to unit c.args.folder.now device link.link ≡ true) c.args.world.now.sites c.loop-place.links.items c.push.new.self.items c.new.result c.loop-place.place
+      c.eid.result c.unit.result c.in-Some.node.now (sym (rw c.in-Some.is at c.device_at.ensures)) c.unit.ensures c.eid.ensures.eid
+      (subst (λ link. g.S.Wires.is_to c.unit.result c.args.folder.now c.eid.result link ≡ true) (sym c.new.ensures.link) c.in-Ok.ensures.to) c.in-Ok-push.ensures.items c.loop-place.invariant.each;
+  rough =
+      linked_next (λ unit device link. IsRough c.args.roughness device link.roughness link.generator) c.args.world.now.sites c.loop-place.links.items c.push.new.self.items c.new.result c.loop-place.place
+      c.eid.result c.unit.result c.in-Some.node.now (sym (rw c.in-Some.is at c.device_at.ensures)) c.unit.ensures c.eid.ensures.eid
+      (c.new.ensures.roughness, search rules) c.in-Ok-push.ensures.items c.loop-place.invariant.rough;
   same = c.open.ensures.same ∙ c.loop-place.invariant.same;
 }
 
 pub returns-clause-each : goal.returns-clause-each
 returns-clause-each g c =
-    linked_all (λ unit device link. (g.S.Wires.is_to unit c.args.folder.now device link.link ≡ true)
-    × ((link.roughness ≡ c.args.roughness) × (link.generator ≡ started 64 multiplier_64 c.args.roughness.seed (increment_of 64 device)))) c.args.world.now.sites c.loop-place.links.items c.loop-place.place (omega arith) c.loop-place.invariant.each
+    linked_all (λ unit device link. g.S.Wires.is_to unit c.args.folder.now device link.link ≡ true) c.args.world.now.sites c.loop-place.links.items c.loop-place.place (omega arith) c.loop-place.invariant.each
+
+pub returns-clause-rough : goal.returns-clause-rough
+returns-clause-rough g c =
+    linked_all (λ unit device link. IsRough c.args.roughness device link.roughness link.generator) c.args.world.now.sites c.loop-place.links.items c.loop-place.place (omega arith) c.loop-place.invariant.rough

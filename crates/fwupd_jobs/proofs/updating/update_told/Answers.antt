@@ -7,18 +7,18 @@ use Rattle.fwupd_jobs.proofs.updating.update_told.Goals as goal
 
 pub returns-in-Err-clause-lost : goal.returns-in-Err-clause-lost
 returns-in-Err-clause-lost g c e =
-    lost_told (λ k. (g.L.Link.tally k).failures) c.update_watched.new.world c.args.links.now c.update_watched.new.links (g.V.Watch.watched c.lose_failed.new.watch).lost
+    lost_told (λ k. k.tally.failures) c.update_watched.new.world c.args.links.now c.update_watched.new.links (g.V.Watch.watched c.lose_failed.new.watch).lost
     c.in-Err.ensures.devices (c.in-Err.ensures.failed.0 e) c.lose_failed.ensures.lost
 
 pub returns-in-Err-clause-fault : goal.returns-in-Err-clause-fault
 returns-in-Err-clause-fault g c = elim c.in-Err.ensures.fault [
   | inl e ↦ inl e
-  | inr h ↦ inr (caused_still c.args.number c.args.world.now c.update_watched.new.world c.in-Err.fault (g.V.Watch.watched c.update_watched.new.watch) (g.V.Watch.watched c.lose_failed.new.watch) c.lose_failed.ensures.fault c.lose_failed.ensures.ended h)
+  | inr h ↦ inr (caused_still c.args.order.number c.args.world.now c.update_watched.new.world c.in-Err.fault (g.V.Watch.watched c.update_watched.new.watch) (g.V.Watch.watched c.lose_failed.new.watch) c.lose_failed.ensures.fault c.lose_failed.ensures.ended h)
 ]
 
 pub returns-in-Err-clause-sees : goal.returns-in-Err-clause-sees
 returns-in-Err-clause-sees g c none =
-    subst (StepsSeen c.args.number c.args.world.now c.update_watched.new.world) (sym c.lose_failed.ensures.seen) (c.update_watched.ensures.sees none)
+    subst (StepsSeen c.args.order.number c.args.world.now c.update_watched.new.world) (sym c.lose_failed.ensures.seen) (c.update_watched.ensures.sees none)
 
 pub returns-in-Err-clause-recorded_still : goal.returns-in-Err-clause-recorded_still
 returns-in-Err-clause-recorded_still g c none new =
