@@ -47,9 +47,9 @@ pub record Reads (asked given : ℕ) (old new : Tally) : Type 0 where
 
 -- Each count rose by so much or more, unless it stands at its last value.
 abbrev pub AllRose : ℕ → List ℕ → List ℕ → Type 0
-AllRose most [] [] = Unit {0}
-AllRose most (o ∷ os) (n ∷ ns) = (n < 2 ^ 64 - 1 → o + most ≤ n) × AllRose most os ns
-AllRose most os ns = ⊥
+AllRose least [] [] = Unit {0}
+AllRose least (o ∷ os) (n ∷ ns) = (n < 2 ^ 64 - 1 → o + least ≤ n) × AllRose least os ns
+AllRose least os ns = ⊥
 
 -- no count stands at its last value
 abbrev pub AreBelow : List ℕ → Type 0
@@ -62,7 +62,7 @@ total (n ∷ ns) = n + total ns
 
 -- All counts rose by so much together, unless one stands at its last value; and where none does, none did.
 abbrev pub RoseTogether : ℕ → List ℕ → List ℕ → Type 0
-RoseTogether most os ns = AreBelow ns → AreBelow os × (total ns ≡ total os + most)
+RoseTogether sum os ns = AreBelow ns → AreBelow os × (total ns ≡ total os + sum)
 
 -- What links gave since a list had so many deliveries is what was delivered and what was foreign, unless a count of them
 -- stands at its last value.

@@ -27,12 +27,12 @@ pub record LinkRefused {A : Type 0} (tally : A → Tally) (told : EdgeFault) (pa
 
 -- Ends of a link were asked for a frame each, in this order. Of the frames that came so many are living packets of its pair, each of which
 -- was delivered, and so many are foreign; the link took nothing.
-pub record EndsRead {A : Type 0} (tally : A → Tally) (taken gave : A → EndsOf) (ends : List (ℕ × Side)) (most : ℕ) (w : WorldOf) (before : List Step) (old : A) (v : WorldOf) (after : List Step) (new : A) (known foreign : ℕ) : Type 0 where
+pub record EndsRead {A : Type 0} (tally : A → Tally) (taken gave : A → EndsOf) (ends : List (ℕ × Side)) (asked : ℕ) (w : WorldOf) (before : List Step) (old : A) (v : WorldOf) (after : List Step) (new : A) (known foreign : ℕ) : Type 0 where
   pub goes : DrivesCounted w before v after 0 known
-  pub few : known + foreign ≤ most
+  pub few : known + foreign ≤ asked
   pub came : CameAt w before (gave old) ends v after (gave new) (known + foreign)
   pub took_none : taken new ≡ taken old
-  pub reads : Reads most (known + foreign) (tally old) (tally new)
+  pub reads : Reads asked (known + foreign) (tally old) (tally new)
 
 -- A fault ended that, at one of the ends: those before it were asked, and no others. The steps that were taken are listed; the fault isn't
 -- the clock's, and the link's only where it failed, once.
@@ -61,17 +61,17 @@ pub record LinksRefused {A : Type 0} (tally : A → Tally) (told : EdgeFault) (o
   pub failed : StopsAt told (λ l. (tally l).failures) olds news
 
 -- No link failed or took a packet; each was asked so often at least, and all gave so many frames together.
-pub record LinksRead {A : Type 0} (tally : A → Tally) (most frames : ℕ) (olds news : List A) : Type 0 where
+pub record LinksRead {A : Type 0} (tally : A → Tally) (least frames : ℕ) (olds news : List A) : Type 0 where
   pub kept : map (λ l. (tally l).failures) news ≡ map (λ l. (tally l).failures) olds
-  pub asked : AllRose most (map (λ l. (tally l).asked) olds) (map (λ l. (tally l).asked) news)
+  pub asked : AllRose least (map (λ l. (tally l).asked) olds) (map (λ l. (tally l).asked) news)
   pub given : RoseTogether frames (map (λ l. (tally l).given) olds) (map (λ l. (tally l).given) news)
   pub sent : map (λ l. (tally l).sent) news ≡ map (λ l. (tally l).sent) olds
 
 -- No link failed; each was asked so often at least, all gave so many frames together, and each took the packets by which the count of its
 -- pair rose.
-pub record LinksExchanged {A : Type 0} (tally : A → Tally) (most frames : ℕ) (before after : List ℕ) (olds news : List A) : Type 0 where
+pub record LinksExchanged {A : Type 0} (tally : A → Tally) (least frames : ℕ) (before after : List ℕ) (olds news : List A) : Type 0 where
   pub kept : map (λ l. (tally l).failures) news ≡ map (λ l. (tally l).failures) olds
-  pub asked : AllRose most (map (λ l. (tally l).asked) olds) (map (λ l. (tally l).asked) news)
+  pub asked : AllRose least (map (λ l. (tally l).asked) olds) (map (λ l. (tally l).asked) news)
   pub given : RoseTogether frames (map (λ l. (tally l).given) olds) (map (λ l. (tally l).given) news)
   pub sent : AllSent before after (map (λ l. (tally l).sent) olds) (map (λ l. (tally l).sent) news)
 

@@ -1,6 +1,6 @@
 //! A link that is bad on purpose.
 
-ghost use Rattle.std.specs.Prelude.{[], ◌∷◌, ◌≡◌, ◌≤◌, ◌+◌, ◌-◌, ◌^◌, false, true, IfOk, OnErr, OnOk, is_some, length, min, option_map, option_to_list, vec_capacity};
+ghost use Rattle.std.specs.Prelude.{[], ◌∷◌, ◌≡◌, ◌≤◌, ◌+◌, ◌-◌, ◌^◌, ◌⊎◌, false, true, IfOk, OnErr, OnOk, is_some, length, min, option_map, option_to_list, vec_capacity};
 ghost use Rattle.std.specs.List.{filter};
 ghost use Rattle.rand_pcg.specs.Lcg.{increment_of, started};
 ghost use Rattle.rand_pcg.specs.Pcg.{multiplier_64};
@@ -45,7 +45,7 @@ pub struct Rough<L: Link + Drop> {
     held: Vec<Held>,
     /// How many turns have ended.
     turn: u64,
-    /// Whether the device's end was asked last, and gave nothing.
+    /// Whether the device's end gave nothing when it was asked last, and the agent's gave no answer since.
     is_idle: bool,
     tally: Tally,
 }
@@ -177,11 +177,11 @@ impl<L: Link + Drop> Rough<L> {
         ensures same { (self.new.tally ≡ self.old.tally) × (self.new.generator ≡ self.old.generator) × (self.new.roughness ≡ self.old.roughness) }
         ensures idle { self.new.is_idle ≡ idle_after side gave }
         ensures on { ends_turn side gave self.old.is_idle ≡ false → OnOk result ((self.new.link ≡ self.old.link) × (self.new.held ≡ self.old.held) × (self.new.turn ≡ self.old.turn)) }
-        ensures turn { ends_turn side gave self.old.is_idle ≡ true → OnOk result (self.new.turn ≡ min (self.old.turn + 1) (2 ^ 64 - 1)) }
+        ensures turn { ends_turn side gave self.old.is_idle ≡ true → self.new.turn ≡ min (self.old.turn + 1) (2 ^ 64 - 1) }
         ensures released { ends_turn side gave self.old.is_idle ≡ true → OnOk result (Releases self.new.turn (L.taken self.old.link) (L.taken self.new.link) (helds_of self.old.held.items) (helds_of self.new.held.items)) }
         ensures counts { ends_turn side gave self.old.is_idle ≡ true → OnOk result (Writes (length (filter (is_due self.new.turn) (helds_of self.old.held.items))) (L.tally self.old.link) (L.tally self.new.link)) }
         ensures gave { OnOk result (L.gave self.new.link ≡ L.gave self.old.link) }
-        ensures sound { OnErr result (ends_turn side gave self.old.is_idle ≡ true) }
+        ensures only { OnErr result (ends_turn side gave self.old.is_idle ≡ true) }
         ensures refused { OnErr result (Rises (L.tally self.old.link).failures (L.tally self.new.link).failures) }
         ensures kept { OnErr result (self.new.held ≡ self.old.held) }
     {
@@ -245,7 +245,7 @@ impl<L: Link + Drop> Link for Rough<L> {
         ensures given { IfOk result (λ p. RisesIf (is_some p) (L.tally self.old.link).given (L.tally self.new.link).given) }
         ensures refused { OnErr result (Rises (L.tally self.old.link).failures (L.tally self.new.link).failures) }
         ensures kept { OnErr result (self.new.held ≡ self.old.held) }
-        ensures sound { side ≡ Side.Device → OnErr result (self.new.turn ≡ self.old.turn) }
+        ensures turn_still { OnErr result ((self.new.turn ≡ self.old.turn) ⊎ ((ends_turn side false self.old.is_idle ≡ true) × (self.new.turn ≡ min (self.old.turn + 1) (2 ^ 64 - 1)))) }
         ensures idle { IfOk result (λ p. self.new.is_idle ≡ idle_after side (is_some p)) }
         ensures same { (self.new.generator ≡ self.old.generator) × (self.new.roughness ≡ self.old.roughness) }
     {

@@ -183,7 +183,7 @@ pub(crate) fn activate_all<B: Bank + Drop>(
     Ok(())
 }
 
-/// Whether the session with the device at a place is Done or Failed.
+/// Whether the session with a device is Done or Failed, or there is none.
 fn is_over<B: Bank + Drop>(world: &World<'_, B>, device: u8) -> bool
     ensures { result ≡ is_over (half_for world.now.agent device) }
 {

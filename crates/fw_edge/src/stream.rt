@@ -152,8 +152,10 @@ impl<S: Read + Write + Drop> Link for StreamLink<S> {
         ensures ok { IfOk result (λ p. Asks (is_some p) self.old.tally self.new.tally) }
         ensures err { OnErr result (Fails self.old.tally self.new.tally) }
         ensures unit { self.new.unit ≡ self.old.unit }
-        ensures no_up { side ≡ Side.Agent → self.old.up ≡ 0 → (result ≡ Ok None) × (self.new.agent ≡ self.old.agent) × (self.new.up ≡ self.old.up) }
-        ensures no_down { side ≡ Side.Device → self.old.down ≡ 0 → (result ≡ Ok None) × (self.new.device ≡ self.old.device) × (self.new.down ≡ self.old.down) }
+        ensures no_up { side ≡ Side.Agent → self.old.up ≡ 0
+            → (result ≡ Ok None) × (self.new.agent ≡ self.old.agent) × (self.new.device ≡ self.old.device) × (self.new.up ≡ self.old.up) × (self.new.down ≡ self.old.down) }
+        ensures no_down { side ≡ Side.Device → self.old.down ≡ 0
+            → (result ≡ Ok None) × (self.new.agent ≡ self.old.agent) × (self.new.device ≡ self.old.device) × (self.new.up ≡ self.old.up) × (self.new.down ≡ self.old.down) }
         ensures agent { side ≡ Side.Agent → IfOk result (λ p. IfSome p (λ q. Reads (S.remaining self.old.agent) (S.remaining self.new.agent) self.old.up self.new.up q.items)) }
         ensures device { side ≡ Side.Device → IfOk result (λ p. IfSome p (λ q. Reads (S.remaining self.old.device) (S.remaining self.new.device) self.old.down self.new.down q.items)) }
         ensures some_up { side ≡ Side.Agent → self.old.up ≢ 0 → result ≢ Ok None }

@@ -23,7 +23,7 @@ use Rattle.fwupd_jobs.proofs.Packed.{packages_so, through}
 -- so many runs of what a configuration's file says
 pub soaks_so : (files : List ℕ → FileOf) (path : List ℕ) (config : Config) (names : List (String Global)) (contents slice : List (Vec ℕ Global)) (ps packs : List PackageText)
     (devices : List DeviceConfig) (file : Option (List ℕ)) (runs : ℕ) (sum : Summary) (kept : Option (List Step)) → Says config_of (files path) (config_seen config) → names ≡ config.packages.items
-    → ArePacked files (map (λ p. string_bytes p) names) (map (λ f. f.items) contents) → IfSome file (λ p. AllByRecursion (IsApartFrom files p) (path ∷ map (λ s. string_bytes s) names)) → slice ≡ contents → map (λ p. Ok p) ps ≡ map (λ f. package_of f.items) slice
+    → ArePacked files (map (λ p. string_bytes p) names) (map (λ f. f.items) contents) → IfSome file (λ p. AllByRecursion (IsApartFrom files p) (path ∷ map (λ s. string_bytes s) config.packages.items)) → slice ≡ contents → map (λ p. Ok p) ps ≡ map (λ f. package_of f.items) slice
     → packs ≡ ps → devices ≡ config.devices.items
     → IsSoaked (record { agent = config.agent; unit = config.unit; devices = map device_of devices; packages = packs }) runs sum kept → Soaks files path file runs sum kept
 soaks_so files path config names contents slice ps packs devices file runs sum kept says named packed apart same read lent all soaked = record {
@@ -34,7 +34,7 @@ soaks_so files path config names contents slice ps packs devices file runs sum k
       packages_so files (map (λ p. string_bytes p) config.packages.items) (map (λ f. f.items) contents) ps
       (subst (λ ns. ArePacked files (map (λ p. string_bytes p) ns) (map (λ f. f.items) contents)) named packed)
       (read ∙ ap (map (λ f. package_of f.items)) same ∙ through contents);
-  apart = subst (λ ns. IfSome file (λ p. AllByRecursion (IsApartFrom files p) (path ∷ map (λ s. string_bytes s) ns))) named apart;
+  apart = apart;
   soaked =
       subst (λ qs. IsSoaked (setup_said (config_seen config) qs) runs sum kept) lent
       (subst (λ ds. IsSoaked (record { agent = config.agent; unit = config.unit; devices = map device_of ds; packages = packs }) runs sum kept) all soaked);

@@ -22,7 +22,7 @@ use Rattle.fw_world.specs.declared.step.Step.{Step}
 use Rattle.fw_world.specs.declared.step.Step.TheVariants as steps
 use Rattle.fw_edge.specs.declared.driving.EdgeFault.{EdgeFault}
 use Rattle.fw_edge.specs.declared.driving.EdgeFault.TheVariants as edges
-use Rattle.fwupd_jobs.specs.Running.{AreLinked, IsCaused, IsLost, IsRefusedStart, IsUnlinked, IsUnwritten, MayEnd, MayStart, NamesLost, StepsLead, StepsSeen, TellsLost, Updates, WatchOf, starts_of, told_by, told_of, watch_of}
+use Rattle.fwupd_jobs.specs.Running.{AreLinked, AreToldOf, IsCaused, IsLost, IsRefusedStart, IsUnlinked, IsUnwritten, MayEnd, MayStart, NamesLost, StepsLead, StepsSeen, TellsLost, Updates, WatchOf, starts_of, told_by, told_of, watch_of}
 use Rattle.fwupd_jobs.specs.declared.faults.RunFault.{RunFault}
 use Rattle.fwupd_jobs.specs.declared.faults.RunFault.TheVariants as told
 use Rattle.fwupd_jobs.specs.declared.running.WatchFault.{WatchFault}
@@ -219,6 +219,13 @@ pub turned_apart : (e : EdgeFault) (fault : RunFault) (seen : Option WatchFault)
 turned_apart edges.Frame fault seen e = rw e tt
 turned_apart edges.Step fault seen e = rw e tt
 turned_apart edges.Memory fault seen e = rw e tt
+
+-- a link's fault is told as one, behind turns in which none failed
+pub told_links : (e : EdgeFault) (fault : RunFault) (os ms ns : List ℕ) → fault ≡ told_of e → ms ≡ os
+    → (e ≡ edges.Frame → OneFailed ms ns) × (e ≢ edges.Frame → ns ≡ ms) → AreToldOf fault os ns
+told_links edges.Frame fault os ms ns e same h = (λ is. subst (λ xs. OneFailed xs ns) same (h.0 refl), λ other. absurd (other e))
+told_links edges.Step fault os ms ns e same h = (λ is. absurd (let no = sym e ∙ is in cc), λ other. h.1 (λ no. cc) ∙ same)
+told_links edges.Memory fault os ms ns e same h = (λ is. absurd (let no = sym e ∙ is in cc), λ other. h.1 (λ no. cc) ∙ same)
 
 -- a fault of no watch
 pub none_unwritten : (fault : RunFault) (seen : Option WatchFault) → watch_of fault ≡ None → IsUnwritten fault seen

@@ -1,6 +1,6 @@
 //! Many rough runs of the devices of a configuration.
 
-ghost use Rattle.std.specs.Prelude.{◌≡◌, ◌≢◌, IfErr, None, OnErr, OnOk, Some, false, option_map, true};
+ghost use Rattle.std.specs.Prelude.{◌≡◌, ◌≢◌, ◌⊎◌, IfErr, None, OnErr, OnOk, Some, false, option_map, true};
 ghost use Rattle.fw_script.specs.ScheduleTexts.{schedule_text};
 ghost use Rattle.fwupd_jobs.specs.Soaked.{IsJudged, SoakEnds, SoaksClean};
 

@@ -1,7 +1,32 @@
-//! The options that several subcommands have.
+//! The words and options that several subcommands have.
 
-use clap::{Arg, ArgAction, Command, value_parser};
-use std::alloc::Global;
+use clap::{Arg, ArgAction, value_parser};
+use std::alloc::{AllocError, Global};
+
+/// A word that has to be given, in its place.
+pub(crate) fn word<'a>(alloc: Global, name: &'static str, help: &'static str) -> Arg<'a> {
+    Arg::new(alloc, name)
+        .help(help)
+        .required(true)
+        .action(ArgAction::Set)
+}
+
+/// The word that names the configuration's file.
+pub(crate) fn config_word<'a>(alloc: Global) -> Arg<'a> {
+    word(
+        alloc,
+        "CONFIG",
+        "The configuration: an agent, its devices, packages",
+    )
+}
+
+/// An option that is given or not.
+pub(crate) fn flag<'a>(alloc: Global, name: &'static str, help: &'static str) -> Arg<'a> {
+    Arg::new(alloc, name)
+        .long(name)
+        .help(help)
+        .action(ArgAction::SetTrue)
+}
 
 /// The option that names the file of a trace.
 pub(crate) fn trace_option<'a>(alloc: Global) -> Arg<'a> {
@@ -44,10 +69,11 @@ pub(crate) fn store_option<'a>(alloc: Global, help: &'static str) -> Arg<'a> {
 
 /// The option that asks for JSON.
 pub(crate) fn json_option<'a>(alloc: Global) -> Arg<'a> {
-    Arg::new(alloc, "json")
-        .long("json")
-        .help("Writes one line of JSON in place of the text")
-        .action(ArgAction::SetTrue)
+    flag(
+        alloc,
+        "json",
+        "Writes one line of JSON in place of the text",
+    )
 }
 
 /// An option of a small number, below this one, and 0 where it isn't given.
@@ -66,40 +92,38 @@ fn small_option<'a>(
         .value_parser(value_parser!(u8).range(0..below))
 }
 
-/// A command with the options that make links rough.
-pub(crate) fn with_roughness<'a>(
-    alloc: Global,
-    command: Command<'a>,
-) -> Result<Command<'a>, clap::Error> {
-    let loss = small_option(
-        alloc,
-        "loss",
-        "P",
-        101,
-        "Loses so many of a hundred packets",
-    );
-    let duplicate = small_option(
-        alloc,
-        "duplicate",
-        "P",
-        101,
-        "Delivers so many of a hundred twice",
-    );
-    let delay = small_option(
-        alloc,
-        "delay",
-        "N",
-        9,
-        "Holds packets back for up to so many turns",
-    );
+/// The options that make links rough.
+pub(crate) fn roughness_options<'a>(alloc: Global) -> Result<Vec<Arg<'a>>, AllocError> {
     let seed = Arg::new(alloc, "seed")
         .long("seed")
         .value_name("N")
         .help("Which chances these are: a seed gives the same run again")
         .default_value("0")
         .value_parser(value_parser!(u64));
-    let command = command.arg(loss)?.arg(duplicate)?.arg(delay)?.arg(seed)?;
-    Ok(command)
+    Ok(vec![in alloc;
+        small_option(
+            alloc,
+            "loss",
+            "P",
+            101,
+            "Loses so many of a hundred packets"
+        ),
+        small_option(
+            alloc,
+            "duplicate",
+            "P",
+            101,
+            "Delivers so many of a hundred twice"
+        ),
+        small_option(
+            alloc,
+            "delay",
+            "N",
+            9,
+            "Holds packets back for up to so many turns"
+        ),
+        seed,
+    ]?)
 }
 
 /// The option that says with which package devices are updated.

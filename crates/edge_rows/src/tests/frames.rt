@@ -1,6 +1,6 @@
 //! Frames, read and written.
 
-use fw_edge::{FrameFault, Link, MemLink, read_frame, write_frame};
+use fw_edge::{FrameFault, Link, MemLink, StreamLink, read_frame, write_frame};
 use fw_world::Side;
 use mctp_wire::{RawPacket, Unit};
 use std::io::{self, Read, Write};
@@ -96,6 +96,7 @@ fn a_packet_of_69_bytes_is_no_frame_at_64(rt: HostRuntime) {
 struct Slow {
     given: usize,
     most: usize,
+    kind: io::ErrorKind,
     interrupted: bool,
 }
 
@@ -106,7 +107,7 @@ impl Read for Slow {
             return Err(io::Error::from(io::ErrorKind::Interrupted));
         }
         if self.given == self.most {
-            return Err(io::Error::from(io::ErrorKind::Other));
+            return Err(io::Error::from(self.kind));
         }
         let (Some(byte), Some(room)) = (FRAME.get(self.given), buffer.first_mut()) else {
             return Ok(0);
@@ -117,22 +118,63 @@ impl Read for Slow {
     }
 }
 
-/// A reader that fails after so many bytes.
-fn failing_after(most: usize) -> Slow {
+/// A reader that fails after so many bytes, in this way.
+fn failing_after(most: usize, kind: io::ErrorKind) -> Slow {
     Slow {
         given: 0,
         most,
+        kind,
         interrupted: false,
     }
 }
 
 #[test]
 fn a_frame_comes_byte_by_byte_or_the_reader_fails(rt: HostRuntime) -> Result<(), Fail> {
-    let packet = read_frame(Unit::U64, &mut failing_after(9))?;
-    assert!(rt; packet.as_slice() == PACKET);
-    for most in 0..9 {
-        let fault = read_frame(Unit::U64, &mut failing_after(most)).err();
-        assert!(rt; fault == Some(FrameFault::Io), "{most}");
+    let kinds = [
+        io::ErrorKind::Other,
+        io::ErrorKind::WouldBlock,
+        io::ErrorKind::TimedOut,
+    ];
+    for kind in kinds {
+        let packet = read_frame(Unit::U64, &mut failing_after(9, kind))?;
+        assert!(rt; packet.as_slice() == PACKET);
+        for most in 0..9 {
+            let fault = read_frame(Unit::U64, &mut failing_after(most, kind)).err();
+            assert!(rt; fault == Some(FrameFault::Io), "{most}");
+        }
+    }
+    Ok(())
+}
+
+/// An end of a stream that holds back what is written, and can't let it go.
+#[derive(Drop)]
+struct Stuck;
+
+impl Read for Stuck {
+    fn read(&mut self, _buffer: &mut [u8]) -> io::Result<usize> {
+        Ok(0)
+    }
+}
+
+impl Write for Stuck {
+    fn write(&mut self, buffer: &[u8]) -> io::Result<usize> {
+        Ok(buffer.len())
+    }
+
+    fn flush(&mut self) -> io::Result<()> {
+        Err(io::Error::from(io::ErrorKind::Other))
+    }
+}
+
+#[test]
+fn a_stream_that_cannot_let_go_fails_before_the_other_end_is_read(
+    rt: HostRuntime,
+) -> Result<(), Fail> {
+    for (from, to) in [(Side::Agent, Side::Device), (Side::Device, Side::Agent)] {
+        let mut link = StreamLink::new(Unit::U64, Stuck, Stuck);
+        link.send(from, &rising(7))?;
+        let fault = link.receive(to).err();
+        assert!(rt; fault == Some(FrameFault::Io) && link.failures() == 1 && link.asked() == 0);
     }
     Ok(())
 }

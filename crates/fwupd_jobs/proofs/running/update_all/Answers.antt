@@ -5,7 +5,7 @@ use Rattle.fw_world.specs.Moments.{added}
 use Rattle.fw_edge.proofs.Sending.{sent_none, sent_on}
 use Rattle.fwupd_jobs.proofs.Happened.{kept_on, kept_same}
 use Rattle.fwupd_jobs.proofs.Noted.{none_driven, run_begun, run_broken, run_noted, run_still}
-use Rattle.fwupd_jobs.proofs.Started.{counted_alike, none_unwritten, seen_next, turned_apart, unwritten_by, updates_more, updates_none, updates_off, updates_reached, updates_seen, updates_seen_off, watched_apart}
+use Rattle.fwupd_jobs.proofs.Started.{counted_alike, none_unwritten, seen_next, told_links, turned_apart, unwritten_by, updates_more, updates_none, updates_off, updates_reached, updates_seen, updates_seen_off, watched_apart}
 use Rattle.fw_edge.specs.declared.driving.EdgeFault.TheVariants as edges
 use Rattle.fwupd_jobs.proofs.running.update_all.Goals as goal
 
@@ -57,6 +57,11 @@ returns-in-Err-see_turn-clause-failed g c =
 
 pub returns-in-Err-see_turn-clause-step : goal.returns-in-Err-see_turn-clause-step
 returns-in-Err-see_turn-clause-step g c e = absurd (watched_apart c.in-Err-see_turn.fault edges.Step (sym c.watch_fault-in-Err-see_turn.ensures.told ∙ e))
+
+pub returns-in-Err-drive-clause-failed : goal.returns-in-Err-drive-clause-failed
+returns-in-Err-drive-clause-failed g c =
+    told_links c.in-Err-drive.fault c.broken_off.result (map (λ k. (g.L.Link.tally k).failures) c.args.links.now) (map (λ k. (g.L.Link.tally k).failures) c.loop.links)
+    (map (λ k. (g.L.Link.tally k).failures) c.drive.new.links) c.broken_off.ensures.told c.loop.invariant.kept c.in-Err-drive.ensures.stopped.failed
 
 pub returns-in-Err-drive-clause-unwritten : goal.returns-in-Err-drive-clause-unwritten
 returns-in-Err-drive-clause-unwritten g c = turned_apart c.in-Err-drive.fault c.broken_off.result _ c.broken_off.ensures.told
