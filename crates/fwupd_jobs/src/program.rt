@@ -1,8 +1,10 @@
 //! The program: it reads its words, does what they ask for, and says how that ended.
 
-ghost use Rattle.std.specs.Prelude.{◌≡◌, ◌≢◌, ◌⊎◌, ◌≤◌, IfErr};
+ghost use Rattle.std.specs.Prelude.{◌≡◌, ◌≢◌, ◌⊎◌, ◌≤◌, IfErr, OnOk};
+ghost use Rattle.std.specs.IoError.{error_kind};
 ghost use Rattle.std.specs.Process.{exit_status};
 ghost use Rattle.clap.specs.Values.{kind_of};
+ghost use Rattle.clap.specs.declared.error.kind.ErrorKind.TheVariants.{DisplayHelp, DisplayVersion, OutOfMemory};
 ghost use Rattle.fw_setup.specs.Stocks.{stores_in};
 ghost use Rattle.fwupd_jobs.specs.Jobs.{StatusSays, SystemSays};
 
@@ -18,13 +20,12 @@ use crate::sockets::Sockets;
 use crate::updating::Wires;
 use crate::watching::Onlookers;
 use crate::words::words;
-use clap::error::ErrorKind;
 use fw_edge::Link;
 use fw_setup::{Stores, SystemStores};
 use fw_soak::Onlooker;
 use fw_store::Folder;
 use fwupd_words::{Job, parse};
-use std::io::{self, Read, Write};
+use std::io::{self, ErrorKind, Read, Write};
 use std::process::ExitCode;
 
 /// Wrong usage.
@@ -115,25 +116,36 @@ fn run<W: Write + Drop>(rt: &HostRuntime, job: &Job<'_>, output: &mut Output<W>)
     status
 }
 
+/// The status where a text was printed in place of a job, or couldn't be: 2 for wrong usage; for help 0, also where its reader is
+/// gone, and 1 where standard output takes it not, which is told.
+fn printed(rt: &HostRuntime, error: &clap::Error, outcome: io::Result<()>) -> ExitCode
+    ensures usage { kind_of error.now ≢ DisplayHelp → kind_of error.now ≢ DisplayVersion → exit_status result ≡ 2 }
+    ensures shown { (kind_of error.now ≡ DisplayHelp) ⊎ (kind_of error.now ≡ DisplayVersion) → OnOk outcome (exit_status result ≡ 0) }
+    ensures gone { (kind_of error.now ≡ DisplayHelp) ⊎ (kind_of error.now ≡ DisplayVersion) → IfErr outcome (λ e. error_kind e ≡ ErrorKind.BrokenPipe → exit_status result ≡ 0) }
+    ensures lost { (kind_of error.now ≡ DisplayHelp) ⊎ (kind_of error.now ≡ DisplayVersion) → IfErr outcome (λ e. error_kind e ≢ ErrorKind.BrokenPipe → exit_status result ≡ 1) }
+{
+    match outcome {
+        Ok(()) => ExitCode::from(error.exit_code() as u8),
+        Err(_) if error.use_stderr() => ExitCode::from(USAGE),
+        Err(failure) if failure.kind() == ErrorKind::BrokenPipe => ExitCode::SUCCESS,
+        Err(_) => failed(rt, &RunFault::Output),
+    }
+}
+
 /// Prints what stands in place of a job, the text of help or of wrong usage, and gives its status: 0 for help, also where its reader
 /// is gone, or 1 where standard output takes it not, and 2 for wrong usage. No contract says which words are which, or that what was printed arrived.
 fn no_job(rt: &HostRuntime, error: &clap::Error) -> ExitCode
-    ensures memory { kind_of error.now ≡ ErrorKind.OutOfMemory → exit_status result ≡ 1 }
-    ensures shown { (kind_of error.now ≡ ErrorKind.DisplayHelp) ⊎ (kind_of error.now ≡ ErrorKind.DisplayVersion)
+    ensures memory { kind_of error.now ≡ OutOfMemory → exit_status result ≡ 1 }
+    ensures shown { (kind_of error.now ≡ DisplayHelp) ⊎ (kind_of error.now ≡ DisplayVersion)
         → (exit_status result ≡ 0) ⊎ (exit_status result ≡ 1) }
-    ensures mistake { kind_of error.now ≢ ErrorKind.OutOfMemory → kind_of error.now ≢ ErrorKind.DisplayHelp → kind_of error.now ≢ ErrorKind.DisplayVersion
+    ensures mistake { kind_of error.now ≢ OutOfMemory → kind_of error.now ≢ DisplayHelp → kind_of error.now ≢ DisplayVersion
         → exit_status result ≡ 2 }
     ensures known { exit_status result ≤ 2 }
 {
-    if error.kind() == ErrorKind::OutOfMemory {
+    if error.kind() == clap::error::ErrorKind::OutOfMemory {
         return failed(rt, &RunFault::Memory);
     }
-    match error.print(rt) {
-        Ok(()) => ExitCode::from(error.exit_code() as u8),
-        Err(_) if error.use_stderr() => ExitCode::from(USAGE),
-        Err(failure) if failure.kind() == io::ErrorKind::BrokenPipe => ExitCode::SUCCESS,
-        Err(_) => failed(rt, &RunFault::Output),
-    }
+    printed(rt, error, error.print(rt))
 }
 
 /// Does what the words of the command line ask for, and gives the status: 0; 1 where a fault is printed on standard error; 2 for
