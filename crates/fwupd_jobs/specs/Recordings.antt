@@ -1,13 +1,16 @@
 -- What is written of the steps of a run, as a schedule that a replay reads.
 use Rattle.std.specs.Prelude.{ℕ, ◌≡◌, List, [], ◌∷◌, Ok, Option, None, Some, true}
 use Rattle.std.specs.Io.KnownBytes.{Appends}
+use Rattle.std.specs.List.{AllByRecursion}
+use Rattle.fw_edge.specs.Drives.{is_driven}
 use Rattle.fw_json.specs.Forms.{report_in}
 use Rattle.fwupd_base.specs.declared.forms.Form.{Form}
-use Rattle.fw_script.specs.ScheduleTexts.{AreSayable, idle_at, schedule_text, text_of_steps, ticks_text}
+use Rattle.fw_script.specs.ScheduleTexts.{AreSayable, IsSayable, idle_at, schedule_text, text_of_steps, ticks_text}
 use Rattle.fw_script.specs.Schedules.{script_of}
 use Rattle.fw_world.specs.Headline.{Run}
 use Rattle.fw_world.specs.Worlds.{WorldOf}
 use Rattle.fw_world.specs.declared.step.Step.{Step}
+use Rattle.fw_world.specs.declared.step.Step.TheVariants as steps
 
 -- What stood where steps are written when their recording began, and what stands there now, where that is known; and how many idle
 -- ticks are held back.
@@ -18,6 +21,14 @@ pub record RecordingOf : Type 0 where
 
 abbrev pub recording_of : (begun written : Option (List ℕ)) (idle : ℕ) → RecordingOf
 recording_of begun written idle = record { begun = begun; written = written; idle = idle }
+
+-- A schedule can say this step, and a run takes it: an update starts, or what comes of itself.
+abbrev pub IsRecordable : Step → Type 0
+IsRecordable (steps.Start device number) = IsSayable (steps.Start device number)
+IsRecordable s = (is_driven s ≡ true) × IsSayable s
+
+abbrev pub AreRecordable : List Step → Type 0
+AreRecordable ss = AllByRecursion IsRecordable ss
 
 -- nothing is written yet
 pub record IsNew (r : RecordingOf) : Type 0 where

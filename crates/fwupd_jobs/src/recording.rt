@@ -4,7 +4,7 @@ ghost use Rattle.std.specs.Prelude.{◌≡◌, ◌⊎◌, ◌<◌, ◌^◌, [], 
 ghost use Rattle.exch_lane.specs.Lanes.{IsEid};
 ghost use Rattle.std.specs.Io.Buffered.{writer_buffer, writer_contents, writer_inner};
 ghost use Rattle.fw_script.specs.ScheduleTexts.{AreSayable, IsSayable};
-ghost use Rattle.fwupd_jobs.specs.Recordings.{Ends, Writes, recording_of};
+ghost use Rattle.fwupd_jobs.specs.Recordings.{AreRecordable, Ends, IsRecordable, Writes, recording_of};
 
 use crate::running::WatchFault;
 use fw_script::ScheduleText;
@@ -31,7 +31,8 @@ fn is_eid(eid: u8) -> bool
 
 /// Whether a number is one of 64 bits, as each of the code is.
 fn is_counted(number: usize) -> bool
-    ensures { result ≡ true → number < 2 ^ 64 }
+    ensures is { result ≡ true → number < 2 ^ 64 }
+    ensures not { result ≡ false → ¬ (number < 2 ^ 64) }
 {
     number <= usize::MAX
 }
@@ -39,7 +40,8 @@ fn is_counted(number: usize) -> bool
 /// Whether a step is one that a run takes and a schedule can say: the update of a device starts, a packet comes, a tick passes
 /// that nobody misses, a device has its verdict or activates.
 fn is_said(step: &Step) -> bool
-    ensures { result ≡ true → IsSayable step.now }
+    ensures said { result ≡ true → IsSayable step.now }
+    ensures taken { IsRecordable step.now → result ≡ true }
 {
     match step {
         Step::Deliver(pair, number, node) => {
@@ -55,7 +57,8 @@ fn is_said(step: &Step) -> bool
 
 /// Whether each of these steps is.
 fn are_said(steps: &[Step]) -> bool
-    ensures { result ≡ true → AreSayable steps.now }
+    ensures said { result ≡ true → AreSayable steps.now }
+    ensures taken { AreRecordable steps.now → result ≡ true }
 {
     for step in steps {
         if !is_said(step) {

@@ -1,6 +1,6 @@
 //! A byte stream that is written behind.
 
-ghost use Rattle.std.specs.Prelude.{◌≡◌, [], IfErr, IfOk};
+ghost use Rattle.std.specs.Prelude.{◌≡◌, [], IfErr, IfOk, OnOk};
 ghost use Rattle.std.specs.IoError.{error_kind};
 ghost use Rattle.std.specs.Io.Buffered.{writer_buffer, writer_contents, writer_inner};
 
@@ -43,7 +43,9 @@ impl<S: Read + Write + Drop> Write for WriteBehind<S> {
         self.writer.write(bytes)
     }
 
-    fn flush(&mut self) -> io::Result<()> {
+    fn flush(&mut self) -> io::Result<()>
+        ensures out { OnOk result (writer_buffer self.new.writer ≡ []) }
+    {
         self.writer.flush()
     }
 }
