@@ -222,7 +222,7 @@ unflushed e tid text a w v part h kept =
     subst (λ t. BrokenOff e t a v) (append-nil text) (broken_line e tid text [] a w v part h began tt)
 
 pub reads_start : (e : Endpoint) (a w : Option (List ℕ)) → Reads e 0 0 a a w w []
-reads_start e a w = record { text = []; past = []; limit = λ n. absurd (n refl); size = refl; read = Consumes-nil a; stands = stands_start e w }
+reads_start e a w = record { text = []; past = []; within = omega arith; limit = λ n. absurd (n refl); size = refl; read = Consumes-nil a; stands = stands_start e w }
 
 -- within the limit there is no byte past it
 none_past : (text past : List ℕ) (count : ℕ) → (past ≢ [] → (length past ≡ 1) × (length text ≡ 16777216)) → length text + length past ≡ count → count ≤ 16777216 → past ≡ []
@@ -241,6 +241,7 @@ stopped_within e tid count a b c w v part fault r within kept = record {
   part = part;
   one = r.stands.one;
   past = [];
+  within = subst (λ t. length t ≤ 16777216) r.stands.is r.within;
   limit = λ n. absurd (n refl);
   read = subst (λ t. Consumes a c (t ++ [])) r.stands.is (read_text e tid count a b c w v part [] r within (Consumes-kept b b c [] (Consumes-nil b) kept));
   written = r.stands.written;
@@ -253,6 +254,7 @@ stopped_past e tid count a b w v part r = record {
   part = part;
   one = r.stands.one;
   past = r.past;
+  within = subst (λ t. length t ≤ 16777216) r.stands.is r.within;
   limit = λ n. (refl, (r.limit n).0, subst (λ t. length t ≡ 16777216) r.stands.is (r.limit n).1);
   read = subst (λ t. Consumes a b (t ++ r.past)) r.stands.is r.read;
   written = r.stands.written;
@@ -274,7 +276,7 @@ pub finish_broken : {T : Type 0} (e : Endpoint) (tid count : ℕ) (a b c w v u :
     → OnErr f (BrokenOff e r.text w u) → IfErr f (λ x. x ≡ Write → Broken e a c w u)
 finish_broken e tid count a b c w v u part (Ok x) r within read h = tt
 finish_broken e tid count a b c w v u part (Err x) r within read h =
-    λ _. record { text = r.text; past = []; most = omega arith; read = read_text e tid count a b c w v part [] r within read; off = h }
+    λ _. record { text = r.text; past = []; within = r.within; most = omega arith; read = read_text e tid count a b c w v part [] r within read; off = h }
 
 -- so much was read of which so much is within the limit
 read_on : (e : Endpoint) (tid count : ℕ) (a b c w v : Option (List ℕ)) (part got : List ℕ) (n m : ℕ) (r : Reads e tid count a b w v part) → count ≤ 16777216 → Consumes b c (take n got) → m ≤ n
@@ -302,6 +304,7 @@ reads_more e tid next count a b c w v u part after got n m r within read most is
     record {
       text = r.text ++ take m got;
       past = drop m (take n got);
+      within = omega (arith, is, joined, first, r.size, none);
       limit = λ some. (let more = nonempty (drop m (take n got)) some in (omega (arith, more, rest, is), omega (arith, more, rest, is, joined, first, r.size, none)));
       size = omega (arith, rest, is, joined, first, r.size, none);
       read = read_on e tid count a b c w v part got n m r within read (omega (arith, is));
@@ -312,10 +315,14 @@ reads_more e tid next count a b c w v u part after got n m r within read most is
 pub turn_broken : (e : Endpoint) (tid count : ℕ) (a b c w v u : Option (List ℕ)) (part got : List ℕ) (n m : ℕ) (r : Reads e tid count a b w v part) → count ≤ 16777216 → Consumes b c (take n got)
     → n + count ≤ 16777217 → m ≡ min n (16777216 - count) → n ≤ length got → BrokenOff e (r.text ++ take m got) w u → Broken e a c w u
 turn_broken e tid count a b c w v u part got n m r within read most is room off =
+    let none = ap length (none_past r.text r.past count r.limit r.size within) in
     let rest = length_rest m n got room in
+    let first : length (take m got) ≡ m = length-take-le m got (omega (arith, is)) in
+    let joined : length (r.text ++ take m got) ≡ length r.text + length (take m got) = length-append r.text (take m got) in
     record {
       text = r.text ++ take m got;
       past = drop m (take n got);
+      within = omega (arith, is, joined, first, r.size, none);
       most = omega (arith, rest, is);
       read = read_on e tid count a b c w v part got n m r within read (omega (arith, is));
       off = off;

@@ -32,6 +32,7 @@ pub record Stopped (e : Endpoint) (fault : AnswerFault) (read_before read_now wr
   pub part : List ℕ
   pub one : IsOneLine part
   pub past : List ℕ
+  pub within : length (ended lines ++ part) ≤ 16777216
   pub limit : past ≢ [] → (fault ≡ Read) × (length past ≡ 1) × (length (ended lines ++ part) ≡ 16777216)
   pub read : Consumes read_before read_now ((ended lines ++ part) ++ past)
   pub written : Appends written_before written_now (lines_text e 0 lines)
@@ -62,6 +63,7 @@ pub record BrokenOff (e : Endpoint) (text : List ℕ) (before now : Option (List
 pub record Broken (e : Endpoint) (read_before read_now written_before written_now : Option (List ℕ)) : Type 0 where
   pub text : List ℕ
   pub past : List ℕ
+  pub within : length text ≤ 16777216
   pub most : length past ≤ 1
   pub read : Consumes read_before read_now (text ++ past)
   pub off : BrokenOff e text written_before written_now
@@ -70,6 +72,7 @@ pub record Broken (e : Endpoint) (read_before read_now written_before written_no
 pub record Reads (e : Endpoint) (tid count : ℕ) (read_before read_now written_before written_now : Option (List ℕ)) (part : List ℕ) : Type 0 where
   pub text : List ℕ
   pub past : List ℕ
+  pub within : length text ≤ 16777216
   pub limit : past ≢ [] → (length past ≡ 1) × (length text ≡ 16777216)
   pub size : length text + length past ≡ count
   pub read : Consumes read_before read_now (text ++ past)

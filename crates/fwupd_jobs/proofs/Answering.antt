@@ -33,6 +33,7 @@ stopped_kept e fault rb rn before w v h k = record {
   part = h.part;
   one = h.one;
   past = h.past;
+  within = h.within;
   limit = h.limit;
   read = h.read;
   written = appends_kept before w v (lines_text e 0 h.lines) h.written k;
@@ -55,6 +56,7 @@ broken_kept : (e : Endpoint) (rb rn before w v : Option (List ℕ)) → Broken e
 broken_kept e rb rn before w v h k = record {
   text = h.text;
   past = h.past;
+  within = h.within;
   most = h.most;
   read = h.read;
   off = off_kept e h.text before w v h.off k;

@@ -19,16 +19,22 @@ use Rattle.fwupd_jobs.specs.declared.files.FileFault.{FileFault}
 use Rattle.fwupd_jobs.specs.declared.files.FileFault.TheVariants as reasons
 use Rattle.fwupd_jobs.specs.declared.files.FileIdentity.{FileIdentity}
 
+-- where a file lies, or would: in which folder, and by which name
+pub record PlaceOf : Type 0 where
+  pub folder : FileIdentity
+  pub name : List ℕ
+
 -- What is known of the file of a path before it is read: its bytes, if they are, whether it may be that it can't be read, and
--- which file it is, or that there is none, if that is known.
+-- which file it is, or that there is none, and where it lies, or that this is nowhere, if that is known.
 pub record FileOf : Type 0 where
   pub bytes : Option (List ℕ)
   pub may_fail : Bool
   pub identity : Option (Option FileIdentity)
+  pub place : Option (Option PlaceOf)
 
 -- nothing is
 abbrev pub any_file : FileOf
-any_file = record { bytes = None; may_fail = true; identity = None }
+any_file = record { bytes = None; may_fail = true; identity = None; place = None }
 
 -- bytes that a file may hold of which this is known
 abbrev pub MayHold : FileOf → List ℕ → Type 0
@@ -44,23 +50,43 @@ pub record MayBegin (file : FileOf) (beginning : List ℕ) (file_length : ℕ) :
 abbrev pub MayBe : FileOf → Option FileIdentity → Type 0
 MayBe file identity = IfSome file.identity (λ known. identity ≡ known)
 
+-- where it may lie
+abbrev pub MayLie : FileOf → Option PlaceOf → Type 0
+MayLie file place = IfSome file.place (λ known. place ≡ known)
+
+-- two paths name one place
+pub record IsOnePlace (first second : FileOf) : Type 0 where
+  pub place : PlaceOf
+  pub of_first : MayLie first (Some place)
+  pub of_second : MayLie second (Some place)
+
+-- two paths name two places, or one of them none
+pub record AreTwoPlaces (first second : FileOf) : Type 0 where
+  pub one : Option PlaceOf
+  pub other : Option PlaceOf
+  pub of_first : MayLie first one
+  pub of_second : MayLie second other
+  pub differ : IfSome one (λ place. other ≢ Some place)
+
 -- two paths name one file
 pub record IsOneFile (first second : FileOf) : Type 0 where
   pub identity : FileIdentity
   pub of_first : MayBe first (Some identity)
   pub of_second : MayBe second (Some identity)
 
--- two paths name two files, or one of them none
+-- two paths name two files, or one of them none; or both none, in two places
 pub record AreTwoFiles (first second : FileOf) : Type 0 where
   pub one : Option FileIdentity
   pub other : Option FileIdentity
   pub of_first : MayBe first one
   pub of_second : MayBe second other
   pub differ : IfSome one (λ identity. other ≢ Some identity)
+  pub places : one ≡ None → other ≡ None → AreTwoPlaces first second
 
--- What is written to a path is written over the file of another: they are spelled alike, or name one file.
+-- What is written to a path is written over the file of another: they are spelled alike, or name one file, or one place where there is
+-- none yet.
 abbrev pub IsOver : (files : List ℕ → FileOf) → (written path : List ℕ) → Type 0
-IsOver files written path = (path ≡ written) ⊎ IsOneFile (files path) (files written)
+IsOver files written path = (path ≡ written) ⊎ (IsOneFile (files path) (files written) ⊎ IsOnePlace (files path) (files written))
 
 -- It isn't: they are spelled otherwise, and name two files.
 abbrev pub IsApartFrom : (files : List ℕ → FileOf) → (written path : List ℕ) → Type 0

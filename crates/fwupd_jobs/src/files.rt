@@ -3,7 +3,7 @@
 ghost use Rattle.std.specs.Io.KnownBytes.{IsAtEnd};
 ghost use Rattle.std.specs.Prelude.{◌≡◌, ◌≢◌, ◌∷◌, IfErr, IfOk, IfSome, IsSomeAnd, List, OnOk, option_map, false, map, string_bytes, true, ℕ};
 ghost use Rattle.std.specs.List.{AllByRecursion};
-ghost use Rattle.fwupd_jobs.specs.Setups.{FileOf, IsApartFrom, IsOver, IsOverOne, MayBe, MayBegin, MayHold, any_file};
+ghost use Rattle.fwupd_jobs.specs.Setups.{AreTwoPlaces, FileOf, IsApartFrom, IsOnePlace, IsOver, IsOverOne, MayBe, MayBegin, MayHold, any_file};
 
 use crate::beginnings::{BEGINNING, Beginning, read_first};
 use fwupd_base::read_some;
@@ -53,6 +53,11 @@ pub trait Files {
     /// Which file a path names, if one is found there.
     fn identity(&self, path: &str) -> Option<FileIdentity>
         ensures { MayBe (holds self.now path.now) result };
+
+    /// Whether two paths name one place, whether or not a file lies there: the same name in the same folder.
+    fn is_one_place(&self, one: &str, other: &str) -> bool
+        ensures same { result ≡ true → IsOnePlace (holds self.now one.now) (holds self.now other.now) }
+        ensures apart { result ≡ false → AreTwoPlaces (holds self.now one.now) (holds self.now other.now) };
 }
 
 /// The files of the system, of which nothing is known before they are read.
@@ -165,9 +170,30 @@ impl<'a> Files for SystemFiles<'a> {
             Err(_) => None,
         }
     }
+
+    fn is_one_place(&self, one: &str, other: &str) -> bool {
+        let (one_folder, one_name) = folder_and_name(one);
+        let (other_folder, other_name) = folder_and_name(other);
+        if one_name != other_name {
+            return false;
+        }
+        match (self.identity(one_folder), self.identity(other_folder)) {
+            (Some(first), Some(second)) => first == second,
+            _ => false,
+        }
+    }
 }
 
-/// Whether two paths are of one file: they are spelled alike, or both name the same.
+/// The folder of a path's file, and its name there.
+fn folder_and_name(path: &str) -> (&str, &str) {
+    match path.rsplit_once('/') {
+        Some(("", name)) => ("/", name),
+        Some((folder, name)) => (folder, name),
+        None => (".", path),
+    }
+}
+
+/// Whether two paths are of one file: they are spelled alike, or both name the same, or one place where there is none yet.
 pub fn is_same_file<F: Files>(files: &F, one: &str, other: &str) -> bool
     ensures same { result ≡ true → IsOver (F.holds files.now) other.now one.now }
     ensures apart { result ≡ false → IsApartFrom (F.holds files.now) other.now one.now }
@@ -177,6 +203,7 @@ pub fn is_same_file<F: Files>(files: &F, one: &str, other: &str) -> bool
     }
     match (files.identity(one), files.identity(other)) {
         (Some(first), Some(second)) => first == second,
+        (None, None) => files.is_one_place(one, other),
         _ => false,
     }
 }

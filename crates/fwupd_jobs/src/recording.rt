@@ -31,8 +31,8 @@ fn is_eid(eid: u8) -> bool
 
 /// Whether a number is one of 64 bits, as each of the code is.
 fn is_counted(number: usize) -> bool
-    ensures is { result ≡ true → number < 2 ^ 64 }
-    ensures not { result ≡ false → ¬ (number < 2 ^ 64) }
+    ensures is { number < 2 ^ 64 }
+    ensures always { result ≡ true }
 {
     number <= usize::MAX
 }

@@ -148,6 +148,7 @@ fn write_pair<B: Bank + Drop, W: Write>(
     ensures read { OnOk result (reader.new ≡ reader_of_pair form reader.old (slice_get world.now.sites place) written) }
     ensures count { IfOk result (λ n. IfSome (slice_get world.now.sites place) (λ x. n ≡ length x.packets)) }
     ensures fault { IfErr result (λ e. (e ≡ WatchFault.Memory) ⊎ (e ≡ WatchFault.Unwritten)) }
+    ensures unwritten { IfErr result (λ e. e ≡ WatchFault.Unwritten → reader.new ≡ reader_of_pair form reader.old (slice_get world.now.sites place) written) }
 {
     let (Some(node), Some(packets)) = (world.device_at(place), world.packets_at(place)) else {
         return Ok(0);

@@ -56,6 +56,10 @@ impl<'a> Files for MemFiles<'a> {
         }
         None
     }
+
+    fn is_one_place(&self, one: &str, other: &str) -> bool {
+        one == other
+    }
 }
 
 /// An agent and a device.
