@@ -174,13 +174,8 @@ impl<'a> Files for SystemFiles<'a> {
     fn is_one_place(&self, one: &str, other: &str) -> bool {
         let (one_folder, one_name) = folder_and_name(one);
         let (other_folder, other_name) = folder_and_name(other);
-        if one_name != other_name {
-            return false;
-        }
-        match (self.identity(one_folder), self.identity(other_folder)) {
-            (Some(first), Some(second)) => first == second,
-            _ => false,
-        }
+        let folder = self.identity(one_folder);
+        folder.is_some() && folder == self.identity(other_folder) && one_name == other_name
     }
 }
 
