@@ -3,6 +3,7 @@
 ghost use Rattle.std.specs.Prelude.{◌≡◌, [], IfErr, IfOk, OnOk};
 ghost use Rattle.std.specs.IoError.{error_kind};
 ghost use Rattle.std.specs.Io.Buffered.{writer_buffer, writer_contents, writer_inner};
+ghost use Rattle.std.specs.Io.KnownBytes.{Keeps};
 
 use std::alloc::Global;
 use std::io::{self, BufWriter, ErrorKind, Read, Write};
@@ -44,6 +45,7 @@ impl<S: Read + Write + Drop> Write for WriteBehind<S> {
     }
 
     fn flush(&mut self) -> io::Result<()>
+        ensures bytes { Keeps (writer_contents S.contents self.old.writer) (writer_contents S.contents self.new.writer) }
         ensures out { OnOk result (writer_buffer self.new.writer ≡ []) }
     {
         self.writer.flush()
