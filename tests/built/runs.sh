@@ -55,7 +55,7 @@ runs() {
 # Traces and logs that would be written over a file which is read, by whatever name, and logs over the trace: each is refused, makes no
 # socket and empties nothing. No trace is made of a run whose files aren't there.
 traces() {
-    local name before folder=$work/traced
+    local name first before folder=$work/traced
     mkdir -p "$folder/data"
     cp crates/fwupd/data/worlds/one.config "$folder"
     cp crates/fwupd/data/one.fwpkg "$folder/data"
@@ -81,6 +81,17 @@ traces() {
     compare "a log into the trace" 'fwupd: sel kept' "$(cd "$folder" && fwupd run --trace both --sel ./both one.config . 2>&1) $(< "$folder/both")"
     compare "a replay's log into its trace" 'fwupd: sel kept' \
         "$(cd "$folder" && fwupd replay --trace both --sel ./both one.config steps 2>&1) $(< "$folder/both")"
+    mkdir -p "$folder/in"
+    ln -sfn in "$folder/too"
+    for name in ./fresh in/../fresh "$folder/fresh" too/fresh; do
+        [[ $name == too/* ]] && first=in/fresh || first=fresh
+        compare "a log into a trace that isn't there yet, $name" 'fwupd: sel none' \
+            "$(cd "$folder" && fwupd run --trace "$first" --sel "$name" one.config . 2>&1) $([[ -e $folder/$first ]] || echo none)"
+        compare "a recording into a trace that isn't there yet, $name" 'fwupd: record none' \
+            "$(cd "$folder" && fwupd run --trace "$first" --record "$name" one.config . 2>&1) $([[ -e $folder/$first ]] || echo none)"
+    done
+    compare 'a log beside a trace' '27 48' \
+        "$(cd "$folder" && fwupd run --quiet --trace in/fresh --sel fresh one.config . > report && echo "$(wc -l < in/fresh) $(wc -c < fresh)")"
     row '' '1||fwupd: package: none' run --trace "$work/early" "$work/bare" "$work/folder"
     row '' "1||fwupd: $work/none: unreadable" run --trace "$work/early" "$work/none" "$work/folder"
     compare 'no trace is made' '' "$(ls "$work/early" 2> "$work/err")"
