@@ -1,6 +1,7 @@
 // Loaded before the program, refuses its allocation of the number REFUSE, or the call of the number STOP with which it writes a
 // file, or the call of the number FAIL with which it opens, writes, syncs, renames or removes one, and then makes the file REFUSED.
-// With SHORT, a call writes at most so many bytes. With FULL, the disk is full from the write of that number on.
+// With SHORT, a call writes at most so many bytes. With FULL, the disk is full from the write of that number on. With UNSYNCED, the
+// call of that number fails which has a file's bytes on the disk (fdatasync).
 #define _GNU_SOURCE
 #include <errno.h>
 #include <fcntl.h>
@@ -98,8 +99,14 @@ int fsync(int file) {
     return is_stopped() || is_failed() ? -1 : syscall(SYS_fsync, file);
 }
 
+static int is_unsynced(void) {
+    static long left = -1;
+    if (left < 0) left = number_in("UNSYNCED");
+    return is_last(&left, EIO);
+}
+
 int fdatasync(int file) {
-    return is_failed() ? -1 : syscall(SYS_fdatasync, file);
+    return is_failed() || is_unsynced() ? -1 : syscall(SYS_fdatasync, file);
 }
 
 int rename(const char *from, const char *to) {
