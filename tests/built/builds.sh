@@ -90,3 +90,22 @@ built_texts() {
     row '' '1||fwupd: output' build "$work/spec" "$work/made"
     rm "$work/made.new"
 }
+
+# A package isn't built over what it is built of, by whatever name, nor in the place of what is no file.
+built_apart() {
+    local name before
+    mkdir -p "$work/apart/folder"
+    printf 'an image' > "$work/apart/image"
+    echo "component 1 1 1 1 1 v $work/apart/image" > "$work/apart/spec"
+    ln "$work/apart/image" "$work/apart/linked"
+    ln -s spec "$work/apart/named"
+    mkfifo "$work/apart/pipe"
+    ln -s /dev/null "$work/apart/device"
+    before=$(cksum "$work/apart/spec" "$work/apart/image")
+    for name in spec named folder/../spec image linked folder pipe device; do
+        row '' '1||fwupd: output' build "$work/apart/spec" "$work/apart/$name"
+        compare "what a package into $name is built of" "$before" "$(cksum "$work/apart/spec" "$work/apart/image")"
+    done
+    compare 'what is no file is left' '/dev/null fifo' "$(readlink "$work/apart/device") $(stat -c %F "$work/apart/pipe")"
+    compare 'nothing is begun' '' "$(ls "$work/apart" | grep new)"
+}

@@ -55,7 +55,7 @@ runs() {
 # Traces and logs that would be written over a file which is read, by whatever name, and logs over the trace: each is refused, makes no
 # socket and empties nothing. No trace is made of a run whose files aren't there.
 traces() {
-    local name first before folder=$work/traced
+    local name option first before folder=$work/traced
     mkdir -p "$folder/data"
     cp crates/fwupd/data/worlds/one.config "$folder"
     cp crates/fwupd/data/one.fwpkg "$folder/data"
@@ -90,8 +90,26 @@ traces() {
         compare "a recording into a trace that isn't there yet, $name" 'fwupd: record none' \
             "$(cd "$folder" && fwupd run --trace "$first" --record "$name" one.config . 2>&1) $([[ -e $folder/$first ]] || echo none)"
     done
+    ln -s nowhere "$folder/loose"
+    compare 'a log into a link to no file' 'fwupd: sel none' \
+        "$(cd "$folder" && fwupd run --trace nowhere --sel loose one.config . 2>&1) $([[ -e $folder/nowhere ]] || echo none)"
     compare 'a log beside a trace' '27 48' \
         "$(cd "$folder" && fwupd run --quiet --trace in/fresh --sel fresh one.config . > report && echo "$(wc -l < in/fresh) $(wc -c < fresh)")"
+    fwupd run --store "$folder/store" "$folder/one.config" "$folder" > /dev/null 2>&1 || (cd "$folder" && fwupd run --store store one.config . > report)
+    ln -sfn store/9 "$folder/into"
+    before=$(cd "$folder" && cksum store/history store/9/*)
+    for name in store/history store/9/active store/9/10-1.1.image store/new in/../store/9/new into/new; do
+        for option in trace sel record; do
+            compare "a $option in a store, $name" "fwupd: $option" "$(cd "$folder" && fwupd run --store store --$option "$name" one.config . 2>&1)"
+        done
+        for option in trace sel; do
+            compare "a replay's $option in a store, $name" "fwupd: $option" "$(cd "$folder" && fwupd replay --store store --$option "$name" one.config steps 2>&1)"
+        done
+        compare "the store beside $name" "$before" "$(cd "$folder" && cksum store/history store/9/*)"
+    done
+    ln -s ../../data "$folder/store/9/data"
+    compare 'a trace in a folder of the store' 'fwupd: trace' "$(cd "$folder/store/9" && fwupd run --store .. --trace active ../../one.config . 2>&1)"
+    compare 'a trace beside a store' 0 "$(cd "$folder" && fwupd replay --store store --trace in/beside one.config steps > report 2>&1; echo $?)"
     row '' '1||fwupd: package: none' run --trace "$work/early" "$work/bare" "$work/folder"
     row '' "1||fwupd: $work/none: unreadable" run --trace "$work/early" "$work/none" "$work/folder"
     compare 'no trace is made' '' "$(ls "$work/early" 2> "$work/err")"
@@ -184,11 +202,18 @@ explained() {
 none: No such file or directory (os error 2)' "$(shown_by inspect none | tr -d '\r')"
     { grep -v '^package' crates/fwupd/data/worlds/one.config; printf 'package data/one.fwpkg\n# the second\npackage %s\n' "$work/short"; } > "$work/pair.config"
     printf 'no package' > "$work/short"
-    for job in plan "run --quiet"; do
+    for job in plan "soak --runs 1" "run --quiet"; do
         compare "which package is none, by $job" "fwupd: package: Short
-$work/pair.config: line $(wc -l < "$work/pair.config"): $work/short" "$(shown_by $job "$work/pair.config" $([[ $job == plan ]] || echo "$work") | tr -d '\r')"
+$work/pair.config: line $(wc -l < "$work/pair.config"): $work/short" "$(shown_by $job "$work/pair.config" $([[ $job == run* ]] && echo "$work") | tr -d '\r')"
     done
     printf '# three units\ntick 3\n\nverdict 9 verify-ok\n' > "$work/late.schedule"
+    compare 'why a trace is not made' "fwupd: trace
+$work/nowhere/trace: No such file or directory (os error 2)" "$(shown_by run --quiet --trace "$work/nowhere/trace" data/worlds/one.config "$work" | tr -d '\r')"
+    compare 'why a log is not made' "fwupd: sel
+$work: Is a directory (os error 21)" "$(shown_by replay --sel "$work" data/worlds/one.config "$top/examples/update.schedule" | tr -d '\r')"
+    compare 'why a recording is refused' 'fwupd: record
+data/one.fwpkg: it is another file of this command, or lies in its store, or the disk is full' \
+        "$(shown_by run --quiet --record data/one.fwpkg data/worlds/one.config "$work" | tr -d '\r')"
     compare 'which line a step stands in' "fwupd: step 4: Refused:NotNow
 $work/late.schedule: line 4: verdict 9 verify-ok" "$(shown_by replay data/worlds/one.config "$work/late.schedule" | tr -d '\r')"
     compare 'nothing is said elsewhere' 'fwupd: none: unreadable' "$(fwupd inspect none 2>&1)"

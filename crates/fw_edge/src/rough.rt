@@ -36,7 +36,10 @@ pub struct Held {
 /// on twice; and one that is late is held back for so many turns. What the link below gives, it gives.
 ///
 /// A turn, as a link sees it, ends where its ends are asked one after the other, the device's first, and neither gives a frame.
-/// `drive` asks so in the last round of each turn, and for a single device in no other.
+/// `drive` asks so in the last round of each turn, unless it stops there at its limit of frames, and for a single device in no other.
+///
+/// Where the link below fails to take what is due, all that is held back stays so, also what has gone out: a caller who goes on sends
+/// it once more.
 #[derive(Drop)]
 pub struct Rough<L: Link + Drop> {
     link: L,
@@ -45,7 +48,7 @@ pub struct Rough<L: Link + Drop> {
     held: Vec<Held>,
     /// How many turns have ended.
     turn: u64,
-    /// Whether the device's end gave nothing when it was asked last, and the agent's gave no answer since.
+    /// Whether the device's end gave nothing when it was asked last, and the agent's gave no answer and no call failed since.
     is_idle: bool,
     tally: Tally,
 }
@@ -247,11 +250,13 @@ impl<L: Link + Drop> Link for Rough<L> {
         ensures kept { OnErr result (self.new.held ≡ self.old.held) }
         ensures turn_still { OnErr result ((self.new.turn ≡ self.old.turn) ⊎ ((ends_turn side false self.old.is_idle ≡ true) × (self.new.turn ≡ min (self.old.turn + 1) (2 ^ 64 - 1)))) }
         ensures idle { IfOk result (λ p. self.new.is_idle ≡ idle_after side (is_some p)) }
+        ensures idle_no_more { OnErr result (self.new.is_idle ≡ false) }
         ensures same { (self.new.generator ≡ self.old.generator) × (self.new.roughness ≡ self.old.roughness) }
     {
         let packet = match self.link.receive(side) {
             Ok(packet) => packet,
             Err(fault) => {
+                self.is_idle = false;
                 self.tally.fail();
                 return Err(fault);
             }

@@ -86,7 +86,8 @@ impl<S: Read + Write + Drop> StreamLink<S> {
     }
 
     /// Reads a frame at an end, if one is on the way there; else it leaves the streams as they are. What the stream of the other
-    /// end holds back goes out before, and nothing else is written there. A frame that can't be read is on the way no more.
+    /// end holds back goes out before, and nothing else is written there. A frame that can't be read, or before which that doesn't go
+    /// out, is on the way no more: behind a fault the streams of a link give nothing that can be relied on.
     fn read(&mut self, side: Side) -> Result<Option<RawPacket>, FrameFault>
         ensures tally { self.new.tally ≡ self.old.tally }
         ensures unit { self.new.unit ≡ self.old.unit }

@@ -11,9 +11,12 @@ over_used files (Some p) first second q paths (inl h) = inl (inr h)
 over_used files (Some p) first second q paths (inr h) = inr h
 
 over_read : (files : List ℕ → FileOf) (show : ShowOf) (q : List ℕ) (paths : List (List ℕ)) (told : RunFault) → IsOverRead files show paths told → IsOverRead files show (q ∷ paths) told
-over_read files show q paths faults.Trace h = over_used files show.trace None None q paths h
-over_read files show q paths faults.Log h = over_used files show.log show.trace None q paths h
-over_read files show q paths faults.Record h = over_used files show.record_path show.trace show.log q paths h
+over_read files show q paths faults.Trace (inl h) = inl (over_used files show.trace None None q paths h)
+over_read files show q paths faults.Trace (inr h) = inr h
+over_read files show q paths faults.Log (inl h) = inl (over_used files show.log show.trace None q paths h)
+over_read files show q paths faults.Log (inr h) = inr h
+over_read files show q paths faults.Record (inl h) = inl (over_used files show.record_path show.trace show.log q paths h)
+over_read files show q paths faults.Record (inr h) = inr h
 over_read files show q paths told h = h
 
 pub barred_more : (files : List ℕ → FileOf) (refuses : List ℕ → Bool) (show : ShowOf) (q : List ℕ) (paths : List (List ℕ)) (told : RunFault) (watched : WatchOf) → IsBarred files refuses show paths told watched

@@ -1,3 +1,4 @@
+pub mod AnyFiles
 mod Answering
 mod Barred
 mod Begun
@@ -8,6 +9,7 @@ mod Examined
 mod Foretold
 mod Happened
 mod Named
+mod Names
 mod Noted
 mod Packed
 mod Refused

@@ -10,6 +10,7 @@ use Rattle.fw_world.specs.Worlds.{WorldOf}
 use Rattle.fw_world.specs.declared.step.Step.{Step}
 use Rattle.fw_world.specs.declared.step.StepFault.{StepFault}
 use Rattle.fwupd_jobs.specs.Replayed.{IsReplayed, IsReport, Leaves, ReplayEnds, Reports, ReportsReplay}
+use Rattle.fwupd_jobs.specs.Histories.{AreKeptUpStill}
 use Rattle.fwupd_jobs.specs.Outputs.{FailsToPrint, OutputOf, Prints}
 use Rattle.fwupd_jobs.specs.Promises.{IsSafeSince}
 use Rattle.fwupd_jobs.specs.Recordings.{IsRecorded}
@@ -58,13 +59,13 @@ unopened files source number show refuses lacks w told watched begins (inr u) = 
 -- a run over links that doesn't end well
 pub update_ends : (files : List ℕ → FileOf) (source : SourceOf) (number : ℕ) (show : ShowOf) (refuses : List ℕ → Bool) (lacks : ℕ → Bool) (w v : WorldOf) (told : RunFault) (watched : WatchOf) (before now : OutputOf)
     → IsWatched files source number show w → watched.shows ≡ shown_of show → StepsLead number w v → IsSafeSince w v → StepsSeen number w v watched.seen → (told ≡ faults.Edge edges.Frame → NamesLost v watched.lost)
-    → (IsBroken told → watched.fault ≡ None → IfSome watched.recording (IsRecorded w v)) → DrivingEnds number show.form lacks w v told watched before now
+    → (IsBroken told → watched.fault ≡ None → IfSome watched.recording (IsRecorded w v)) → (IsBroken told → AreKeptUpStill watched.history v.history) → DrivingEnds number show.form lacks w v told watched before now
     → UpdateEnds files source number show refuses lacks told watched before now
-update_ends files source number show refuses lacks w v told watched before now begins shown reached promised sees lost recorded (inl h) =
-    inl (record { world = w; begins = begins; shown = shown; left = v; reached = reached; promised = promised; caused = h.0; sees = sees; lost = lost; recorded = recorded h.0.broken; written = h.1 })
-update_ends files source number show refuses lacks w v told watched before now begins shown reached promised sees lost recorded (inr (inl h)) =
+update_ends files source number show refuses lacks w v told watched before now begins shown reached promised sees lost recorded kept (inl h) =
+    inl (record { world = w; begins = begins; shown = shown; left = v; reached = reached; promised = promised; caused = h.0; sees = sees; lost = lost; recorded = recorded h.0.broken; kept_up = kept h.0.broken; written = h.1 })
+update_ends files source number show refuses lacks w v told watched before now begins shown reached promised sees lost recorded kept (inr (inl h)) =
     inr (inl (record { is = h.0; world = w; begins = begins; left = v; reached = reached; promised = promised; begun = h.1 }))
-update_ends files source number show refuses lacks w v told watched before now begins shown reached promised sees lost recorded (inr (inr h)) =
+update_ends files source number show refuses lacks w v told watched before now begins shown reached promised sees lost recorded kept (inr (inr h)) =
     inr (inr (record { kept = h.1; cause = unopened files source number show refuses lacks w told watched begins h.0 }))
 
 -- the store of a device isn't opened

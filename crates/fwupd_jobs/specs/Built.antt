@@ -1,5 +1,5 @@
 -- The package that the text in a file asks for, and what is written of it.
-use Rattle.std.specs.Prelude.{ℕ, ◌≡◌, ◌++◌, ◌⊎◌, List, [], ◌∷◌, Option, None, Some, Ok, Bool, true, IsSomeAnd, length, map, string_bytes}
+use Rattle.std.specs.Prelude.{ℕ, ◌≡◌, ◌++◌, ◌⊎◌, List, [], ◌∷◌, Option, None, Some, Ok, Bool, true, IfSome, IsSomeAnd, length, map, string_bytes}
 use Rattle.std.specs.List.{concat}
 use Rattle.fw_package.specs.Asked.{AskedComponentOf, AskedOf, AskedRecordOf, asked, refusal_of}
 use Rattle.fw_package.specs.Grammar.{IsPackage}
@@ -11,7 +11,7 @@ use Rattle.fw_script.specs.PackageSpecs.{PackageSpecOf, SpecComponentOf, SpecRec
 use Rattle.fw_script.specs.declared.faults.ScriptCause.{ScriptCause}
 use Rattle.fw_script.specs.declared.faults.ScriptCause.TheVariants as causes
 use Rattle.fw_script.specs.declared.faults.ScriptFault.{ScriptFault}
-use Rattle.fwupd_jobs.specs.Setups.{FileOf, IsUnread, MayHold, Says, TextFails}
+use Rattle.fwupd_jobs.specs.Setups.{FileOf, IsApartFrom, IsOver, IsUnread, MayHold, Says, TextFails}
 use Rattle.fwupd_jobs.specs.declared.faults.RunFault.{RunFault}
 use Rattle.fwupd_jobs.specs.declared.faults.RunFault.TheVariants as faults
 
@@ -111,6 +111,22 @@ pub record PackageRefused (files : List ℕ → FileOf) (path : List ℕ) (told 
 abbrev pub BuildEnds : (files : List ℕ → FileOf) → (path : List ℕ) → RunFault → Type 0
 BuildEnds files path told =
     (told ≡ faults.Memory) ⊎ ((told ≡ faults.Output) ⊎ (TextFails package_spec_of files path told ⊎ (SpecFails files path told ⊎ PackageRefused files path told)))
+
+-- What is written to a path is written over none of these images' files; or over one.
+abbrev pub IsApartFromImages : (files : List ℕ → FileOf) → (written : List ℕ) → List SpecComponentOf → Type 0
+IsApartFromImages files written [] = Unit {0}
+IsApartFromImages files written (c ∷ cs) = IfSome c.path (IsApartFrom files written) × IsApartFromImages files written cs
+
+abbrev pub IsOverImage : (files : List ℕ → FileOf) → (written : List ℕ) → List SpecComponentOf → Type 0
+IsOverImage files written [] = ⊥
+IsOverImage files written (c ∷ cs) = IsSomeAnd c.path (IsOver files written) ⊎ IsOverImage files written cs
+
+-- The package comes over neither the text that asks for it nor one of its images.
+pub record BuildsApart (files : List ℕ → FileOf) (path written : List ℕ) : Type 0 where
+  pub spec : PackageSpecOf
+  pub says : Says package_spec_of (files path) spec
+  pub text : IsApartFrom files written path
+  pub images : IsApartFromImages files written spec.components
 
 -- Where it is known what a path holds, it holds the package.
 abbrev pub Builds : (files : List ℕ → FileOf) → (path : List ℕ) → (is_known : Bool) → Option (List ℕ) → Type 0

@@ -1,6 +1,7 @@
 pub mod Answering
 pub mod Built
 pub mod Checked
+pub mod Clues
 pub mod Histories
 pub mod Inspected
 pub mod Jobs

@@ -25,9 +25,9 @@ abbrev pub end_asked : (device : ℕ) → Result (Head × List ℕ) WireFault �
 end_asked device (Err fault) = None
 end_asked device (Ok p) = end_in device p.0 (pldm_of p.1)
 
--- The line of a device that loads an image of this size for a component, of which it has asked for so many bytes. It begins where
--- the line before it began, and covers it.
-abbrev pub progress_line : (device : ℕ) → Key → (bytes size : ℕ) → List ℕ
-progress_line device key bytes size =
+-- The line of a device that loads an image of this size for a component, of which it has asked for the bytes up to an end, which may lie
+-- behind the image. It begins where the line before it began, and covers it.
+abbrev pub progress_line : (device : ℕ) → Key → (asked size : ℕ) → List ℕ
+progress_line device key asked size =
     numbered (codes "\rdevice ") device ++ numbered (codes " component ") key.classification ++ numbered (codes " ") key.identifier
-    ++ numbered (codes ": ") bytes ++ numbered (codes " of ") size ++ codes " bytes        "
+    ++ numbered (codes ": ") (min asked size) ++ numbered (codes " of ") size ++ codes " bytes        "

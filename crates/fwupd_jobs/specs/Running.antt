@@ -17,12 +17,12 @@ use Rattle.fw_world.specs.declared.step.StepFault.{StepFault}
 use Rattle.fw_world.specs.declared.step.StepFault.TheVariants as stops
 use Rattle.fw_world.specs.declared.step.Step.{Step}
 use Rattle.fw_world.specs.declared.step.Step.TheVariants as steps
-use Rattle.fwupd_jobs.specs.Histories.{AreKeptUp, HistoryOf}
+use Rattle.fwupd_jobs.specs.Histories.{AreKeptUp, AreKeptUpStill, HistoryOf}
 use Rattle.fwupd_jobs.specs.Outputs.{FailsToPrint, OutputOf, Prints}
 use Rattle.fwupd_jobs.specs.Promises.{IsSafeSince}
 use Rattle.fwupd_jobs.specs.Recordings.{IsRecorded, RecordingOf}
 use Rattle.fwupd_jobs.specs.Sessions.{undone_in}
-use Rattle.fwupd_jobs.specs.Setups.{FileOf, IsApartFrom, IsOver, IsOverOne, IsSetup, LacksPackage, NumberedSetupFails, SourceOf, StoresFail}
+use Rattle.fwupd_jobs.specs.Setups.{FileOf, IsApartFrom, IsBelow, IsOutside, IsOver, IsOverOne, IsSetup, LacksPackage, NumberedSetupFails, SourceOf, StoresFail}
 use Rattle.fwupd_words.specs.declared.asked.Show.{Show}
 use Rattle.fwupd_words.specs.declared.asked.TraceForm.{TraceForm}
 use Rattle.fwupd_jobs.specs.declared.faults.RunFault.{RunFault}
@@ -128,14 +128,15 @@ abbrev pub MayEnd : RunFault → Type 0
 MayEnd fault = (fault ≡ faults.Memory) ⊎ IsBroken fault
 
 -- What is shown of a run: whether it is to be without progress, the path of the file that its packets are written to, if any, and in
--- which form, those of the files of its log's records and of its steps, if any, and that of the folder of stores in whose history it is
--- written what happens, if any.
+-- which form, those of the files of its log's records and of its steps, if any, that of the folder of stores with which it begins, if any,
+-- and that of the folder of stores in whose history it is written what happens, if any.
 pub record ShowOf : Type 0 where
   pub is_quiet : Bool
   pub trace : Option (List ℕ)
   pub trace_form : TraceForm
   pub log : Option (List ℕ)
   pub record_path : Option (List ℕ)
+  pub store : Option (List ℕ)
   pub history : Option (List ℕ)
   pub form : Form
 
@@ -147,6 +148,7 @@ show_of s = record {
   trace_form = s.trace_form;
   log = option_map (λ path. path.now) s.log;
   record_path = option_map (λ path. path.now) s.record;
+  store = option_map (λ path. path.now) s.store;
   history = option_map (λ path. path.now) s.history;
   form = s.form;
 }
@@ -204,18 +206,27 @@ abbrev pub IsApartFromUsed : (files : List ℕ → FileOf) (path first second : 
 IsApartFromUsed files path first second paths =
     IfSome path (λ p. AllByRecursion (IsApartFrom files p) paths × (IfSome first (IsApartFrom files p) × IfSome second (IsApartFrom files p)))
 
--- Nothing is written over the files of these paths; the log's records not over the packets, and the steps over neither.
+-- A file that is written, if one is, lies in the folder of stores, if there is one, or in a store; or outside of them.
+abbrev pub IsInStore : (files : List ℕ → FileOf) (path store : Option (List ℕ)) → Type 0
+IsInStore files path store = IsSomeAnd path (λ p. IsSomeAnd store (λ s. IsBelow (files p) (files s)))
+
+abbrev pub IsOutOfStore : (files : List ℕ → FileOf) (path store : Option (List ℕ)) → Type 0
+IsOutOfStore files path store = IfSome path (λ p. IfSome store (λ s. IsOutside (files p) (files s)))
+
+-- Nothing is written over the files of these paths; the log's records not over the packets, and the steps over neither. Nothing of it
+-- lies in a store.
 abbrev pub IsApart : (files : List ℕ → FileOf) → ShowOf → List (List ℕ) → Type 0
 IsApart files show paths =
-    IsApartFromUsed files show.trace None None paths
-    × (IsApartFromUsed files show.log show.trace None paths × IsApartFromUsed files show.record_path show.trace show.log paths)
+    (IsApartFromUsed files show.trace None None paths × IsOutOfStore files show.trace show.store)
+    × ((IsApartFromUsed files show.log show.trace None paths × IsOutOfStore files show.log show.store)
+    × (IsApartFromUsed files show.record_path show.trace show.log paths × IsOutOfStore files show.record_path show.store))
 
 -- The file that what looks on can't write, where that is told, would be written over one of these; or the log's records over the
--- packets, or the steps over one of both.
+-- packets, or the steps over one of both; or it lies in a store.
 abbrev pub IsOverRead : (files : List ℕ → FileOf) → ShowOf → List (List ℕ) → RunFault → Type 0
-IsOverRead files show paths faults.Trace = IsOverUsed files show.trace None None paths
-IsOverRead files show paths faults.Log = IsOverUsed files show.log show.trace None paths
-IsOverRead files show paths faults.Record = IsOverUsed files show.record_path show.trace show.log paths
+IsOverRead files show paths faults.Trace = IsOverUsed files show.trace None None paths ⊎ IsInStore files show.trace show.store
+IsOverRead files show paths faults.Log = IsOverUsed files show.log show.trace None paths ⊎ IsInStore files show.log show.store
+IsOverRead files show paths faults.Record = IsOverUsed files show.record_path show.trace show.log paths ⊎ IsInStore files show.record_path show.store
 IsOverRead files show paths told = ⊥
 
 -- Or that file may be refused.
@@ -328,6 +339,7 @@ pub record ReportsReached (files : List ℕ → FileOf) (config : SourceOf) (num
   pub sees : StepsSeen number world left watched.seen
   pub lost : told ≡ faults.Edge edges.Frame → NamesLost left watched.lost
   pub recorded : watched.fault ≡ None → IfSome watched.recording (IsRecorded world left)
+  pub kept_up : AreKeptUpStill watched.history left.history
   pub written : Prints before now (report_in show.form left)
 
 -- A beginning of it is.

@@ -19,9 +19,10 @@ use Rattle.fwupd_jobs.specs.declared.files.FileFault.{FileFault}
 use Rattle.fwupd_jobs.specs.declared.files.FileFault.TheVariants as reasons
 use Rattle.fwupd_jobs.specs.declared.files.FileIdentity.{FileIdentity}
 
--- where a file lies, or would: in which folder, and by which name
+-- where a file lies, or would: in which folder, in which folder that one lies, and by which name
 pub record PlaceOf : Type 0 where
   pub folder : FileIdentity
+  pub above : Option FileIdentity
   pub name : List ℕ
 
 -- What is known of the file of a path before it is read: its bytes, if they are, whether it may be that it can't be read, and
@@ -67,6 +68,22 @@ pub record AreTwoPlaces (first second : FileOf) : Type 0 where
   pub of_first : MayLie first one
   pub of_second : MayLie second other
   pub differ : IfSome one (λ place. other ≢ Some place)
+
+-- a file lies in a folder, or in a folder that lies there
+pub record IsBelow (file folder : FileOf) : Type 0 where
+  pub place : PlaceOf
+  pub own : FileIdentity
+  pub lies : MayLie file (Some place)
+  pub is : MayBe folder (Some own)
+  pub below : (place.folder ≡ own) ⊎ (place.above ≡ Some own)
+
+-- it doesn't, or one of both isn't there
+pub record IsOutside (file folder : FileOf) : Type 0 where
+  pub place : Option PlaceOf
+  pub own : Option FileIdentity
+  pub lies : MayLie file place
+  pub is : MayBe folder own
+  pub outside : IfSome place (λ p. IfSome own (λ i. (p.folder ≢ i) × (p.above ≢ Some i)))
 
 -- two paths name one file
 pub record IsOneFile (first second : FileOf) : Type 0 where

@@ -1,17 +1,17 @@
 //! Building a package that the text in a file asks for.
 
-ghost use Rattle.std.specs.Prelude.{◌≡◌, ◌⊎◌, ◌++◌, IfErr, IfOk, OnErr, OnOk, false, map, option_map, slice_get};
+ghost use Rattle.std.specs.Prelude.{◌≡◌, ◌⊎◌, ◌++◌, IfErr, IfOk, OnErr, OnOk, false, map, option_map, slice_get, true};
 ghost use Rattle.std.specs.Io.KnownBytes.{Appends};
 ghost use Rattle.std.specs.List.{concat};
 ghost use Rattle.fw_package.specs.Asked.{asked_component_of, asked_of, asked_record_of};
 ghost use Rattle.fw_package.specs.Package.{descriptor_of};
 ghost use Rattle.fw_package.specs.Writing.{IsHeaderOf, header_bytes};
 ghost use Rattle.fw_script.specs.PackageSpecs.{package_spec_of, spec_component_of, spec_descriptor_of, spec_record_of, spec_seen};
-ghost use Rattle.fwupd_jobs.specs.Built.{AreImages, BuildEnds, Builds, ImageFails, ImagesFail, IsImage, IsRefused, asked_by, component_by, components_by, record_by, refusal_told};
+ghost use Rattle.fwupd_jobs.specs.Built.{AreImages, BuildEnds, Builds, BuildsApart, ImageFails, ImagesFail, IsApartFromImages, IsImage, IsOverImage, IsRefused, asked_by, component_by, components_by, record_by, refusal_told};
 ghost use Rattle.fwupd_jobs.specs.Setups.{Says, TextFails, TextFault};
 
 use crate::faults::RunFault;
-use crate::files::Files;
+use crate::files::{Files, is_same_file};
 use crate::places::Places;
 use crate::setups::{read_fault, text_fault};
 use fw_package::{AskedComponent, AskedFault, AskedPackage, AskedRecord, Descriptor, Header};
@@ -284,12 +284,29 @@ fn write_parts<W: Write>(writer: &mut W, header: &[u8], images: &[Vec<u8>]) -> R
     Ok(())
 }
 
+/// Whether the file of a path is the image of one of these components.
+fn is_over_image<F: Files>(files: &F, path: &str, components: &[SpecComponent]) -> bool
+    ensures over { result ≡ true → IsOverImage (F.holds files.now) path.now (map spec_component_of components.now) }
+    ensures apart { result ≡ false → IsApartFromImages (F.holds files.now) path.now (map spec_component_of components.now) }
+{
+    let [component, rest @ ..] = components else {
+        return false;
+    };
+    if let Some(own) = &component.path {
+        if is_same_file(files, own, path) {
+            return true;
+        }
+    }
+    is_over_image(files, path, rest)
+}
+
 /// Builds the package that the text in a file asks for, into the file of a path: that is the package then. It is as it was where
 /// this fails.
 ///
 /// # Errors
 /// Why the text isn't read, or the first image's file that isn't; `Text` with `Limit`, at the line after the last, where the header
-/// has more than 65,535 bytes or the file more than 4,294,967,295; `Output` where the file isn't written; `Memory`.
+/// has more than 65,535 bytes or the file more than 4,294,967,295; `Output` where the file is the text's or an image's, or isn't
+/// written; `Memory`.
 pub fn build_file<F: Files, W: Write + Drop, P: Places<W>>(
     alloc: Global,
     files: &F,
@@ -299,6 +316,7 @@ pub fn build_file<F: Files, W: Write + Drop, P: Places<W>>(
 ) -> Result<(), RunFault>
     ensures ok { OnOk result (Builds (F.holds files.now) path.now (P.is_known places.old) (P.held places.new file.now)) }
     ensures kept { OnErr result (P.held places.new ≡ P.held places.old) }
+    ensures apart { OnOk result (BuildsApart (F.holds files.now) path.now file.now) }
     ensures left { P.is_begun places.old ≡ false → P.is_begun places.new ≡ false }
     ensures fault { IfErr result (λ e. BuildEnds (F.holds files.now) path.now e) }
 {
@@ -314,6 +332,9 @@ pub fn build_file<F: Files, W: Write + Drop, P: Places<W>>(
     match header_of(alloc, path, &spec, images.as_slice(), &mut header) {
         Ok(()) => {}
         Err(fault) => return Err(fault),
+    }
+    if is_same_file(files, path, file) || is_over_image(files, file, spec.components.as_slice()) {
+        return Err(RunFault::Output);
     }
     let mut beside = match places.begin(file) {
         Ok(beside) => beside,

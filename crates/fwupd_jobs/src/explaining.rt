@@ -3,12 +3,14 @@
 ghost use Rattle.std.specs.Prelude.{◌≡◌, IfOk, IfSome, length};
 ghost use Rattle.fw_script.specs.Schedules.{script_of};
 
+use crate::clues::{Clue, clue_to};
 use crate::faults::RunFault;
-use crate::files::SystemFiles;
+use crate::files::{Files, SystemFiles, folder_and_name};
 use fw_package::Package;
 use fw_script::{ScriptCause, read_schedule};
 use fwupd_words::Job;
 use std::alloc::Global;
+use std::fs::OpenOptions;
 use std::io::{self, IsTerminal};
 use std::str;
 
@@ -83,20 +85,39 @@ fn explain_step(rt: &HostRuntime, schedule: &str, step: usize) {
     }
 }
 
+/// Why a file isn't written, or isn't made: the system's reason, as far as another try shows it.
+fn explain_unwritten(rt: &HostRuntime, path: &str) {
+    let (folder, _) = folder_and_name(path);
+    let tried = OpenOptions::new().append(true).open(rt, path);
+    let _ = match tried {
+        Err(error) if error.kind() != io::ErrorKind::NotFound => eprintln!(rt; "{path}: {error}"),
+        Err(error) if SystemFiles::new(rt).identity(folder).is_none() => {
+            eprintln!(rt; "{path}: {error}")
+        }
+        _ => eprintln!(rt;
+            "{path}: it is another file of this command, or lies in its store, or the disk is full"
+        ),
+    };
+}
+
+/// Why the history of the stores in a folder isn't written.
+fn explain_history(rt: &HostRuntime, folder: &str) {
+    if let Ok(path) = format!(in rt.alloc(); "{folder}/history") {
+        explain_unwritten(rt, &path);
+    }
+}
+
 /// Says on standard error, where that is a terminal, what helps to find why a job failed.
 pub fn explain(rt: &HostRuntime, job: &Job<'_>, fault: &RunFault) {
     if !rt.stderr().is_terminal() {
         return;
     }
-    match (job, fault) {
-        (_, RunFault::Unreadable(path)) => explain_unreadable(rt, path),
-        (Job::Replay(config, ..), RunFault::Package(_))
-        | (Job::Run(config, ..), RunFault::Package(_))
-        | (Job::Soak(config, ..), RunFault::Package(_))
-        | (Job::Plan(config, ..), RunFault::Package(_)) => explain_package(rt, config),
-        (Job::Replay(_, schedule, ..), RunFault::Step(number, _)) => {
-            explain_step(rt, schedule, *number);
-        }
-        _ => {}
+    match clue_to(job, fault) {
+        Some(Clue::Unread(path)) => explain_unreadable(rt, path),
+        Some(Clue::Package(config)) => explain_package(rt, config),
+        Some(Clue::Step(schedule, number)) => explain_step(rt, schedule, number),
+        Some(Clue::Unwritten(path)) => explain_unwritten(rt, path),
+        Some(Clue::History(folder)) => explain_history(rt, folder),
+        None => {}
     }
 }

@@ -3,11 +3,11 @@
 ghost use Rattle.std.specs.Io.KnownBytes.{IsAtEnd};
 ghost use Rattle.std.specs.Prelude.{◌≡◌, ◌≢◌, ◌∷◌, IfErr, IfOk, IfSome, IsSomeAnd, List, OnOk, option_map, false, map, string_bytes, true, ℕ};
 ghost use Rattle.std.specs.List.{AllByRecursion};
-ghost use Rattle.fwupd_jobs.specs.Setups.{AreTwoPlaces, FileOf, IsApartFrom, IsOnePlace, IsOver, IsOverOne, MayBe, MayBegin, MayHold, any_file};
+ghost use Rattle.fwupd_jobs.specs.Setups.{AreTwoPlaces, FileOf, IsApartFrom, IsBelow, IsOnePlace, IsOutside, IsOver, IsOverOne, MayBe, MayBegin, MayHold, any_file};
 
 use crate::beginnings::{BEGINNING, Beginning, read_first};
 use fwupd_base::read_some;
-use std::alloc::Global;
+use std::alloc::{AllocError, Global};
 use std::fs::{self, File};
 use std::io::{self, ErrorKind, Read};
 use std::os::unix::fs::MetadataExt;
@@ -58,6 +58,14 @@ pub trait Files {
     fn is_one_place(&self, one: &str, other: &str) -> bool
         ensures same { result ≡ true → IsOnePlace (holds self.now one.now) (holds self.now other.now) }
         ensures apart { result ≡ false → AreTwoPlaces (holds self.now one.now) (holds self.now other.now) };
+
+    /// Whether the file of a path lies in a folder, or would, or in a folder that lies there.
+    ///
+    /// # Errors
+    /// Memory is refused.
+    fn is_below(&self, alloc: Global, path: &str, folder: &str) -> Result<bool, AllocError>
+        ensures below { IfOk result (λ b. b ≡ true → IsBelow (holds self.now path.now) (holds self.now folder.now)) }
+        ensures outside { IfOk result (λ b. b ≡ false → IsOutside (holds self.now path.now) (holds self.now folder.now)) };
 }
 
 /// The files of the system, of which nothing is known before they are read.
@@ -77,6 +85,14 @@ impl<'a> SystemFiles<'a> {
         let mut file = File::open(self.rt, path)?;
         let size = size_of(&file);
         read_whole(alloc, &mut file, size)
+    }
+
+    /// Whether a path names a symbolic link.
+    fn is_link(&self, path: &str) -> bool {
+        match fs::symlink_metadata(self.rt, path) {
+            Ok(found) => found.is_symlink(),
+            Err(_) => false,
+        }
     }
 
     /// The beginning of a file. One that says that it is longer isn't read further.
@@ -171,16 +187,33 @@ impl<'a> Files for SystemFiles<'a> {
         }
     }
 
+    #[tactic(auto, using(crate::proofs::AnyFiles::any_place))]
     fn is_one_place(&self, one: &str, other: &str) -> bool {
+        // A link to no file may name any place.
+        if self.is_link(one) || self.is_link(other) {
+            return true;
+        }
         let (one_folder, one_name) = folder_and_name(one);
         let (other_folder, other_name) = folder_and_name(other);
         let folder = self.identity(one_folder);
         folder.is_some() && folder == self.identity(other_folder) && one_name == other_name
     }
+
+    #[tactic(auto, using(crate::proofs::AnyFiles::any_below))]
+    fn is_below(&self, alloc: Global, path: &str, folder: &str) -> Result<bool, AllocError> {
+        let Some(root) = self.identity(folder) else {
+            return Ok(false);
+        };
+        let (own, _) = folder_and_name(path);
+        let Ok(above) = format!(in alloc; "{own}/..") else {
+            return Err(AllocError);
+        };
+        Ok(self.identity(own) == Some(root) || self.identity(&above) == Some(root))
+    }
 }
 
 /// The folder of a path's file, and its name there.
-fn folder_and_name(path: &str) -> (&str, &str) {
+pub(crate) fn folder_and_name(path: &str) -> (&str, &str) {
     match path.rsplit_once('/') {
         Some(("", name)) => ("/", name),
         Some((folder, name)) => (folder, name),

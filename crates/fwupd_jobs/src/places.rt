@@ -79,6 +79,14 @@ impl<'a> SystemPlaces<'a> {
     }
 }
 
+/// Whether a path names something else than a file: a folder, a device, a pipe or a socket, whose place no file takes.
+fn is_no_file(rt: &HostRuntime, path: &str) -> bool {
+    match fs::metadata(rt, path) {
+        Ok(found) => !found.is_file(),
+        Err(_) => false,
+    }
+}
+
 impl<'a> Places<File> for SystemPlaces<'a> {
     ghost is_known = { λ p. false };
 
@@ -87,6 +95,9 @@ impl<'a> Places<File> for SystemPlaces<'a> {
     ghost is_begun = { λ p. is_some p.begun };
 
     fn begin(&mut self, path: &str) -> Result<File, RunFault> {
+        if is_no_file(self.rt, path) {
+            return Err(RunFault::Output);
+        }
         let name = match beside(self.rt.alloc(), path) {
             Ok(name) => name,
             Err(_) => return Err(RunFault::Memory),

@@ -88,6 +88,14 @@ fn status<
     }
 }
 
+/// How many runs a job is to make, if it is a soak.
+fn runs_of(job: &Job<'_>) -> u64 {
+    match job {
+        Job::Soak(_, order, _) => u64::from(order.runs),
+        _ => 0,
+    }
+}
+
 /// Does what the words ask for, with the system's files, standard input, sockets, and what looks on, and gives the status. On a
 /// terminal a link's fault is explained below it.
 fn run<W: Write + Drop>(rt: &HostRuntime, job: &Job<'_>, output: &mut Output<W>) -> ExitCode
@@ -97,7 +105,7 @@ fn run<W: Write + Drop>(rt: &HostRuntime, job: &Job<'_>, output: &mut Output<W>)
     let mut reader = rt.reader();
     let mut sockets = Sockets::new(rt);
     let mut onlookers = Onlookers::new(rt);
-    let mut progress = SoakProgress::new(rt);
+    let mut progress = SoakProgress::new(rt, runs_of(job));
     let status = status(
         rt,
         job,

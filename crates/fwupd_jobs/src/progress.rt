@@ -65,7 +65,8 @@ fn asked(packets: &SentPackets<'_>, device: u8) -> u32 {
     0
 }
 
-/// The line that shows how far a device is that loads an image of this size for a component: so many bytes it has asked for.
+/// The line that shows how far a device is that loads an image of this size for a component, of which it has asked for the bytes up to
+/// an end. The padding behind the last piece doesn't count.
 ///
 /// # Errors
 /// `AllocError` where memory for it is refused.
@@ -73,10 +74,10 @@ fn progress_line(
     alloc: Global,
     device: u8,
     key: Key,
-    bytes: u32,
+    asked: u32,
     size: u32,
 ) -> Result<Vec<u8>, AllocError>
-    ensures { IfOk result (λ line. line.items ≡ progress_line device key bytes size) }
+    ensures { IfOk result (λ line. line.items ≡ progress_line device key asked size) }
 {
     let mut line = Vec::new(alloc);
     push_number(alloc, &mut line, "\rdevice ", usize::from(device))?;
@@ -87,7 +88,7 @@ fn progress_line(
         usize::from(key.classification),
     )?;
     push_number(alloc, &mut line, " ", usize::from(key.identifier))?;
-    push_number(alloc, &mut line, ": ", bytes as usize)?;
+    push_number(alloc, &mut line, ": ", asked.min(size) as usize)?;
     push_number(alloc, &mut line, " of ", size as usize)?;
     push_words(&mut line, " bytes        ")?;
     Ok(line)
@@ -116,8 +117,8 @@ impl<'a> Progress<'a> {
             return false;
         };
         let device = node.eid();
-        let bytes = asked(packets, device).min(size);
-        let Ok(line) = progress_line(self.rt.alloc(), device, key, bytes, size) else {
+        let asked = asked(packets, device);
+        let Ok(line) = progress_line(self.rt.alloc(), device, key, asked, size) else {
             return false;
         };
         let _ = self.rt.stderr().write_all(&line);

@@ -153,8 +153,10 @@ pub fn replayed<'a, V: Watch>(
     })
 }
 
-/// Lets what looks on begin, where what it shows isn't written over a file that was read, nor over another that it writes.
+/// Lets what looks on begin, where what it shows isn't written over a file that was read, nor over another that it writes, nor into a
+/// store.
 fn begin_replay<F: Files, V: Watch>(
+    alloc: Global,
     files: &F,
     config: &str,
     schedule: &str,
@@ -178,7 +180,7 @@ fn begin_replay<F: Files, V: Watch>(
     if is_one_path(files, show.record, schedule) {
         return Err(RunFault::Record);
     }
-    match begin_apart(files, config, packages, show, watch) {
+    match begin_apart(alloc, files, config, packages, show, watch) {
         Ok(()) => Ok(()),
         Err(fault) => Err(fault),
     }
@@ -190,11 +192,11 @@ fn begin_replay<F: Files, V: Watch>(
 ///
 /// # Errors
 /// The first fault, in this order: of the configuration's file, of the packages that it names, one after the other, `Store` of the
-/// first device whose store can't be read, and of the schedule's file; `Trace`, `Log` or `Record` where what looks on can't begin, or would write over one of these files or over
-/// another of its own. `Step` where a step isn't
-/// taken, whose number counts from 1: the report is then of the world before it. `Trace`, `Log` or `Record` where what looked on couldn't write:
-/// the report is written all the same. `Output` where the report isn't written whole: a beginning of it may be. `Memory` where memory
-/// is refused: nothing is written then, unless it was what looked on that lacked it.
+/// first device whose store can't be read, and of the schedule's file; `Trace`, `Log` or `Record` where what looks on can't begin, or would write
+/// over one of these files or over another of its own, or into a store. `Step` where a step isn't taken, whose number counts from 1: the report
+/// is then of the world before it. `Trace`, `Log` or `Record` where what looked on couldn't write: the report is written all the same. `Output`
+/// where the report isn't written whole: a beginning of it may be. `Memory` where memory is refused: nothing is written then, unless it was
+/// what looked on that lacked it.
 pub fn replay_files<F: Files, D: Folder + Drop, T: Stores<D>, V: Watch, W: Write + Drop>(
     alloc: Global,
     files: &F,
@@ -236,7 +238,7 @@ pub fn replay_files<F: Files, D: Folder + Drop, T: Stores<D>, V: Watch, W: Write
         Ok(script) => script,
         Err(fault) => return Err(fault),
     };
-    match begin_replay(files, config, steps, paths.as_slice(), show, watch) {
+    match begin_replay(alloc, files, config, steps, paths.as_slice(), show, watch) {
         Ok(()) => {}
         Err(fault) => return Err(fault),
     }

@@ -4,7 +4,7 @@ ghost use Rattle.std.specs.Prelude.{[], ◌≡◌, ◌≢◌, ◌-◌, ◌^◌, 
 ghost use Rattle.fw_edge.specs.Ledgers.{AllSent, packet_counts};
 ghost use Rattle.fw_edge.specs.Links.{Rises};
 ghost use Rattle.fw_world.specs.Headline.{Run};
-ghost use Rattle.fwupd_jobs.specs.Histories.{AreKeptUp, IsFresh, KeepsUp};
+ghost use Rattle.fwupd_jobs.specs.Histories.{AreKeptUp, AreKeptUpStill, IsFresh, KeepsUp, KeepsUpStill};
 ghost use Rattle.fwupd_jobs.specs.Recordings.{Closes, IsNew, IsRecorded, Notes, NotesRun};
 ghost use Rattle.fwupd_jobs.specs.Running.{AreToldOf, IsCaused, IsRefusedStart, IsUnwritten, IsUpdated, MayEnd, MayRefuse, MayStart, Starts, StepsLead, StepsSeen, Updates, show_of, shown_of, starts_of, told_by, told_of, watch_of};
 
@@ -84,7 +84,8 @@ pub trait Watch {
         ensures seen { Rises (watched self.old).seen (watched self.new).seen }
         ensures lost { (watched self.new).lost ≡ (watched self.old).lost }
         ensures recording { (watched self.new).recording ≡ (watched self.old).recording }
-        ensures history { OnOk result (KeepsUp (watched self.old).history (watched self.new).history world.now.history) };
+        ensures history { OnOk result (KeepsUp (watched self.old).history (watched self.new).history world.now.history) }
+        ensures history_still { KeepsUpStill (watched self.old).history (watched self.new).history world.now.history };
 
     /// Is told that the link of this device failed.
     fn lose(&mut self, device: u8)
@@ -175,6 +176,7 @@ fn see_turn<B: Bank + Drop, V: Watch>(
     ensures err { IfErr result (λ e. (V.watched watch.new).fault ≡ Some e) }
     ensures noted { OnOk result (Notes (V.watched watch.old).recording (V.watched watch.new).recording steps.now) }
     ensures history { OnOk result (KeepsUp (V.watched watch.old).history (V.watched watch.new).history world.now.history) }
+    ensures history_still { KeepsUpStill (V.watched watch.old).history (V.watched watch.new).history world.now.history }
     ensures same { (V.watched watch.new).shows ≡ (V.watched watch.old).shows }
     ensures seen { Rises (V.watched watch.old).seen (V.watched watch.new).seen }
     ensures lost { (V.watched watch.new).lost ≡ (V.watched watch.old).lost }
@@ -192,6 +194,7 @@ fn broken_off<B: Bank + Drop, V: Watch>(
 ) -> RunFault
     ensures told { result ≡ told_of fault }
     ensures noted { (V.watched watch.new).fault ≡ None → Notes (V.watched watch.old).recording (V.watched watch.new).recording steps.now }
+    ensures history_still { KeepsUpStill (V.watched watch.old).history (V.watched watch.new).history world.now.history }
     ensures same { (V.watched watch.new).shows ≡ (V.watched watch.old).shows }
     ensures seen { Rises (V.watched watch.old).seen (V.watched watch.new).seen }
     ensures lost { (V.watched watch.new).lost ≡ (V.watched watch.old).lost }
@@ -226,6 +229,7 @@ pub fn update_all<B: Bank + Drop, L: Link, V: Watch>(
     ensures noted { OnOk result (NotesRun world.old world.new (V.watched watch.old).recording (V.watched watch.new).recording) }
     ensures noted_still { IfErr result (λ e. (V.watched watch.new).fault ≡ None → NotesRun world.old world.new (V.watched watch.old).recording (V.watched watch.new).recording) }
     ensures history { OnOk result (AreKeptUp (V.watched watch.old).history world.old.history → AreKeptUp (V.watched watch.new).history world.new.history) }
+    ensures history_still { AreKeptUp (V.watched watch.old).history world.old.history → AreKeptUpStill (V.watched watch.new).history world.new.history }
     ensures same { (V.watched watch.new).shows ≡ (V.watched watch.old).shows }
     ensures turns { OnOk result ((V.watched watch.old).seen ≡ 0 → Updates number world.old world.new (V.watched watch.new).seen) }
     ensures sees { (V.watched watch.old).seen ≡ 0 → StepsSeen number world.old world.new (V.watched watch.new).seen }
@@ -280,6 +284,7 @@ pub fn update_watched<B: Bank + Drop, L: Link, V: Watch>(
     ensures recorded { OnOk result (IfSome (V.watched watch.old).recording IsNew → IfSome (V.watched watch.new).recording (IsRecorded world.old world.new)) }
     ensures recorded_still { IfErr result (λ e. (V.watched watch.new).fault ≡ None → IfSome (V.watched watch.old).recording IsNew → IfSome (V.watched watch.new).recording (IsRecorded world.old world.new)) }
     ensures history { OnOk result (AreKeptUp (V.watched watch.old).history world.old.history → AreKeptUp (V.watched watch.new).history world.new.history) }
+    ensures history_still { AreKeptUp (V.watched watch.old).history world.old.history → AreKeptUpStill (V.watched watch.new).history world.new.history }
     ensures ended { (V.watched watch.new).has_ended ≡ true }
     ensures devices { length links.new ≡ length world.new.sites }
     ensures same { (V.watched watch.new).shows ≡ (V.watched watch.old).shows }

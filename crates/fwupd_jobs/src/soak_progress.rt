@@ -10,20 +10,23 @@ const PAUSE: u64 = 100;
 /// A line without progress, which covers one that was shown.
 const BLANK: &str = "                                                ";
 
-/// Shows on standard error, if that is a terminal, how many runs are made, at most ten times a second.
+/// Shows on standard error, if that is a terminal, how many runs are made, at most ten times a second, until all are.
 #[derive(Drop)]
 pub struct SoakProgress<'a> {
     rt: &'a HostRuntime,
     is_terminal: bool,
+    /// How many runs there are to be.
+    runs: u64,
     shown: Option<Instant>,
 }
 
 impl<'a> SoakProgress<'a> {
-    /// Progress of which nothing is shown.
-    pub fn new(rt: &'a HostRuntime) -> SoakProgress<'a> {
+    /// Progress of so many runs, of which nothing is shown.
+    pub fn new(rt: &'a HostRuntime, runs: u64) -> SoakProgress<'a> {
         SoakProgress {
             rt,
             is_terminal: rt.stderr().is_terminal(),
+            runs,
             shown: None,
         }
     }
@@ -44,7 +47,7 @@ impl<'a> SoakProgress<'a> {
 
     /// Takes away what is shown.
     pub fn end(&mut self) {
-        if self.is_terminal && self.shown.is_some() {
+        if self.is_terminal && self.shown.take().is_some() {
             let _ = eprint!(self.rt; "\r{BLANK}\r");
         }
     }
@@ -52,6 +55,10 @@ impl<'a> SoakProgress<'a> {
 
 impl<'a> Onlooker for SoakProgress<'a> {
     fn see(&mut self, summary: &Summary) {
+        if summary.runs >= self.runs {
+            self.end();
+            return;
+        }
         if self.is_terminal && self.is_due() {
             let runs = summary.runs;
             let violations = summary.violations;

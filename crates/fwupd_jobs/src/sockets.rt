@@ -5,12 +5,12 @@ ghost use Rattle.mctp_wire.specs.Units.{bytes_of};
 
 use crate::faults::RunFault;
 use crate::read_ahead::ReadAhead;
+use crate::socket_names::{SocketNames, SystemNames};
 use crate::updating::Wires;
 use crate::write_behind::WriteBehind;
 use fw_edge::StreamLink;
 use mctp_wire::Unit;
 use std::alloc::Global;
-use std::fs;
 use std::io::{self, IsTerminal};
 use std::os::unix::net::{UnixListener, UnixStream};
 
@@ -18,6 +18,7 @@ use std::os::unix::net::{UnixListener, UnixStream};
 #[derive(Drop)]
 pub struct Sockets<'a> {
     rt: &'a HostRuntime,
+    names: SystemNames<'a>,
     /// The device whose socket wasn't made last, and why.
     refused: Option<(u8, io::Error)>,
 }
@@ -34,36 +35,48 @@ fn end(alloc: Global, stream: UnixStream) -> io::Result<Socket> {
 }
 
 /// Both ends of a connection of a socket to itself, as a link.
-fn connected(
-    rt: &HostRuntime,
+fn connected<N: SocketNames>(
+    alloc: Global,
+    names: &mut N,
     unit: Unit,
     listener: &UnixListener,
     path: &str,
 ) -> io::Result<SocketLink>
-    ensures { IfOk result (λ link. link.unit ≡ unit) }
+    ensures unit { IfOk result (λ link. link.unit ≡ unit) }
+    ensures names { N.taken names.new ≡ N.taken names.old }
 {
-    let device = UnixStream::connect(rt, path)?;
-    let (agent, _) = listener.accept()?;
-    Ok(StreamLink::new(unit, end(rt.alloc(), agent)?, end(rt.alloc(), device)?))
+    let (agent, device) = names.connect(listener, path)?;
+    Ok(StreamLink::new(unit, end(alloc, agent)?, end(alloc, device)?))
 }
 
 /// Makes a socket of this path, and a link over it to itself. The path's name is taken only meanwhile.
 ///
 /// # Errors
 /// The name is taken already, or the socket can't be made. Nothing is left of it then.
-fn socket_link(rt: &HostRuntime, unit: Unit, path: &str) -> io::Result<SocketLink>
-    ensures { IfOk result (λ link. link.unit ≡ unit) }
+#[tactic(auto, using(crate::proofs::Names::given_back))]
+fn socket_link<N: SocketNames>(
+    alloc: Global,
+    names: &mut N,
+    unit: Unit,
+    path: &str,
+) -> io::Result<SocketLink>
+    ensures unit { IfOk result (λ link. link.unit ≡ unit) }
+    ensures names { N.taken names.new ≡ N.taken names.old }
 {
-    let listener = UnixListener::bind(rt, path)?;
-    let link = connected(rt, unit, &listener, path);
-    let _ = fs::remove_file(rt, path);
+    let listener = names.bind(path)?;
+    let link = connected(alloc, names, unit, &listener, path);
+    names.release(path);
     link
 }
 
 impl<'a> Sockets<'a> {
     /// The sockets that a runtime reaches.
     pub fn new(rt: &'a HostRuntime) -> Sockets<'a> {
-        Sockets { rt, refused: None }
+        Sockets {
+            rt,
+            names: SystemNames::new(rt),
+            refused: None,
+        }
     }
 
     /// Says on standard error, where that is a terminal, why a socket wasn't made, if one wasn't.
@@ -92,7 +105,7 @@ impl<'a> Wires<SocketLink> for Sockets<'a> {
         let Ok(path) = format!(in self.rt.alloc(); "{folder}/{device}.sock") else {
             return Err(RunFault::Memory);
         };
-        match socket_link(self.rt, unit, &path) {
+        match socket_link(self.rt.alloc(), &mut self.names, unit, &path) {
             Ok(link) => Ok(link),
             Err(error) if error.kind() == io::ErrorKind::OutOfMemory => Err(RunFault::Memory),
             Err(error) => {

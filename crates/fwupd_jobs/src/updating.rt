@@ -8,9 +8,9 @@ ghost use Rattle.fw_world.specs.Headline.{IsOpeningWorld};
 ghost use Rattle.fwupd_jobs.specs.Outputs.{FailsToPrint, Prints};
 ghost use Rattle.fwupd_jobs.specs.Sessions.{undone_in};
 ghost use Rattle.fwupd_jobs.specs.Setups.{IsApartFrom, IsOver, SourceOf, TellsStore, source_of};
-ghost use Rattle.fwupd_jobs.specs.Histories.{AreKeptUp, IsFresh};
+ghost use Rattle.fwupd_jobs.specs.Histories.{AreKeptUp, AreKeptUpStill, IsFresh};
 ghost use Rattle.fwupd_jobs.specs.Recordings.{IsNew, IsRecorded};
-ghost use Rattle.fwupd_jobs.specs.Running.{AreLinked, AreToldOf, DrivingEnds, IsApart, IsApartFromUsed, IsBarred, IsBroken, IsCaused, IsLost, IsNamed, IsOverUsed, IsRough, IsUnlinked, IsUnwritten, IsUpdated, NamesLost, ReportsUpdate, StepsLead, StepsSeen, TellsLost, UpdateEnds, Updates, show_of, shown_of};
+ghost use Rattle.fwupd_jobs.specs.Running.{AreLinked, AreToldOf, DrivingEnds, IsApart, IsApartFromUsed, IsBarred, IsBroken, IsCaused, IsInStore, IsLost, IsNamed, IsOutOfStore, IsOverUsed, IsRough, IsUnlinked, IsUnwritten, IsUpdated, NamesLost, ReportsUpdate, StepsLead, StepsSeen, TellsLost, UpdateEnds, Updates, show_of, shown_of};
 
 use crate::faults::RunFault;
 use crate::files::{Files, is_read, is_same_file};
@@ -29,7 +29,7 @@ use fw_world::{World, packets_are_safe};
 use fwupd_base::Form;
 use fwupd_words::{Order, Show};
 use mctp_wire::Unit;
-use std::alloc::Global;
+use std::alloc::{AllocError, Global};
 use std::io::Write;
 
 /// Where links to devices are opened, in a folder. It is known before to which devices they may be lacking, and may be told of a link
@@ -135,9 +135,51 @@ fn is_over<F: Files>(
     is_written(files, path, second)
 }
 
+/// Whether a file that is to be written, if one is, lies in the folder of stores, if there is one, or in a store.
+fn is_in_store<F: Files>(
+    alloc: Global,
+    files: &F,
+    path: Option<&str>,
+    store: Option<&str>,
+) -> Result<bool, AllocError>
+    ensures below { IfOk result (λ b. b ≡ true → IsInStore (F.holds files.now) (option_map (λ p. p.now) path.entry) (option_map (λ p. p.now) store.entry)) }
+    ensures outside { IfOk result (λ b. b ≡ false → IsOutOfStore (F.holds files.now) (option_map (λ p. p.now) path.entry) (option_map (λ p. p.now) store.entry)) }
+{
+    match (path, store) {
+        (Some(path), Some(store)) => files.is_below(alloc, path, store),
+        _ => Ok(false),
+    }
+}
+
+/// Whether a file that is to be written, if one is, is one of those that a run reads, or one of two others that it writes, or lies in a
+/// store.
+fn is_barred<F: Files>(
+    alloc: Global,
+    files: &F,
+    path: Option<&str>,
+    first: Option<&str>,
+    second: Option<&str>,
+    config: &str,
+    packages: &[String],
+    store: Option<&str>,
+) -> Result<bool, AllocError>
+    ensures over { IfOk result (λ b. b ≡ true
+        → IsOverUsed (F.holds files.now) (option_map (λ p. p.now) path.entry) (option_map (λ p. p.now) first.entry) (option_map (λ p. p.now) second.entry) (config.now ∷ map (λ p. string_bytes p) packages.now)
+        ⊎ IsInStore (F.holds files.now) (option_map (λ p. p.now) path.entry) (option_map (λ p. p.now) store.entry)) }
+    ensures apart { IfOk result (λ b. b ≡ false
+        → IsApartFromUsed (F.holds files.now) (option_map (λ p. p.now) path.entry) (option_map (λ p. p.now) first.entry) (option_map (λ p. p.now) second.entry) (config.now ∷ map (λ p. string_bytes p) packages.now)
+        × IsOutOfStore (F.holds files.now) (option_map (λ p. p.now) path.entry) (option_map (λ p. p.now) store.entry)) }
+{
+    if is_over(files, path, first, second, config, packages) {
+        return Ok(true);
+    }
+    is_in_store(alloc, files, path, store)
+}
+
 /// Lets what looks on begin, where what it shows isn't written over a file that was read; nor the log's records over the packets, nor
-/// the steps over one of both.
+/// the steps over one of both; and nothing of it lies in a store.
 pub(crate) fn begin_apart<F: Files, V: Watch>(
+    alloc: Global,
     files: &F,
     config: &str,
     packages: &[String],
@@ -153,14 +195,34 @@ pub(crate) fn begin_apart<F: Files, V: Watch>(
     ensures fault { IfErr result (λ e. (e ≡ RunFault.Memory)
         ⊎ IsBarred (F.holds files.now) (V.refuses watch.old) (show_of show.entry) (config.now ∷ map (λ p. string_bytes p) packages.now) e (V.watched watch.new)) }
 {
-    if is_over(files, show.trace, None, None, config, packages) {
-        return Err(RunFault::Trace);
+    let store = show.store;
+    match is_barred(
+        alloc, files, show.trace, None, None, config, packages, store,
+    ) {
+        Ok(false) => {}
+        Ok(true) => return Err(RunFault::Trace),
+        Err(_) => return Err(RunFault::Memory),
     }
-    if is_over(files, show.log, show.trace, None, config, packages) {
-        return Err(RunFault::Log);
+    match is_barred(
+        alloc, files, show.log, show.trace, None, config, packages, store,
+    ) {
+        Ok(false) => {}
+        Ok(true) => return Err(RunFault::Log),
+        Err(_) => return Err(RunFault::Memory),
     }
-    if is_over(files, show.record, show.trace, show.log, config, packages) {
-        return Err(RunFault::Record);
+    match is_barred(
+        alloc,
+        files,
+        show.record,
+        show.trace,
+        show.log,
+        config,
+        packages,
+        store,
+    ) {
+        Ok(false) => {}
+        Ok(true) => return Err(RunFault::Record),
+        Err(_) => return Err(RunFault::Memory),
     }
     match watch.begin(show) {
         Ok(()) => Ok(()),
@@ -189,6 +251,7 @@ fn lose_failed<B: Bank + Drop, L: Link, V: Watch>(world: &World<'_, B>, links: &
     ensures seen { (V.watched watch.new).seen ≡ (V.watched watch.old).seen }
     ensures lost { length links.now ≡ length world.now.sites → AllByRecursion (λ n. n ≡ 0) (map (λ l. (L.tally l).failures) links.now) ⊎ TellsLost world.now (map (λ l. (L.tally l).failures) links.now) (V.watched watch.new).lost }
     ensures fault { (V.watched watch.new).fault ≡ (V.watched watch.old).fault }
+    ensures history { (V.watched watch.new).history ≡ (V.watched watch.old).history }
     ensures recording { (V.watched watch.new).recording ≡ (V.watched watch.old).recording }
     ensures same { (V.watched watch.new).shows ≡ (V.watched watch.old).shows }
     ensures ended { (V.watched watch.new).has_ended ≡ (V.watched watch.old).has_ended }
@@ -219,6 +282,7 @@ fn update_told<B: Bank + Drop, L: Link + Drop, V: Watch>(
     ensures recorded { OnOk result (IfSome (V.watched watch.old).recording IsNew → IfSome (V.watched watch.new).recording (IsRecorded world.old world.new)) }
     ensures recorded_still { IfErr result (λ e. (V.watched watch.new).fault ≡ None → IfSome (V.watched watch.old).recording IsNew → IfSome (V.watched watch.new).recording (IsRecorded world.old world.new)) }
     ensures history { OnOk result (AreKeptUp (V.watched watch.old).history world.old.history → AreKeptUp (V.watched watch.new).history world.new.history) }
+    ensures history_still { AreKeptUp (V.watched watch.old).history world.old.history → AreKeptUpStill (V.watched watch.new).history world.new.history }
     ensures ended { (V.watched watch.new).has_ended ≡ true }
     ensures same { (V.watched watch.new).shows ≡ (V.watched watch.old).shows }
     ensures turns { OnOk result ((V.watched watch.old).seen ≡ 0 → Updates order.number world.old world.new (V.watched watch.new).seen) }
@@ -255,6 +319,7 @@ fn update_over<B: Bank + Drop, L: Link + Drop, S: Wires<L>, V: Watch, W: Write +
     ensures recorded { OnOk result (IfSome (V.watched watch.old).recording IsNew → IfSome (V.watched watch.new).recording (IsRecorded world.old world.new)) }
     ensures recorded_still { IfErr result (λ e. IsBroken e → (V.watched watch.new).fault ≡ None → IfSome (V.watched watch.old).recording IsNew → IfSome (V.watched watch.new).recording (IsRecorded world.old world.new)) }
     ensures history { OnOk result (AreKeptUp (V.watched watch.old).history world.old.history → AreKeptUp (V.watched watch.new).history world.new.history) }
+    ensures history_still { IfErr result (λ e. IsBroken e → AreKeptUp (V.watched watch.old).history world.old.history → AreKeptUpStill (V.watched watch.new).history world.new.history) }
     ensures let_end { OnOk result ((V.watched watch.new).has_ended ≡ true) }
     ensures turns { OnOk result ((V.watched watch.old).seen ≡ 0 → Updates order.number world.old world.new (V.watched watch.new).seen) }
     ensures lost { IfErr result (λ e. e ≡ RunFault.Edge EdgeFault.Frame → NamesLost world.new (V.watched watch.new).lost) }
@@ -314,7 +379,7 @@ fn update_new<F: Files, B: Bank + Drop, L: Link + Drop, S: Wires<L>, V: Watch, W
     ensures stores { IfErr result (λ e. TellsStore e → ⊥) }
 {
     packets_are_safe();
-    match begin_apart(files, config, packages, show, watch) {
+    match begin_apart(alloc, files, config, packages, show, watch) {
         Ok(()) => {}
         Err(fault) => return Err(fault),
     }
@@ -331,8 +396,8 @@ fn update_new<F: Files, B: Bank + Drop, L: Link + Drop, S: Wires<L>, V: Watch, W
 /// # Errors
 /// The first fault, in this order: of the configuration's file; `NoPackage` where it names no package of this number; of the packages that it
 /// names, one after the other; `Store` of the first device whose store isn't opened; `Trace`, `Log`, `Record` or `History` where what looks on
-/// can't begin, or would write over one of these files or another of its own; `Socket` where a link isn't opened. `Edge` where a link failed or
-/// the clock stands at its end, and `Trace`, `Log`, `Record` or `History` where what looks on can't write: the report is then of the world that
+/// can't begin, or would write over one of these files or another of its own, or into a store; `Socket` where a link isn't opened. `Edge` where
+/// a link failed or the clock stands at its end, and `Trace`, `Log`, `Record` or `History` where what looks on can't write: the report is then of the world that
 /// was reached. `Output` where the report isn't written whole: a beginning of it may be. `Memory` where memory is refused: nothing is written
 /// then.
 pub fn update_files<

@@ -7,6 +7,7 @@ use crate::options::{
     config_word, flag, json_option, log_option, package_option, roughness_options, store_option,
     trace_form_option, trace_option, word,
 };
+use clap::builder::ValueParser;
 use clap::{Arg, ArgAction, Command, value_parser};
 use std::alloc::Global;
 
@@ -101,7 +102,9 @@ fn run_command<'a>(alloc: Global) -> Result<Command<'a>, clap::Error> {
         store_option(alloc, "Keeps what runs in a folder, and begins with it"),
         json_option(alloc),
         config_word(alloc),
-        word(alloc, "FOLDER", "The folder that the sockets are made in"),
+        word(alloc, "FOLDER", "The folder that the sockets are made in").value_parser(
+            ValueParser::NonEmptyString
+        ),
     ]?;
     let command = Command::new(alloc, "run")
         .about("Updates each device with a package, over Unix sockets")

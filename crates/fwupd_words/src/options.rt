@@ -1,5 +1,6 @@
 //! The words and options that several subcommands have.
 
+use clap::builder::ValueParser;
 use clap::{Arg, ArgAction, value_parser};
 use std::alloc::{AllocError, Global};
 
@@ -65,6 +66,7 @@ pub(crate) fn store_option<'a>(alloc: Global, help: &'static str) -> Arg<'a> {
         .long("store")
         .value_name("STORE")
         .help(help)
+        .value_parser(ValueParser::NonEmptyString)
 }
 
 /// The option that asks for JSON.

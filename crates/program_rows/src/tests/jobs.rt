@@ -13,7 +13,7 @@ use fwupd_jobs::{
     WatchFault, Wires, plan_file, update_checked,
 };
 use mctp_wire::Unit;
-use std::alloc::Global;
+use std::alloc::{AllocError, Global};
 use std::os::unix::net::UnixStream;
 use std::test::Fail;
 
@@ -57,8 +57,17 @@ impl<'a> Files for MemFiles<'a> {
         None
     }
 
+    #[tactic(auto, using(fwupd_jobs::proofs::AnyFiles::any_place))]
     fn is_one_place(&self, one: &str, other: &str) -> bool {
         one == other
+    }
+
+    #[tactic(auto, using(fwupd_jobs::proofs::AnyFiles::any_below))]
+    fn is_below(&self, _alloc: Global, path: &str, folder: &str) -> Result<bool, AllocError> {
+        match path.strip_prefix(folder) {
+            Some(name) => Ok(name.starts_with('/')),
+            None => Ok(false),
+        }
     }
 }
 

@@ -3,7 +3,7 @@ use Rattle.fwupd_jobs.specs.Running.{StepsSeen, Updates, starts_of}
 use Rattle.fw_edge.specs.Ledgers.{AllSent, packet_counts}
 use Rattle.fw_world.specs.Moments.{added}
 use Rattle.fw_edge.proofs.Sending.{sent_none, sent_on}
-use Rattle.fwupd_jobs.proofs.Happened.{kept_on, kept_same}
+use Rattle.fwupd_jobs.proofs.Happened.{kept_on, kept_on_still, kept_same, kept_still}
 use Rattle.fwupd_jobs.proofs.Noted.{none_driven, run_begun, run_broken, run_noted, run_still}
 use Rattle.fwupd_jobs.proofs.Started.{counted_alike, none_unwritten, seen_next, told_links, turned_apart, unwritten_by, updates_more, updates_none, updates_off, updates_reached, updates_seen, updates_seen_off, watched_apart}
 use Rattle.fw_edge.specs.declared.driving.EdgeFault.TheVariants as edges
@@ -163,6 +163,39 @@ pub returns-in-Err-clause-noted_still : goal.returns-in-Err-clause-noted_still
 returns-in-Err-clause-noted_still g c none =
     run_broken c.args.world.now c.start_all-started.new.world (g.V.Watch.watched c.args.watch.now).recording (g.V.Watch.watched c.note-noted.new.self).recording c.start_all-started.new.steps.items c.as_slice.result.now
     c.note-noted.result (g.V.Watch.watched c.note-noted.new.self).fault c.as_slice.ensures.value c.start_all-started.ensures.run c.note-noted.ensures.noted c.note-noted.ensures.err none
+
+pub returns-in-Err-clause-history_still : goal.returns-in-Err-clause-history_still
+returns-in-Err-clause-history_still g c kept =
+    kept_still (g.V.Watch.watched c.note-noted.new.self).history c.start_all-started.new.world.history
+    (kept_same (g.V.Watch.watched c.args.watch.now).history (g.V.Watch.watched c.note-noted.new.self).history c.args.world.now.history c.start_all-started.new.world.history c.note-noted.ensures.history
+    c.start_all-started.ensures.history kept)
+
+pub returns-in-Err-noted-clause-history_still : goal.returns-in-Err-noted-clause-history_still
+returns-in-Err-noted-clause-history_still g c kept =
+    kept_still (g.V.Watch.watched c.note-noted.new.self).history c.start_all-started.new.world.history
+    (kept_same (g.V.Watch.watched c.args.watch.now).history (g.V.Watch.watched c.note-noted.new.self).history c.args.world.now.history c.start_all-started.new.world.history c.note-noted.ensures.history
+    c.start_all-started.ensures.history kept)
+
+pub returns-in-Err-drive-clause-history_still : goal.returns-in-Err-drive-clause-history_still
+returns-in-Err-drive-clause-history_still g c kept =
+    kept_on_still (g.V.Watch.watched c.loop.watch).history (g.V.Watch.watched c.broken_off.new.watch).history c.loop.world.history c.drive.new.world.history (added c.loop.world c.drive.new.world) (c.loop.invariant.history kept)
+    (c.moments_are_tied.ensures.grow c.loop.world c.drive.new.world c.drive.ensures.drives.drives.steps c.drive.ensures.drives.drives.run) c.broken_off.ensures.history_still
+
+pub returns-in-Err-see_turn-clause-history_still : goal.returns-in-Err-see_turn-clause-history_still
+returns-in-Err-see_turn-clause-history_still g c kept =
+    kept_on_still (g.V.Watch.watched c.loop.watch).history (g.V.Watch.watched c.see_turn.new.watch).history c.loop.world.history c.drive.new.world.history (added c.loop.world c.drive.new.world) (c.loop.invariant.history kept)
+    (c.moments_are_tied.ensures.grow c.loop.world c.drive.new.world c.drive.ensures.drives.drives.steps c.drive.ensures.drives.drives.run) c.see_turn.ensures.history_still
+
+pub returns-then-driven-eq0-clause-history_still : goal.returns-then-driven-eq0-clause-history_still
+returns-then-driven-eq0-clause-history_still g c kept =
+    kept_still (g.V.Watch.watched c.loop.watch).history c.drive.new.world.history
+    (kept_same (g.V.Watch.watched c.loop.watch).history (g.V.Watch.watched c.loop.watch).history c.loop.world.history c.drive.new.world.history refl
+    (ap (λ x. x.history)
+    (none_driven c.in-Ok-drive.driven.turns c.loop.world c.loop.steps.items _ c.drive.new.world c.drive.new.steps.items _ c.in-Ok-drive.driven.foreign c.if-driven-eq0.true c.in-Ok-drive.ensures.done.drove))
+    (c.loop.invariant.history kept))
+
+pub returns-clause-history_still : goal.returns-clause-history_still
+returns-clause-history_still g c kept = kept_still (g.V.Watch.watched c.loop.watch).history c.loop.world.history (c.loop.invariant.history kept)
 
 pub returns-in-Err-drive-clause-noted_still : goal.returns-in-Err-drive-clause-noted_still
 returns-in-Err-drive-clause-noted_still g c none =

@@ -1,4 +1,5 @@
 use Rattle.std.proofs.Common.{refl, subst, sym, ◌∙◌}
+use Rattle.fwupd_jobs.specs.Histories.{AreKeptUpStill}
 use Rattle.fwupd_jobs.specs.Running.{StepsSeen}
 use Rattle.fw_edge.specs.declared.driving.EdgeFault.TheVariants as edges
 use Rattle.fwupd_jobs.proofs.Happened.{kept_same}
@@ -34,6 +35,18 @@ pub returns-in-Ok-watched-clause-history : goal.returns-in-Ok-watched-clause-his
 returns-in-Ok-watched-clause-history g c h =
     kept_same (g.V.Watch.watched c.update_all-end.new.watch).history (g.V.Watch.watched c.end-watched.new.self).history c.update_all-end.new.world.history c.update_all-end.new.world.history c.end-watched.ensures.history refl
     (c.in-Ok.ensures.history h)
+
+pub returns-in-Err-clause-history_still : goal.returns-in-Err-clause-history_still
+returns-in-Err-clause-history_still g c kept =
+    subst (λ r. AreKeptUpStill r c.update_all-end.new.world.history) (sym c.end-watched.ensures.history) (c.update_all-end.ensures.history_still kept)
+
+pub returns-in-Err-watched-clause-history_still : goal.returns-in-Err-watched-clause-history_still
+returns-in-Err-watched-clause-history_still g c kept =
+    subst (λ r. AreKeptUpStill r c.update_all-end.new.world.history) (sym c.end-watched.ensures.history) (c.update_all-end.ensures.history_still kept)
+
+pub returns-in-Ok-watched-clause-history_still : goal.returns-in-Ok-watched-clause-history_still
+returns-in-Ok-watched-clause-history_still g c kept =
+    subst (λ r. AreKeptUpStill r c.update_all-end.new.world.history) (sym c.end-watched.ensures.history) (c.update_all-end.ensures.history_still kept)
 
 pub returns-in-Err-clause-recorded_still : goal.returns-in-Err-clause-recorded_still
 returns-in-Err-clause-recorded_still g c none new =

@@ -51,6 +51,9 @@ returns-in-Err-update_over-clause-fault g c source named path same =
     (c.update_over.ensures.sees c.in-Ok.ensures.anew.0)
     c.in-Err-update_over.ensures.lost
     (λ broken none. c.in-Err-update_over.ensures.recorded_still broken none c.in-Ok.ensures.recording)
+    (λ broken.
+    c.in-Err-update_over.ensures.history_still broken
+    (kept_fresh (g.V.Watch.watched c.begin_apart.new.watch).history c.args.world.now.history c.in-Ok.ensures.history (ap (λ w. w.history) named.setup.world)))
     c.in-Err-update_over.ensures.fault
 
 pub returns-in-Err-update_over-clause-stores : goal.returns-in-Err-update_over-clause-stores

@@ -1,5 +1,6 @@
 use Rattle.std.proofs.Common.{inl, inr, subst, sym, ◌∙◌}
 use Rattle.std.specs.Prelude.{IfSome}
+use Rattle.fwupd_jobs.specs.Histories.{AreKeptUpStill}
 use Rattle.fwupd_jobs.specs.Recordings.{IsRecorded}
 use Rattle.fwupd_jobs.specs.Running.{StepsSeen}
 use Rattle.fwupd_jobs.proofs.Started.{caused_still, lost_told}
@@ -19,6 +20,10 @@ returns-in-Err-clause-fault g c = elim c.in-Err.ensures.fault [
 pub returns-in-Err-clause-sees : goal.returns-in-Err-clause-sees
 returns-in-Err-clause-sees g c none =
     subst (StepsSeen c.args.order.number c.args.world.now c.update_watched.new.world) (sym c.lose_failed.ensures.seen) (c.update_watched.ensures.sees none)
+
+pub returns-in-Err-clause-history_still : goal.returns-in-Err-clause-history_still
+returns-in-Err-clause-history_still g c kept =
+    subst (λ r. AreKeptUpStill r c.update_watched.new.world.history) (sym c.lose_failed.ensures.history) (c.update_watched.ensures.history_still kept)
 
 pub returns-in-Err-clause-recorded_still : goal.returns-in-Err-clause-recorded_still
 returns-in-Err-clause-recorded_still g c none new =

@@ -1,0 +1,59 @@
+-- What is looked at to find why a job failed.
+use Rattle.std.specs.Prelude.{ℕ, List, Option, None, Some, option_map, string_bytes}
+use Rattle.fwupd_words.specs.declared.asked.Job.{Job}
+use Rattle.fwupd_words.specs.declared.asked.Job.TheVariants as jobs
+use Rattle.fwupd_words.specs.declared.asked.Show.{Show}
+use Rattle.fwupd_jobs.specs.declared.clues.Clue.{Clue}
+use Rattle.fwupd_jobs.specs.declared.clues.Clue.TheVariants as clues
+use Rattle.fwupd_jobs.specs.declared.faults.RunFault.{RunFault}
+use Rattle.fwupd_jobs.specs.declared.faults.RunFault.TheVariants as faults
+
+-- A clue, by the paths that it names.
+pub data ClueOf : Type 0 where
+  Unread : (path : List ℕ) → ClueOf
+  NoPackage : (config : List ℕ) → ClueOf
+  OfStep : (schedule : List ℕ) → (number : ℕ) → ClueOf
+  Unwritten : (path : List ℕ) → ClueOf
+  OfHistory : (folder : List ℕ) → ClueOf
+
+abbrev pub clue_seen : Clue → ClueOf
+clue_seen (clues.Unread path) = ClueOf.Unread path.now
+clue_seen (clues.Package config) = ClueOf.NoPackage config.now
+clue_seen (clues.Step schedule number) = ClueOf.OfStep schedule.now number
+clue_seen (clues.Unwritten path) = ClueOf.Unwritten path.now
+clue_seen (clues.History folder) = ClueOf.OfHistory folder.now
+
+-- the file that isn't written of what is shown
+abbrev pub clue_to_shown : Show → RunFault → Option ClueOf
+clue_to_shown show faults.Trace = option_map (λ path. ClueOf.Unwritten path.now) show.trace
+clue_to_shown show faults.Log = option_map (λ path. ClueOf.Unwritten path.now) show.log
+clue_to_shown show faults.Record = option_map (λ path. ClueOf.Unwritten path.now) show.record
+clue_to_shown show faults.History = option_map (λ folder. ClueOf.OfHistory folder.now) show.history
+clue_to_shown show fault = None
+
+-- a job reads packages of a configuration
+abbrev pub clue_to_package : Job → Option ClueOf
+clue_to_package (jobs.Replay config schedule show) = Some (ClueOf.NoPackage config.now)
+clue_to_package (jobs.Run config folder order show) = Some (ClueOf.NoPackage config.now)
+clue_to_package (jobs.Soak config order path) = Some (ClueOf.NoPackage config.now)
+clue_to_package (jobs.Plan config number form) = Some (ClueOf.NoPackage config.now)
+clue_to_package job = None
+
+abbrev pub clue_to_step : Job → (number : ℕ) → Option ClueOf
+clue_to_step (jobs.Replay config schedule show) number = Some (ClueOf.OfStep schedule.now number)
+clue_to_step job number = None
+
+-- a file that a job makes itself isn't written
+abbrev pub clue_to_output : Job → RunFault → Option ClueOf
+clue_to_output (jobs.Soak config order path) faults.Record = option_map (λ p. ClueOf.Unwritten p.now) path
+clue_to_output (jobs.Build spec path) faults.Output = Some (ClueOf.Unwritten path.now)
+clue_to_output (jobs.Replay config schedule show) fault = clue_to_shown show fault
+clue_to_output (jobs.Run config folder order show) fault = clue_to_shown show fault
+clue_to_output job fault = None
+
+-- what helps to find why a job ended with a fault
+abbrev pub clue_of : Job → RunFault → Option ClueOf
+clue_of job (faults.Unreadable path) = Some (ClueOf.Unread (string_bytes path))
+clue_of job (faults.Package fault) = clue_to_package job
+clue_of job (faults.Step number fault) = clue_to_step job number
+clue_of job fault = clue_to_output job fault
