@@ -1,5 +1,5 @@
 -- Of files of which nothing is known anything may be so.
-use Rattle.std.proofs.Common.{◌≡◌, [], None, inl, refl}
+use Rattle.std.proofs.Common.{[], None, inl, refl}
 use Rattle.fwupd_jobs.specs.Setups.{IsBelow, IsOnePlace, PlaceOf, any_file}
 use Rattle.fwupd_jobs.specs.declared.files.FileIdentity.{FileIdentity}
 

@@ -1,5 +1,5 @@
 -- Names that are taken and given back.
-use Rattle.std.proofs.Common.{◌≡◌, ◌∷◌, ◌∙◌, ℕ, List, Option, None, Some, ap, drop, refl}
+use Rattle.std.proofs.Common.{◌≡◌, ◌∷◌, ◌∙◌, ℕ, List, Option, None, Some, ap, drop}
 use Rattle.std.specs.Prelude.{option_map}
 
 pub given_back : (before taken same after : Option (List (List ℕ))) (name : List ℕ) → taken ≡ option_map (λ names. name ∷ names) before → same ≡ taken → after ≡ option_map (drop 1) same → after ≡ before

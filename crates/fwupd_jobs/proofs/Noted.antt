@@ -1,5 +1,5 @@
 -- Steps that are noted, portion by portion.
-use Rattle.std.proofs.Common.{◌≡◌, ◌++◌, ◌∙◌, ℕ, zero, List, [], ◌∷◌, Option, Some, None, Result, Ok, Err, OnOk, ap, subst, sym, refl, true}
+use Rattle.std.proofs.Common.{◌≡◌, ◌++◌, ◌∙◌, ℕ, List, [], ◌∷◌, Option, Some, None, Result, Ok, Err, OnOk, ap, subst, sym, refl, true}
 use Rattle.std.specs.Prelude.{IfErr, IfSome}
 use Rattle.std.specs.Io.KnownBytes.{Appends}
 use Rattle.std.proofs.KnownBytes.{Appends-trans}
@@ -8,10 +8,8 @@ use Rattle.fw_edge.specs.Drives.{Drives}
 use Rattle.fw_edge.specs.Links.{LinksOf}
 use Rattle.fw_edge.specs.Turns.{Drove, Turns}
 use Rattle.fw_json.specs.Forms.{report_in}
-use Rattle.fwupd_base.specs.declared.forms.Form.{Form}
 use Rattle.fw_script.specs.ScheduleTexts.{AreSayable, PortionsAreTheWhole, SchedulesReadBack, idle_at, schedule_text, text_of_steps, ticks_text}
-use Rattle.fw_script.specs.Schedules.{script_of}
-use Rattle.fw_world.specs.Headline.{Leads, Run, faults_before, world_after}
+use Rattle.fw_world.specs.Headline.{Leads, Run, world_after}
 use Rattle.fw_world.specs.Worlds.{WorldOf}
 use Rattle.fw_world.specs.declared.step.Step.{Step}
 use Rattle.fwupd_jobs.specs.Recordings.{AllWork, Closes, Ends, IsNew, IsRecorded, Notes, NotesRun, RecordingOf, RecordsReplay, Writes, recording_of}

@@ -1,29 +1,40 @@
 //! The subcommands, with their words and their help.
 
+ghost use Rattle.std.specs.Prelude.{◌≡◌, IfOk, map, true};
+ghost use Rattle.clap.specs.Words.{app_of, rule_of};
+ghost use Rattle.fwupd_words.specs.CommandLine.{IsCommandLine, answer, are_simple, build, command_line, inspect, is_plain, plan, program, replay, run, run_options, sel, soak, with_one, with_rules};
+
 use crate::helps::{
     ANSWER_HELP, BUILD_HELP, INSPECT_HELP, PLAN_HELP, REPLAY_HELP, RUN_HELP, SEL_HELP, SOAK_HELP,
 };
 use crate::options::{
-    config_word, flag, json_option, log_option, package_option, roughness_options, store_option,
-    trace_form_option, trace_option, word,
+    config_word, flag, folder_word, json_option, log_option, package_option, record_option,
+    roughness_options, store_option, text_option, trace_form_option, trace_option, word,
 };
-use clap::builder::ValueParser;
-use clap::{Arg, ArgAction, Command, value_parser};
-use std::alloc::Global;
+use clap::{Arg, Command, value_parser};
+use std::alloc::{AllocError, Global};
+
+/// A command with these options and words after those that it has.
+fn with_args<'a>(command: Command<'a>, args: Vec<Arg<'a>>) -> Result<Command<'a>, AllocError>
+    ensures { are_simple (map rule_of args.entry.items) ≡ true → IfOk result (λ c. app_of c ≡ with_rules (app_of command.entry) (map rule_of args.entry.items)) }
+{
+    command.args(args)
+}
 
 /// The subcommand `answer`.
-fn answer_command<'a>(alloc: Global) -> Result<Command<'a>, clap::Error> {
-    let eid = Arg::new(alloc, "EID")
-        .help("The endpoint identifier to answer as, 8 to 254")
-        .required(true)
-        .value_parser(value_parser!(u8).range(8..255))
-        .action(ArgAction::Set);
-    let uuid = Arg::new(alloc, "uuid")
-        .long("uuid")
-        .value_name("UUID")
-        .help("The answer to Get Endpoint UUID")
-        .default_value("00000000-0000-0000-0000-000000000000");
-    let args = vec![in alloc; eid, uuid]?;
+fn answer_command<'a>(alloc: Global) -> Result<Command<'a>, AllocError>
+    ensures { IfOk result (λ c. app_of c ≡ answer) }
+{
+    let eid = word(
+        alloc,
+        "EID",
+        "The endpoint identifier to answer as, 8 to 254",
+    );
+    let uuid = text_option(alloc, "uuid", "UUID", "The answer to Get Endpoint UUID");
+    let args = vec![in alloc;
+        eid.value_parser(value_parser!(u8).range(8..255)),
+        uuid.default_value("00000000-0000-0000-0000-000000000000"),
+    ]?;
     let command = Command::new(alloc, "answer")
         .about("Answers MCTP packets as an endpoint without a device")
         .long_about(
@@ -33,11 +44,13 @@ fn answer_command<'a>(alloc: Global) -> Result<Command<'a>, clap::Error> {
             whole lines are written before more input is awaited.",
         )
         .after_long_help(ANSWER_HELP);
-    Ok(command.args(args)?)
+    with_args(command, args)
 }
 
 /// The subcommand `inspect`.
-fn inspect_command<'a>(alloc: Global) -> Result<Command<'a>, clap::Error> {
+fn inspect_command<'a>(alloc: Global) -> Result<Command<'a>, AllocError>
+    ensures { IfOk result (λ c. app_of c ≡ inspect) }
+{
     let args = vec![in alloc;
         json_option(alloc),
         word(alloc, "FILE", "The package's file"),
@@ -52,26 +65,30 @@ fn inspect_command<'a>(alloc: Global) -> Result<Command<'a>, clap::Error> {
             holds.",
         )
         .after_long_help(INSPECT_HELP);
-    Ok(command.args(args)?)
+    with_args(command, args)
 }
 
 /// The subcommand `replay`.
-fn replay_command<'a>(alloc: Global) -> Result<Command<'a>, clap::Error> {
+fn replay_command<'a>(alloc: Global, forms: &'a [&'a str]) -> Result<Command<'a>, AllocError>
+    ensures { IfOk result (λ c. app_of c ≡ replay forms.entry) }
+{
+    let store = store_option(
+        alloc,
+        "Reads what runs from a folder, in which nothing is written",
+    );
+    let schedule = word(
+        alloc,
+        "SCHEDULE",
+        "The schedule: the steps, one after the other",
+    );
     let args = vec![in alloc;
         trace_option(alloc),
-        trace_form_option(alloc),
+        trace_form_option(alloc, forms),
         log_option(alloc),
-        store_option(
-            alloc,
-            "Reads what runs from a folder, in which nothing is written"
-        ),
+        store,
         json_option(alloc),
         config_word(alloc),
-        word(
-            alloc,
-            "SCHEDULE",
-            "The schedule: the steps, one after the other"
-        ),
+        schedule,
     ]?;
     let command = Command::new(alloc, "replay")
         .about("Replays a schedule of packets, ticks and commands, and prints a report")
@@ -82,30 +99,35 @@ fn replay_command<'a>(alloc: Global) -> Result<Command<'a>, clap::Error> {
             The schedule says which packet is delivered when.",
         )
         .after_long_help(REPLAY_HELP);
-    Ok(command.args(args)?)
+    with_args(command, args)
 }
 
-/// The subcommand `run`.
-fn run_command<'a>(alloc: Global) -> Result<Command<'a>, clap::Error> {
-    let record = Arg::new(alloc, "record")
-        .long("record")
-        .value_name("FILE")
-        .help("Writes each step to a file as it is taken, as a schedule to replay");
-    let args = vec![in alloc;
+/// The options and words of `run`, but for those of rough links.
+fn run_options<'a>(alloc: Global, forms: &'a [&'a str]) -> Result<Vec<Arg<'a>>, AllocError>
+    ensures { IfOk result (λ options. map rule_of options.items ≡ run_options forms.entry) }
+{
+    Ok(vec![in alloc;
         package_option(alloc),
         flag(alloc, "check", "Fails where a session doesn't end Done"),
         flag(alloc, "quiet", "Shows no progress"),
         trace_option(alloc),
-        trace_form_option(alloc),
+        trace_form_option(alloc, forms),
         log_option(alloc),
-        record,
+        record_option(
+            alloc,
+            "Writes each step to a file as it is taken, as a schedule to replay",
+        ),
         store_option(alloc, "Keeps what runs in a folder, and begins with it"),
         json_option(alloc),
         config_word(alloc),
-        word(alloc, "FOLDER", "The folder that the sockets are made in").value_parser(
-            ValueParser::NonEmptyString
-        ),
-    ]?;
+        folder_word(alloc),
+    ]?)
+}
+
+/// The subcommand `run`.
+fn run_command<'a>(alloc: Global, forms: &'a [&'a str]) -> Result<Command<'a>, AllocError>
+    ensures { IfOk result (λ c. app_of c ≡ run forms.entry) }
+{
     let command = Command::new(alloc, "run")
         .about("Updates each device with a package, over Unix sockets")
         .long_about(
@@ -114,24 +136,21 @@ fn run_command<'a>(alloc: Global) -> Result<Command<'a>, clap::Error> {
             its ends are connected.",
         )
         .after_long_help(RUN_HELP);
-    let roughness = roughness_options(alloc)?;
-    Ok(command.args(args)?.args(roughness)?)
+    let command = with_args(command, run_options(alloc, forms)?)?;
+    with_args(command, roughness_options(alloc)?)
 }
 
 /// The subcommand `soak`.
-fn soak_command<'a>(alloc: Global) -> Result<Command<'a>, clap::Error> {
-    let runs = Arg::new(alloc, "runs")
-        .long("runs")
-        .value_name("N")
-        .help("How many runs, 1 to 1000000")
+fn soak_command<'a>(alloc: Global) -> Result<Command<'a>, AllocError>
+    ensures { IfOk result (λ c. app_of c ≡ soak) }
+{
+    let runs = text_option(alloc, "runs", "N", "How many runs, 1 to 1000000")
         .required(true)
         .value_parser(value_parser!(u32).range(1..1_000_001));
-    let record = Arg::new(alloc, "record")
-        .long("record")
-        .value_name("FILE")
-        .help(
-            "Writes the steps of the first run that goes wrong to a file, as a schedule to replay",
-        );
+    let record = record_option(
+        alloc,
+        "Writes the steps of the first run that goes wrong to a file, as a schedule to replay",
+    );
     let args = vec![in alloc; runs, record, config_word(alloc)]?;
     let command = Command::new(alloc, "soak")
         .about("Makes many rough runs of updates, and checks each")
@@ -141,12 +160,14 @@ fn soak_command<'a>(alloc: Global) -> Result<Command<'a>, clap::Error> {
             what runs.",
         )
         .after_long_help(SOAK_HELP);
-    let roughness = roughness_options(alloc)?;
-    Ok(command.args(args)?.args(roughness)?)
+    let command = with_args(command, args)?;
+    with_args(command, roughness_options(alloc)?)
 }
 
 /// The subcommand `sel`.
-fn sel_command<'a>(alloc: Global) -> Result<Command<'a>, clap::Error> {
+fn sel_command<'a>(alloc: Global) -> Result<Command<'a>, AllocError>
+    ensures { IfOk result (λ c. app_of c ≡ sel) }
+{
     let args = vec![in alloc; word(alloc, "FILE", "The file of records, as --sel writes it")]?;
     let command = Command::new(alloc, "sel")
         .about("Prints the records of an event log, a line each")
@@ -155,19 +176,20 @@ fn sel_command<'a>(alloc: Global) -> Result<Command<'a>, clap::Error> {
             The file holds at most 128 records of 16 bytes, as 'run --sel' and 'replay --sel' write them.",
         )
         .after_long_help(SEL_HELP);
-    Ok(command.args(args)?)
+    with_args(command, args)
 }
 
 /// The subcommand `build`.
-fn build_command<'a>(alloc: Global) -> Result<Command<'a>, clap::Error> {
-    let args = vec![in alloc;
-        word(alloc, "SPEC", "The text that says what the package holds"),
-        word(
-            alloc,
-            "FILE",
-            "The package's file, which is made or replaced"
-        ),
-    ]?;
+fn build_command<'a>(alloc: Global) -> Result<Command<'a>, AllocError>
+    ensures { IfOk result (λ c. app_of c ≡ build) }
+{
+    let spec = word(alloc, "SPEC", "The text that says what the package holds");
+    let file = word(
+        alloc,
+        "FILE",
+        "The package's file, which is made or replaced",
+    );
+    let args = vec![in alloc; spec, file]?;
     let command = Command::new(alloc, "build")
         .about("Builds a firmware update package from a text and images")
         .long_about(
@@ -175,11 +197,13 @@ fn build_command<'a>(alloc: Global) -> Result<Command<'a>, clap::Error> {
             The text says what the package holds, and names the files of the images. Nothing is printed.",
         )
         .after_long_help(BUILD_HELP);
-    Ok(command.args(args)?)
+    with_args(command, args)
 }
 
 /// The subcommand `plan`.
-fn plan_command<'a>(alloc: Global) -> Result<Command<'a>, clap::Error> {
+fn plan_command<'a>(alloc: Global) -> Result<Command<'a>, AllocError>
+    ensures { IfOk result (λ c. app_of c ≡ plan) }
+{
     let args = vec![in alloc;
         package_option(alloc),
         json_option(alloc),
@@ -192,35 +216,47 @@ fn plan_command<'a>(alloc: Global) -> Result<Command<'a>, clap::Error> {
             another, and why. Nothing is updated, and nothing is made.",
         )
         .after_long_help(PLAN_HELP);
-    Ok(command.args(args)?)
+    with_args(command, args)
 }
 
-/// How many subcommands there are.
-const SUBCOMMANDS: usize = 8;
-
-/// The subcommand at a place, in the order in which help lists them.
-fn subcommand<'a>(alloc: Global, place: usize) -> Result<Command<'a>, clap::Error> {
-    match place {
-        0 => answer_command(alloc),
-        1 => inspect_command(alloc),
-        2 => replay_command(alloc),
-        3 => plan_command(alloc),
-        4 => run_command(alloc),
-        5 => soak_command(alloc),
-        6 => sel_command(alloc),
-        _ => build_command(alloc),
-    }
-}
-
-/// The whole command line.
-pub(crate) fn command<'a>(alloc: Global) -> Result<Command<'a>, clap::Error> {
-    let mut command = Command::new(alloc, "fwupd")
+/// The program, without its subcommands.
+fn program<'a>(alloc: Global) -> Command<'a>
+    ensures { app_of result ≡ program }
+{
+    Command::new(alloc, "fwupd")
         .version("0.1.0")
         .about("A firmware update agent and its devices: PLDM for Firmware Update over MCTP")
         .subcommand_required(true)
-        .arg_required_else_help(true);
-    for place in 0..SUBCOMMANDS {
-        command = command.subcommand(subcommand(alloc, place)?)?;
-    }
-    Ok(command)
+        .arg_required_else_help(true)
+}
+
+/// A command with one more subcommand.
+fn with_one<'a>(command: Command<'a>, one: Command<'a>) -> Result<Command<'a>, AllocError>
+    ensures { is_plain (app_of one.entry) ≡ true → IfOk result (λ c. app_of c ≡ with_one (app_of command.entry) (app_of one.entry)) }
+{
+    command.subcommand(one)
+}
+
+/// The command line, with these words of the forms of a trace. Help lists the subcommands in this order.
+fn command_with<'a>(alloc: Global, forms: &'a [&'a str]) -> Result<Command<'a>, AllocError>
+    ensures { IfOk result (λ c. app_of c ≡ command_line forms.entry) }
+{
+    let command = with_one(program(alloc), answer_command(alloc)?)?;
+    let command = with_one(command, inspect_command(alloc)?)?;
+    let command = with_one(command, replay_command(alloc, forms)?)?;
+    let command = with_one(command, plan_command(alloc)?)?;
+    let command = with_one(command, run_command(alloc, forms)?)?;
+    let command = with_one(command, soak_command(alloc)?)?;
+    let command = with_one(command, sel_command(alloc)?)?;
+    with_one(command, build_command(alloc)?)
+}
+
+/// The words of the forms of a trace.
+const TRACE_FORMS: &[&str] = &["hex", "text", "pcap"];
+
+/// The whole command line.
+pub(crate) fn command<'a>(alloc: Global) -> Result<Command<'a>, AllocError>
+    ensures { IfOk result (λ c. IsCommandLine (app_of c)) }
+{
+    command_with(alloc, TRACE_FORMS)
 }

@@ -1,11 +1,17 @@
 //! The words and options that several subcommands have.
 
+ghost use Rattle.std.specs.Prelude.{◌≡◌, ◌∷◌, [], IfOk, Some, codes, map};
+ghost use Rattle.clap.specs.Words.{rule_of};
+ghost use Rattle.fwupd_words.specs.CommandLine.{flag_rule, given_option, given_word, package_rule, roughness_rules, text_option, trace_form_rule, word_rule};
+
 use clap::builder::ValueParser;
 use clap::{Arg, ArgAction, value_parser};
 use std::alloc::{AllocError, Global};
 
 /// A word that has to be given, in its place.
-pub(crate) fn word<'a>(alloc: Global, name: &'static str, help: &'static str) -> Arg<'a> {
+pub(crate) fn word<'a>(alloc: Global, name: &'static str, help: &'static str) -> Arg<'a>
+    ensures { rule_of result ≡ word_rule name.entry.now }
+{
     Arg::new(alloc, name)
         .help(help)
         .required(true)
@@ -13,7 +19,9 @@ pub(crate) fn word<'a>(alloc: Global, name: &'static str, help: &'static str) ->
 }
 
 /// The word that names the configuration's file.
-pub(crate) fn config_word<'a>(alloc: Global) -> Arg<'a> {
+pub(crate) fn config_word<'a>(alloc: Global) -> Arg<'a>
+    ensures { rule_of result ≡ word_rule (codes "CONFIG") }
+{
     word(
         alloc,
         "CONFIG",
@@ -21,56 +29,95 @@ pub(crate) fn config_word<'a>(alloc: Global) -> Arg<'a> {
     )
 }
 
+/// The word that names the folder of sockets.
+pub(crate) fn folder_word<'a>(alloc: Global) -> Arg<'a>
+    ensures { rule_of result ≡ given_word (codes "FOLDER") }
+{
+    let folder = word(alloc, "FOLDER", "The folder that the sockets are made in");
+    folder.value_parser(ValueParser::NonEmptyString)
+}
+
 /// An option that is given or not.
-pub(crate) fn flag<'a>(alloc: Global, name: &'static str, help: &'static str) -> Arg<'a> {
+pub(crate) fn flag<'a>(alloc: Global, name: &'static str, help: &'static str) -> Arg<'a>
+    ensures { rule_of result ≡ flag_rule name.entry.now }
+{
     Arg::new(alloc, name)
         .long(name)
         .help(help)
         .action(ArgAction::SetTrue)
 }
 
-/// The option that names the file of a trace.
-pub(crate) fn trace_option<'a>(alloc: Global) -> Arg<'a> {
-    Arg::new(alloc, "trace")
-        .long("trace")
-        .value_name("FILE")
-        .help("Writes each packet to a file as it goes out")
+/// An option with a text.
+pub(crate) fn text_option<'a>(
+    alloc: Global,
+    name: &'static str,
+    value: &'static str,
+    help: &'static str,
+) -> Arg<'a>
+    ensures { rule_of result ≡ text_option name.entry.now }
+{
+    Arg::new(alloc, name)
+        .long(name)
+        .value_name(value)
+        .help(help)
 }
 
-/// The words of the forms of a trace.
-const TRACE_FORMS: &[&str] = &["hex", "text", "pcap"];
+/// The option that names the file of a trace.
+pub(crate) fn trace_option<'a>(alloc: Global) -> Arg<'a>
+    ensures { rule_of result ≡ text_option (codes "trace") }
+{
+    text_option(
+        alloc,
+        "trace",
+        "FILE",
+        "Writes each packet to a file as it goes out",
+    )
+}
 
-/// The option that says in which form a trace is.
-pub(crate) fn trace_form_option<'a>(alloc: Global) -> Arg<'a> {
-    Arg::new(alloc, "trace-format")
-        .long("trace-format")
-        .value_name("FORM")
-        .help(
-            "The form of the trace: lines of digits, lines that tell what packets say, or a capture",
-        )
-        .value_parser(TRACE_FORMS)
-        .default_value("hex")
+/// The option that says in which of these forms a trace is.
+pub(crate) fn trace_form_option<'a>(alloc: Global, forms: &'a [&'a str]) -> Arg<'a>
+    ensures { rule_of result ≡ trace_form_rule forms.entry }
+{
+    text_option(
+        alloc,
+        "trace-format",
+        "FORM",
+        "The form of the trace: lines of digits, lines that tell what packets say, or a capture",
+    )
+    .value_parser(forms)
+    .default_value("hex")
 }
 
 /// The option that names the file of the event log's records.
-pub(crate) fn log_option<'a>(alloc: Global) -> Arg<'a> {
-    Arg::new(alloc, "sel")
-        .long("sel")
-        .value_name("FILE")
-        .help("Writes the event log's records to a file in the end")
+pub(crate) fn log_option<'a>(alloc: Global) -> Arg<'a>
+    ensures { rule_of result ≡ text_option (codes "sel") }
+{
+    text_option(
+        alloc,
+        "sel",
+        "FILE",
+        "Writes the event log's records to a file in the end",
+    )
+}
+
+/// The option that names the file of the steps.
+pub(crate) fn record_option<'a>(alloc: Global, help: &'static str) -> Arg<'a>
+    ensures { rule_of result ≡ text_option (codes "record") }
+{
+    text_option(alloc, "record", "FILE", help)
 }
 
 /// The option that names the folder of the devices' stores.
-pub(crate) fn store_option<'a>(alloc: Global, help: &'static str) -> Arg<'a> {
-    Arg::new(alloc, "store")
-        .long("store")
-        .value_name("STORE")
-        .help(help)
-        .value_parser(ValueParser::NonEmptyString)
+pub(crate) fn store_option<'a>(alloc: Global, help: &'static str) -> Arg<'a>
+    ensures { rule_of result ≡ given_option (codes "store") }
+{
+    text_option(alloc, "store", "STORE", help).value_parser(ValueParser::NonEmptyString)
 }
 
 /// The option that asks for JSON.
-pub(crate) fn json_option<'a>(alloc: Global) -> Arg<'a> {
+pub(crate) fn json_option<'a>(alloc: Global) -> Arg<'a>
+    ensures { rule_of result ≡ flag_rule (codes "json") }
+{
     flag(
         alloc,
         "json",
@@ -78,62 +125,53 @@ pub(crate) fn json_option<'a>(alloc: Global) -> Arg<'a> {
     )
 }
 
-/// An option of a small number, below this one, and 0 where it isn't given.
-fn small_option<'a>(
-    alloc: Global,
-    name: &'static str,
-    value: &'static str,
-    below: i64,
-    help: &'static str,
-) -> Arg<'a> {
-    Arg::new(alloc, name)
-        .long(name)
-        .value_name(value)
-        .help(help)
-        .default_value("0")
-        .value_parser(value_parser!(u8).range(0..below))
+/// An option that is read by a parser, and a text where it isn't given.
+fn read_option<'a>(option: Arg<'a>, otherwise: &'static str, parser: ValueParser<'a>) -> Arg<'a>
+    ensures { rule_of result ≡ record (rule_of option.entry) { defaults = otherwise.entry.now ∷ []; parser = Some parser.entry } }
+{
+    option.default_value(otherwise).value_parser(parser)
 }
 
 /// The options that make links rough.
-pub(crate) fn roughness_options<'a>(alloc: Global) -> Result<Vec<Arg<'a>>, AllocError> {
-    let seed = Arg::new(alloc, "seed")
-        .long("seed")
-        .value_name("N")
-        .help("Which chances these are: a seed gives the same run again")
-        .default_value("0")
-        .value_parser(value_parser!(u64));
+pub(crate) fn roughness_options<'a>(alloc: Global) -> Result<Vec<Arg<'a>>, AllocError>
+    ensures { IfOk result (λ options. map rule_of options.items ≡ roughness_rules) }
+{
+    let loss = text_option(alloc, "loss", "P", "Loses so many of a hundred packets");
+    let duplicate = text_option(
+        alloc,
+        "duplicate",
+        "P",
+        "Delivers so many of a hundred twice",
+    );
+    let delay = text_option(
+        alloc,
+        "delay",
+        "N",
+        "Holds packets back for up to so many turns",
+    );
+    let seed = text_option(
+        alloc,
+        "seed",
+        "N",
+        "Which chances these are: a seed gives the same run again",
+    );
     Ok(vec![in alloc;
-        small_option(
-            alloc,
-            "loss",
-            "P",
-            101,
-            "Loses so many of a hundred packets"
-        ),
-        small_option(
-            alloc,
-            "duplicate",
-            "P",
-            101,
-            "Delivers so many of a hundred twice"
-        ),
-        small_option(
-            alloc,
-            "delay",
-            "N",
-            9,
-            "Holds packets back for up to so many turns"
-        ),
-        seed,
+        read_option(loss, "0", value_parser!(u8).range(0..101)),
+        read_option(duplicate, "0", value_parser!(u8).range(0..101)),
+        read_option(delay, "0", value_parser!(u8).range(0..9)),
+        read_option(seed, "0", value_parser!(u64)),
     ]?)
 }
 
 /// The option that says with which package devices are updated.
-pub(crate) fn package_option<'a>(alloc: Global) -> Arg<'a> {
-    Arg::new(alloc, "package")
-        .long("package")
-        .value_name("N")
-        .help("The number of the package in CONFIG, from 1 on")
-        .default_value("1")
-        .value_parser(value_parser!(u32).range(1..))
+pub(crate) fn package_option<'a>(alloc: Global) -> Arg<'a>
+    ensures { rule_of result ≡ package_rule }
+{
+    let package = text_option(
+        alloc,
+        "package",
+        "N",
+        "The number of the package in CONFIG, from 1 on",
+    );
+    read_option(package, "1", value_parser!(u32).range(1..))
 }

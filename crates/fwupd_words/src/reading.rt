@@ -1,8 +1,11 @@
 //! Reading the words of a command line.
 
-ghost use Rattle.std.specs.Prelude.{◌≡◌, IfOk, codes, option_map};
-ghost use Rattle.clap.specs.Words.{first_value, found_of};
-ghost use Rattle.fwupd_words.specs.Words.{Asks, AsksEndpoint, AsksForm, AsksKept, AsksNumber, AsksOrder, AsksRoughness, AsksRuns, AsksSeed, AsksSmall, AsksSoak, AsksTraceForm, text_under};
+ghost use Rattle.std.specs.Prelude.{◌≡◌, IfErr, IfOk, codes, map, option_map};
+ghost use Rattle.std.specs.String.{string_bytes};
+ghost use Rattle.clap.specs.Words.{App, kind_of};
+ghost use Rattle.fwupd_words.specs.CommandLine.{IsCommandLine};
+ghost use Rattle.fwupd_words.specs.Reading.{Finds, Reads, Refuses, RefusesEndpoint};
+ghost use Rattle.fwupd_words.specs.Words.{Asks, AsksEndpoint, AsksForm, AsksKept, AsksNumber, AsksOrder, AsksRoughness, AsksRuns, AsksSeed, AsksSmall, AsksSoak, AsksTraceForm, given_in, text_under};
 
 use crate::asked::{Job, Order, Show, SoakOrder, TraceForm};
 use crate::commands::command;
@@ -11,12 +14,12 @@ use clap::error::ErrorKind;
 use fw_edge::Roughness;
 use fwupd_base::Form;
 use mctp_ctl::Endpoint;
-use std::alloc::Global;
+use std::alloc::{AllocError, Global};
 use uuid::Uuid;
 
 /// The number that the option says.
 fn package_number(matches: &ArgMatches<'_>) -> usize
-    ensures { AsksNumber (found_of matches.now) result }
+    ensures { AsksNumber (given_in matches.now) result }
 {
     match matches.get_one::<u32>("package") {
         Some(number) => number as usize,
@@ -26,7 +29,7 @@ fn package_number(matches: &ArgMatches<'_>) -> usize
 
 /// The text that the words give under a name, and none where they give nothing.
 fn text_under<'a>(matches: &ArgMatches<'a>, name: &str) -> &'a str
-    ensures { result.now ≡ text_under (found_of matches.now) name.now }
+    ensures { result.now ≡ text_under (given_in matches.now) name.now }
 {
     match matches.get_str(name) {
         Some(text) => text,
@@ -34,26 +37,34 @@ fn text_under<'a>(matches: &ArgMatches<'a>, name: &str) -> &'a str
     }
 }
 
+/// An error of this kind, with what it says.
+fn refusal(alloc: Global, kind: ErrorKind, message: &str) -> Result<clap::Error, AllocError>
+    ensures { IfOk result (λ error. kind_of error ≡ kind) }
+{
+    command(alloc)?.error(kind, message)
+}
+
 /// The endpoint that the words of `answer` name.
 fn endpoint_in<'a>(alloc: Global, matches: &ArgMatches<'a>) -> Result<Endpoint, clap::Error>
-    ensures { IfOk result (AsksEndpoint (found_of matches.now)) }
+    ensures endpoint { IfOk result (AsksEndpoint (given_in matches.now)) }
+    ensures refused { IfErr result (RefusesEndpoint (given_in matches.now)) }
 {
     let Some(eid) = matches.get_one::<u8>("EID") else {
-        return Err(command(alloc)?.error(ErrorKind::MissingRequiredArgument, "EID is required")?);
+        return Err(refusal(alloc, ErrorKind::MissingRequiredArgument, "EID is required")?);
     };
     let text = text_under(matches, "uuid");
     match Uuid::parse_str(text) {
         Ok(uuid) => Ok(Endpoint { eid, uuid }),
         Err(error) => {
             let message = format!(in alloc; "invalid value '{text}' for '--uuid <UUID>': {error}")?;
-            Err(command(alloc)?.error(ErrorKind::ValueValidation, &message)?)
+            Err(refusal(alloc, ErrorKind::ValueValidation, &message)?)
         }
     }
 }
 
 /// The form that the words ask for.
 fn form_in(matches: &ArgMatches<'_>) -> Form
-    ensures { AsksForm (found_of matches.now) result }
+    ensures { AsksForm (given_in matches.now) result }
 {
     if matches.get_flag("json") {
         Form::Json
@@ -64,7 +75,7 @@ fn form_in(matches: &ArgMatches<'_>) -> Form
 
 /// The form of a trace that the words ask for.
 fn trace_form_in(matches: &ArgMatches<'_>) -> TraceForm
-    ensures { AsksTraceForm (found_of matches.now) result }
+    ensures { AsksTraceForm (given_in matches.now) result }
 {
     match matches.get_str("trace-format") {
         Some("text") => TraceForm::Text,
@@ -77,8 +88,8 @@ fn trace_form_in(matches: &ArgMatches<'_>) -> TraceForm
 fn show_in<'a>(matches: &ArgMatches<'a>, is_quiet: bool, history: Option<&'a str>) -> Show<'a>
     ensures quiet { result.is_quiet ≡ is_quiet }
     ensures history { result.history ≡ history.entry }
-    ensures record { option_map (λ path. path.now) result.record ≡ first_value (found_of matches.now) (codes "record") }
-    ensures kept { AsksKept (found_of matches.now) result }
+    ensures record { option_map (λ path. path.now) result.record ≡ (given_in matches.now).first (codes "record") }
+    ensures kept { AsksKept (given_in matches.now) result }
 {
     Show {
         is_quiet,
@@ -94,7 +105,7 @@ fn show_in<'a>(matches: &ArgMatches<'a>, is_quiet: bool, history: Option<&'a str
 
 /// A small number that the words give under a name, and 0 where they give none.
 fn small_under(matches: &ArgMatches<'_>, name: &str) -> u8
-    ensures { AsksSmall (found_of matches.now) name.now result }
+    ensures { AsksSmall (given_in matches.now) name.now result }
 {
     match matches.get_one::<u8>(name) {
         Some(number) => number,
@@ -104,7 +115,7 @@ fn small_under(matches: &ArgMatches<'_>, name: &str) -> u8
 
 /// The seed that the words give.
 fn seed_in(matches: &ArgMatches<'_>) -> u64
-    ensures { AsksSeed (found_of matches.now) result }
+    ensures { AsksSeed (given_in matches.now) result }
 {
     match matches.get_one::<u64>("seed") {
         Some(seed) => seed,
@@ -114,7 +125,7 @@ fn seed_in(matches: &ArgMatches<'_>) -> u64
 
 /// How rough the words ask links to be.
 fn roughness_in(matches: &ArgMatches<'_>) -> Roughness
-    ensures { AsksRoughness (found_of matches.now) result }
+    ensures { AsksRoughness (given_in matches.now) result }
 {
     Roughness {
         loss: small_under(matches, "loss"),
@@ -126,7 +137,7 @@ fn roughness_in(matches: &ArgMatches<'_>) -> Roughness
 
 /// What the words ask of a run.
 fn order_in(matches: &ArgMatches<'_>) -> Order
-    ensures { AsksOrder (found_of matches.now) result }
+    ensures { AsksOrder (given_in matches.now) result }
 {
     Order {
         number: package_number(matches),
@@ -137,7 +148,7 @@ fn order_in(matches: &ArgMatches<'_>) -> Order
 
 /// The number of runs that the words give, and 1 where they give none.
 fn runs_in(matches: &ArgMatches<'_>) -> u32
-    ensures { AsksRuns (found_of matches.now) result }
+    ensures { AsksRuns (given_in matches.now) result }
 {
     match matches.get_one::<u32>("runs") {
         Some(runs) => runs,
@@ -147,7 +158,7 @@ fn runs_in(matches: &ArgMatches<'_>) -> u32
 
 /// What the words ask of a soak.
 fn soak_order_in(matches: &ArgMatches<'_>) -> SoakOrder
-    ensures { AsksSoak (found_of matches.now) result }
+    ensures { AsksSoak (given_in matches.now) result }
 {
     SoakOrder {
         runs: runs_in(matches),
@@ -157,7 +168,8 @@ fn soak_order_in(matches: &ArgMatches<'_>) -> SoakOrder
 
 /// The job that the subcommand of this name asks for, with these words.
 fn job_of<'a>(alloc: Global, name: &str, matches: &ArgMatches<'a>) -> Result<Job<'a>, clap::Error>
-    ensures { IfOk result (Asks name.now (found_of matches.now)) }
+    ensures job { IfOk result (Asks name.now (given_in matches.now)) }
+    ensures refused { IfErr result (Refuses name.now (given_in matches.now)) }
 {
     match name {
         "answer" => match endpoint_in(alloc, matches) {
@@ -188,21 +200,38 @@ fn job_of<'a>(alloc: Global, name: &str, matches: &ArgMatches<'a>) -> Result<Job
         )),
         "sel" => Ok(Job::Sel(text_under(matches, "FILE"))),
         "build" => Ok(Job::Build(text_under(matches, "SPEC"), text_under(matches, "FILE"))),
-        _ => Err(command(alloc)?.error(ErrorKind::MissingSubcommand, "a subcommand is required")?),
+        _ => Err(refusal(
+            alloc,
+            ErrorKind::MissingSubcommand,
+            "a subcommand is required",
+        )?),
     }
+}
+
+/// What the command line finds in words.
+fn found_in<'a>(alloc: Global, words: &'a [String]) -> Result<ArgMatches<'a>, clap::Error>
+    ensures { (line : App) × IsCommandLine line × Finds line (map string_bytes words.now) result }
+{
+    command(alloc)?.try_get_matches_from(words)
 }
 
 /// Reads the words of a command line.
 ///
 /// # Errors
 /// What to print in place of a job, and where: the text of help and version, or of wrong usage.
-pub fn parse<'a>(alloc: Global, words: &'a [String]) -> Result<Job<'a>, clap::Error> {
-    let matches = command(alloc)?.try_get_matches_from(words)?;
-    match matches.subcommand() {
-        Some((name, matches)) => job_of(alloc, name, matches),
-        None => Err(command(alloc)?.error(
+pub fn parse<'a>(alloc: Global, words: &'a [String]) -> Result<Job<'a>, clap::Error>
+    ensures { (line : App) × IsCommandLine line × Reads line (map string_bytes words.now) result }
+{
+    let matches = match found_in(alloc, words) {
+        Ok(matches) => matches,
+        Err(error) => return Err(error),
+    };
+    let Some((name, matches)) = matches.subcommand() else {
+        return Err(refusal(
+            alloc,
             ErrorKind::MissingSubcommand,
             "a subcommand is required",
-        )?),
-    }
+        )?);
+    };
+    job_of(alloc, name, matches)
 }

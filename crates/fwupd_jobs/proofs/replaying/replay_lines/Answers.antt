@@ -1,4 +1,4 @@
-use Rattle.std.proofs.Common.{◌≡◌, ◌∙◌, ◌∷◌, add-one, ap, arith, drop, subst, sym}
+use Rattle.std.proofs.Common.{◌≡◌, ◌∙◌, ◌∷◌, add-one, arith, drop, subst}
 use Rattle.fw_script.specs.ScheduleLines.{all_steps, step_said}
 use Rattle.fw_world.specs.Headline.{Leads, Run}
 use Rattle.fw_world.specs.Replays.{Refuses}

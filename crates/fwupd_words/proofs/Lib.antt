@@ -1,0 +1,10 @@
+mod Lines
+mod Closed
+mod Examples
+mod Named
+mod Walks
+mod Rows
+mod Entered
+mod Bounds
+mod Within
+mod Given

@@ -1,0 +1,189 @@
+-- The numbers of each job lie in the bounds of the command line.
+use Rattle.std.proofs.Common.{◌≡◌, ◌≤◌, ◌<◌, ◌^◌, ◌∷◌, [], Bool, ℕ, List, Some, arith, codes, false, true, inl, inr, refl, subst}
+use Rattle.clap.specs.Faults.{check_fault}
+use Rattle.clap.specs.Takes.{is_given}
+use Rattle.std.specs.Str.{bytes_eq}
+use Rattle.clap.specs.Simple.{Shape, built, built_leaf, filled, inherited, with_index}
+use Rattle.clap.specs.Walk.{Row, Rule, Text, arg_by_id, has_row}
+use Rattle.clap.specs.Words.{App, fault_of, subcommand_of}
+use Rattle.fwupd_words.specs.CommandLine.{Forms, answer, between, command_line, option_rule, package_rule, plan, run, soak, text_option, word_rule}
+use Rattle.fwupd_words.specs.Reading.{IsNoByte, IsRough, IsWithin}
+use Rattle.fwupd_words.specs.Words.{Asks, AsksNumber, AsksOrder, AsksRoughness, AsksSmall, AsksSoak, given_by}
+use Rattle.fw_edge.specs.declared.fates.Roughness.{Roughness}
+use Rattle.fwupd_words.specs.declared.asked.Order.{Order}
+use Rattle.fwupd_words.specs.declared.asked.SoakOrder.{SoakOrder}
+use Rattle.fwupd_words.specs.declared.asked.Job.{Job}
+use Rattle.fwupd_words.specs.declared.asked.Job.TheVariants as jobs
+use Rattle.fwupd_words.proofs.Bounds.{number_at, number_under}
+use Rattle.fwupd_words.proofs.Closed.{some_forms}
+use Rattle.fwupd_words.proofs.Entered.{OnlyNamed, rows_read}
+use Rattle.fwupd_words.proofs.Rows.{AllUsual, ◌also◌, AreRead, AreRows, flag_usual, has_default, help_usual, no_fault_is_one, set_usual}
+
+abbrev building : App → Shape
+building one = built_leaf (inherited (command_line some_forms).top one.top)
+
+abbrev as_built : Rule → Rule
+as_built rule = with_index 1 (filled rule)
+
+-- ---- each subcommand that takes a number has usual arguments
+
+answering_usual : AllUsual (building answer).rules (building answer).rules
+answering_usual =
+    set_usual _ _ refl refl refl (inl refl)
+    also set_usual _ _ refl refl refl (inr (_, refl))
+    also help_usual _ _ refl refl refl refl
+    also tt
+
+planning_usual : AllUsual (building plan).rules (building plan).rules
+planning_usual =
+    set_usual _ _ refl refl refl (inr (_, refl))
+    also flag_usual _ _ _ refl refl refl refl (inr (_, refl))
+    also set_usual _ _ refl refl refl (inl refl)
+    also help_usual _ _ refl refl refl refl
+    also tt
+
+running_usual : (forms : Forms) → AllUsual (building (run forms)).rules (building (run forms)).rules
+running_usual forms =
+    set_usual _ _ refl refl refl (inr (_, refl))
+    also flag_usual _ _ _ refl refl refl refl (inr (_, refl))
+    also flag_usual _ _ _ refl refl refl refl (inr (_, refl))
+    also set_usual _ _ refl refl refl (inl refl)
+    also set_usual _ _ refl refl refl (inr (_, refl))
+    also set_usual _ _ refl refl refl (inl refl)
+    also set_usual _ _ refl refl refl (inl refl)
+    also set_usual _ _ refl refl refl (inl refl)
+    also flag_usual _ _ _ refl refl refl refl (inr (_, refl))
+    also set_usual _ _ refl refl refl (inl refl)
+    also set_usual _ _ refl refl refl (inl refl)
+    also set_usual _ _ refl refl refl (inr (_, refl))
+    also set_usual _ _ refl refl refl (inr (_, refl))
+    also set_usual _ _ refl refl refl (inr (_, refl))
+    also set_usual _ _ refl refl refl (inr (_, refl))
+    also help_usual _ _ refl refl refl refl
+    also tt
+
+soaking_usual : AllUsual (building soak).rules (building soak).rules
+soaking_usual =
+    set_usual _ _ refl refl refl (inl refl)
+    also set_usual _ _ refl refl refl (inl refl)
+    also set_usual _ _ refl refl refl (inl refl)
+    also set_usual _ _ refl refl refl (inr (_, refl))
+    also set_usual _ _ refl refl refl (inr (_, refl))
+    also set_usual _ _ refl refl refl (inr (_, refl))
+    also set_usual _ _ refl refl refl (inr (_, refl))
+    also help_usual _ _ refl refl refl refl
+    also tt
+
+-- ---- the numbers
+
+package_within : (rules : List Rule) (rows : List Row) (number : ℕ) → AreRows rules rows → arg_by_id rules (codes "package") ≡ Some (as_built package_rule)
+    → has_row (codes "package") rows ≡ true → AsksNumber (given_by rows) number → 1 ≤ number
+package_within rules rows number each by has asks =
+    (number_under rules rows (codes "package") (as_built package_rule) 32 4294967295 1 4294967295 number each by has refl refl (omega arith) refl (omega arith) asks.is).0
+
+small_within : (rules : List Rule) (rows : List Row) (name : Text) (most number : ℕ) → AreRows rules rows
+    → arg_by_id rules name ≡ Some (as_built (option_rule name (codes "0") (between 0 most))) → has_row name rows ≡ true → most < 2 ^ 8
+    → AsksSmall (given_by rows) name number → number ≤ most
+small_within rules rows name most number each by has fits asks =
+    (number_under rules rows name (as_built (option_rule name (codes "0") (between 0 most))) 8 255 0 most number each by has refl refl fits refl (omega arith) asks).1
+
+abbrev runs_rule : Rule
+runs_rule = as_built (record (text_option (codes "runs")) { required = true; parser = Some (between 1 1000000) })
+
+given_has : (id : Text) (rows : List Row) → is_given id rows ≡ true → has_row id rows ≡ true
+given_has id [] given = given
+given_has id (r ∷ rs) given = go (bytes_eq r.id id) refl (λ h. given_has id rs h)
+  where
+    go : (b : Bool) → bytes_eq r.id id ≡ b → (is_given id rs ≡ true → has_row id rs ≡ true) → has_row id (r ∷ rs) ≡ true
+    go true is later = rw is refl
+    go false is later = rw is (later (rw is at given))
+
+runs_given : (rows : List Row) → check_fault (building soak) rows false ≡ [] → is_given (codes "runs") rows ≡ true
+runs_given rows passed = go (is_given (codes "runs") rows) refl
+  where
+    go : (b : Bool) → is_given (codes "runs") rows ≡ b → is_given (codes "runs") rows ≡ true
+    go true is = is
+    go false is = absurd (no_fault_is_one _ _ (rw is at passed))
+
+plan_within : (rows : List Row) (number : ℕ) → AreRead (building plan) rows → AsksNumber (given_by rows) number → 1 ≤ number
+plan_within rows number read asks = package_within (building plan).rules rows number read.each refl (read.defaults (codes "package") refl) asks
+
+rough_within : (s : Shape) (rows : List Row) (roughness : Roughness) → AreRead s rows
+    → arg_by_id s.rules (codes "loss") ≡ Some (as_built (option_rule (codes "loss") (codes "0") (between 0 100)))
+    → arg_by_id s.rules (codes "duplicate") ≡ Some (as_built (option_rule (codes "duplicate") (codes "0") (between 0 100)))
+    → arg_by_id s.rules (codes "delay") ≡ Some (as_built (option_rule (codes "delay") (codes "0") (between 0 8)))
+    → has_default (codes "loss") s.rules ≡ true → has_default (codes "duplicate") s.rules ≡ true → has_default (codes "delay") s.rules ≡ true
+    → AsksRoughness (given_by rows) roughness → IsRough roughness
+rough_within s rows roughness read loss duplicate delay has_loss has_duplicate has_delay asks = record {
+  loss = small_within s.rules rows (codes "loss") 100 roughness.loss read.each loss (read.defaults (codes "loss") has_loss) (omega arith) asks.loss;
+  duplicate = small_within s.rules rows (codes "duplicate") 100 roughness.duplicate read.each duplicate (read.defaults (codes "duplicate") has_duplicate) (omega arith) asks.duplicate;
+  delay = small_within s.rules rows (codes "delay") 8 roughness.delay read.each delay (read.defaults (codes "delay") has_delay) (omega arith) asks.delay;
+}
+
+run_within : (forms : Forms) (rows : List Row) (order : Order) → AreRead (building (run forms)) rows → AsksOrder (given_by rows) order → (1 ≤ order.number) × IsRough order.roughness
+run_within forms rows order read asks = (
+  package_within (building (run forms)).rules rows order.number read.each refl (read.defaults (codes "package") refl) asks.number,
+  rough_within (building (run forms)) rows order.roughness read refl refl refl refl refl refl asks.roughness,
+)
+
+soak_within : (rows : List Row) (order : SoakOrder) → AreRead (building soak) rows → AsksSoak (given_by rows) order
+    → (1 ≤ order.runs) × (order.runs ≤ 1000000) × IsRough order.roughness
+soak_within rows order read asks =
+    let has = given_has (codes "runs") rows (runs_given rows read.checked) in
+    let runs = number_under (building soak).rules rows (codes "runs") runs_rule 32 4294967295 1 1000000 order.runs read.each refl has refl refl (omega arith) refl (omega arith) asks.runs.is in
+    (runs.0, runs.1, rough_within (building soak) rows order.roughness read refl refl refl refl refl refl asks.roughness)
+
+abbrev eid_rule : Rule
+eid_rule = as_built (record (word_rule (codes "EID")) { parser = Some (between 8 254) })
+
+eid_given : (rows : List Row) → check_fault (building answer) rows false ≡ [] → is_given (codes "EID") rows ≡ true
+eid_given rows passed = go (is_given (codes "EID") rows) refl
+  where
+    go : (b : Bool) → is_given (codes "EID") rows ≡ b → is_given (codes "EID") rows ≡ true
+    go true is = is
+    go false is = absurd (no_fault_is_one _ _ (rw is at passed))
+
+answer_read : (forms : Forms) (words : List Text) (name : Text) (rows : List Row) → fault_of (command_line forms) words ≡ []
+    → subcommand_of (command_line forms) words ≡ Some (name, rows) → name ≡ codes "answer" → AreRead (building answer) rows
+answer_read forms words name rows passed is named =
+    let here = subst (λ n. subcommand_of (command_line forms) words ≡ Some (n, rows)) named is in
+    let only : OnlyNamed (codes "answer") (building answer) (built (command_line forms)).subs =
+    inl refl also inr refl also inr refl also inr refl also inr refl also inr refl also inr refl also inr refl also inr refl also tt in
+    rows_read forms words (codes "answer") rows (building answer) passed here only refl answering_usual
+
+-- words of `answer` without a fault give an identifier
+pub eid_is_read : (forms : Forms) (words : List Text) (name : Text) (rows : List Row) → fault_of (command_line forms) words ≡ []
+    → subcommand_of (command_line forms) words ≡ Some (name, rows) → name ≡ codes "answer" → IsNoByte (given_by rows) (codes "EID") → ⊥
+eid_is_read forms words name rows passed is named never =
+    let read = answer_read forms words name rows passed is named in
+    let has = given_has (codes "EID") rows (eid_given rows read.checked) in
+    let at = number_at (building answer).rules rows (codes "EID") eid_rule 8 255 8 254 read.each refl has refl refl (omega arith) refl (omega arith) in
+    never at.0 at.1 at.2.numeral at.2.fits
+
+-- the numbers of a job that words without a fault ask for
+pub is_within : (forms : Forms) (words : List Text) (name : Text) (rows : List Row) (job : Job) → fault_of (command_line forms) words ≡ []
+    → subcommand_of (command_line forms) words ≡ Some (name, rows) → Asks name (given_by rows) job → IsWithin job
+is_within forms words name rows (jobs.Answer endpoint) passed is asks =
+    let read = answer_read forms words name rows passed is asks.0 in
+    let has = given_has (codes "EID") rows (eid_given rows read.checked) in
+    number_under (building answer).rules rows (codes "EID") eid_rule 8 255 8 254 endpoint.eid read.each refl has refl refl (omega arith) refl (omega arith)
+    (λ text one _ _. asks.1.eid text one)
+is_within forms words name rows (jobs.Plan config number form) passed is asks =
+    let here = subst (λ n. subcommand_of (command_line forms) words ≡ Some (n, rows)) asks.0 is in
+    let only : OnlyNamed (codes "plan") (building plan) (built (command_line forms)).subs =
+    inr refl also inr refl also inr refl also inl refl also inr refl also inr refl also inr refl also inr refl also inr refl also tt in
+    plan_within rows number (rows_read forms words (codes "plan") rows (building plan) passed here only refl planning_usual) asks.2
+is_within forms words name rows (jobs.Run config folder order show) passed is asks =
+    let here = subst (λ n. subcommand_of (command_line forms) words ≡ Some (n, rows)) asks.0 is in
+    let only : OnlyNamed (codes "run") (building (run forms)) (built (command_line forms)).subs =
+    inr refl also inr refl also inr refl also inr refl also inl refl also inr refl also inr refl also inr refl also inr refl also tt in
+    run_within forms rows order (rows_read forms words (codes "run") rows (building (run forms)) passed here only refl (running_usual forms)) asks.3
+is_within forms words name rows (jobs.Soak config order path) passed is asks =
+    let here = subst (λ n. subcommand_of (command_line forms) words ≡ Some (n, rows)) asks.0 is in
+    let only : OnlyNamed (codes "soak") (building soak) (built (command_line forms)).subs =
+    inr refl also inr refl also inr refl also inr refl also inr refl also inl refl also inr refl also inr refl also inr refl also tt in
+    soak_within rows order (rows_read forms words (codes "soak") rows (building soak) passed here only refl soaking_usual) asks.2
+is_within forms words name rows (jobs.Inspect path form) passed is asks = tt
+is_within forms words name rows (jobs.Replay config schedule show) passed is asks = tt
+is_within forms words name rows (jobs.Sel file) passed is asks = tt
+is_within forms words name rows (jobs.Build spec file) passed is asks = tt

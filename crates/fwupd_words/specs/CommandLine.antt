@@ -1,0 +1,193 @@
+-- The command line: the subcommands, with what each takes.
+use Rattle.std.specs.Prelude.{◌≡◌, ℕ, Bool, true, List, [], ◌∷◌, ◌++◌, Some, codes, fold, pos, map}
+use Rattle.std.specs.List.{list_all}
+use Rattle.std.specs.Borrow.{Bor}
+use Rattle.clap.specs.Simple.{new_shape}
+use Rattle.clap.specs.Words.{App, Rule, Text, new_app, new_rule, with_subcommand}
+use Rattle.clap.specs.declared.builder.action.ArgAction.TheVariants.{Set, SetTrue}
+use Rattle.clap.specs.declared.builder.value_parser.ValueParser.{ValueParser}
+use Rattle.clap.specs.declared.builder.value_parser.ValueParser.TheVariants as vp
+
+-- A word that has to be given, in its place; and one that isn't empty.
+abbrev pub word_rule : Text → Rule
+word_rule name = record (new_rule name) { action = Some Set; required = true }
+
+abbrev pub given_word : Text → Rule
+given_word name = record (word_rule name) { parser = Some vp.NonEmptyString }
+
+-- An option that is given or not.
+abbrev pub flag_rule : Text → Rule
+flag_rule name = record (new_rule name) { long = Some name; action = Some SetTrue }
+
+-- An option with a text; and one whose text isn't empty.
+abbrev pub text_option : Text → Rule
+text_option name = record (new_rule name) { long = Some name; value_names = 1 }
+
+abbrev pub given_option : Text → Rule
+given_option name = record (text_option name) { parser = Some vp.NonEmptyString }
+
+-- The numbers from one to another.
+abbrev pub between : ℕ → ℕ → ValueParser
+between low high = vp.Signed (pos low) (pos high)
+
+-- A number of 64 bits.
+abbrev pub any_number : ValueParser
+any_number = vp.Unsigned 0 18446744073709551615
+
+-- An option that takes what a parser does, and a text where it isn't given.
+abbrev pub option_rule : Text → (otherwise : Text) → ValueParser → Rule
+option_rule name otherwise parser = record (text_option name) { defaults = otherwise ∷ []; parser = Some parser }
+
+-- The words of the forms of a trace, where they stand in memory.
+abbrev pub Forms : Type 0
+Forms = Bor (List (Bor Text))
+
+abbrev pub AreForms : Forms → Type 0
+AreForms forms = map (λ form. form.now) forms.now ≡ codes "hex" ∷ codes "text" ∷ codes "pcap" ∷ []
+
+-- The form of a trace, by one of these words.
+abbrev pub trace_form_rule : Forms → Rule
+trace_form_rule forms = option_rule (codes "trace-format") (codes "hex") (vp.Names forms)
+
+-- The number of a package, from 1 on.
+abbrev pub package_rule : Rule
+package_rule = option_rule (codes "package") (codes "1") (between 1 4294967295)
+
+-- How rough links are.
+abbrev pub roughness_rules : List Rule
+roughness_rules =
+    option_rule (codes "loss") (codes "0") (between 0 100)
+    ∷ option_rule (codes "duplicate") (codes "0") (between 0 100)
+    ∷ option_rule (codes "delay") (codes "0") (between 0 8)
+    ∷ option_rule (codes "seed") (codes "0") any_number
+    ∷ []
+
+-- `fwupd answer [--uuid UUID] EID`
+abbrev pub answer_rules : List Rule
+answer_rules =
+    record (word_rule (codes "EID")) { parser = Some (between 8 254) }
+    ∷ record (text_option (codes "uuid")) { defaults = codes "00000000-0000-0000-0000-000000000000" ∷ [] }
+    ∷ []
+
+-- `fwupd inspect [--json] FILE`
+abbrev pub inspect_rules : List Rule
+inspect_rules = flag_rule (codes "json") ∷ word_rule (codes "FILE") ∷ []
+
+-- `fwupd replay [--trace FILE] [--trace-format FORM] [--sel FILE] [--store STORE] [--json] CONFIG SCHEDULE`
+abbrev pub replay_rules : Forms → List Rule
+replay_rules forms =
+    text_option (codes "trace")
+    ∷ trace_form_rule forms
+    ∷ text_option (codes "sel")
+    ∷ given_option (codes "store")
+    ∷ flag_rule (codes "json")
+    ∷ word_rule (codes "CONFIG")
+    ∷ word_rule (codes "SCHEDULE")
+    ∷ []
+
+-- `fwupd plan [--package N] [--json] CONFIG`
+abbrev pub plan_rules : List Rule
+plan_rules = package_rule ∷ flag_rule (codes "json") ∷ word_rule (codes "CONFIG") ∷ []
+
+-- `fwupd run [OPTIONS] CONFIG FOLDER`, with the options of rough links last
+abbrev pub run_options : Forms → List Rule
+run_options forms =
+    package_rule
+    ∷ flag_rule (codes "check")
+    ∷ flag_rule (codes "quiet")
+    ∷ text_option (codes "trace")
+    ∷ trace_form_rule forms
+    ∷ text_option (codes "sel")
+    ∷ text_option (codes "record")
+    ∷ given_option (codes "store")
+    ∷ flag_rule (codes "json")
+    ∷ word_rule (codes "CONFIG")
+    ∷ given_word (codes "FOLDER")
+    ∷ []
+
+abbrev pub run_rules : Forms → List Rule
+run_rules forms = run_options forms ++ roughness_rules
+
+-- `fwupd soak [OPTIONS] --runs N CONFIG`, with the options of rough links last
+abbrev pub soak_rules : List Rule
+soak_rules =
+    record (text_option (codes "runs")) { required = true; parser = Some (between 1 1000000) }
+    ∷ text_option (codes "record")
+    ∷ word_rule (codes "CONFIG")
+    ∷ roughness_rules
+
+-- `fwupd sel FILE`
+abbrev pub sel_rules : List Rule
+sel_rules = word_rule (codes "FILE") ∷ []
+
+-- `fwupd build SPEC FILE`
+abbrev pub build_rules : List Rule
+build_rules = word_rule (codes "SPEC") ∷ word_rule (codes "FILE") ∷ []
+
+-- A command of a name that takes these, and has no subcommand.
+abbrev pub taking : Text → List Rule → App
+taking name rules = record (new_app name) { top = record (new_shape name) { rules = rules } }
+
+abbrev pub answer : App
+answer = taking (codes "answer") answer_rules
+
+abbrev pub inspect : App
+inspect = taking (codes "inspect") inspect_rules
+
+abbrev pub replay : Forms → App
+replay forms = taking (codes "replay") (replay_rules forms)
+
+abbrev pub plan : App
+plan = taking (codes "plan") plan_rules
+
+abbrev pub run : Forms → App
+run forms = taking (codes "run") (run_rules forms)
+
+abbrev pub soak : App
+soak = taking (codes "soak") soak_rules
+
+abbrev pub sel : App
+sel = taking (codes "sel") sel_rules
+
+abbrev pub build : App
+build = taking (codes "build") build_rules
+
+-- The subcommands, in the order in which help lists them.
+abbrev pub subcommands : Forms → List App
+subcommands forms = answer ∷ inspect ∷ replay forms ∷ plan ∷ run forms ∷ soak ∷ sel ∷ build ∷ []
+
+-- The program, before it has subcommands: one has to be named, and a version is told.
+abbrev pub program : App
+program = record (new_app (codes "fwupd")) {
+  top = record (new_shape (codes "fwupd")) {
+    has_version = true;
+    subcommand_required = true;
+    arg_required_else_help = true;
+  };
+}
+
+-- A program with one more subcommand.
+abbrev pub with_one : App → App → App
+with_one above one = with_subcommand above one.top
+
+-- Nothing of it changes how words are read.
+abbrev pub is_plain : App → Bool
+is_plain one = one.top.is_plain
+
+-- The whole command line.
+abbrev pub command_line : Forms → App
+command_line forms = fold with_one program (subcommands forms)
+
+-- The command line, wherever the forms of a trace stand.
+pub record IsCommandLine (line : App) : Type 0 where
+  pub forms : Forms
+  pub words : AreForms forms
+  pub is : line ≡ command_line forms
+
+-- A command with more options and words.
+abbrev pub with_rules : App → List Rule → App
+with_rules above rules = record above { top = record above.top { rules = above.top.rules ++ rules } }
+
+-- None of them changes how words are read, so that words stand under names as the definition says.
+abbrev pub are_simple : List Rule → Bool
+are_simple = list_all (λ rule. rule.is_simple)

@@ -1,0 +1,76 @@
+-- What is read of the words of a command line: a job, or an error of what is wrong with them.
+use Rattle.std.specs.Prelude.{◌≡◌, ◌≢◌, ◌<◌, ◌≤◌, ◌^◌, ◌⊎◌, true, IsSomeAnd, List, [], None, Some, MatchResult, Result, Ok, Err, codes}
+use Rattle.std.specs.Str.Parse.{IsNumeral, without_leading_plus}
+use Rattle.clap.specs.Words.{App, HasKind, Text, fault_of, has_subcommand, kind_of, subcommand_of, subcommand_rows_of}
+use Rattle.clap.specs.declared.error.Error.{Error}
+use Rattle.clap.specs.declared.error.kind.ErrorKind.TheVariants as kinds
+use Rattle.clap.specs.declared.parser.matches.ArgMatches.{ArgMatches}
+use Rattle.uuid.specs.Text.{parsed}
+use Rattle.fwupd_words.specs.Words.{Asks, Given, given_by, number_of, text_under}
+use Rattle.fw_edge.specs.declared.fates.Roughness.{Roughness}
+use Rattle.fwupd_words.specs.declared.asked.Job.{Job}
+use Rattle.fwupd_words.specs.declared.asked.Job.TheVariants as jobs
+
+-- A subcommand that answers is refused a text that is no UUID.
+pub record IsNoUuid (name : Text) (words : Given) (error : Error) : Type 0 where
+  pub answers : name ≡ codes "answer"
+  pub kind : kind_of error ≡ kinds.ValueValidation
+  pub uuid : parsed (text_under words (codes "uuid")) ≡ None
+
+-- Links are no rougher than the command line lets them be.
+pub record IsRough (roughness : Roughness) : Type 0 where
+  pub loss : roughness.loss ≤ 100
+  pub duplicate : roughness.duplicate ≤ 100
+  pub delay : roughness.delay ≤ 8
+
+-- The numbers of a job lie in the bounds of the command line.
+abbrev pub IsWithin : Job → Type 0
+IsWithin (jobs.Answer endpoint) = (8 ≤ endpoint.eid) × (endpoint.eid ≤ 254)
+IsWithin (jobs.Plan config number form) = 1 ≤ number
+IsWithin (jobs.Run config folder order show) = (1 ≤ order.number) × IsRough order.roughness
+IsWithin (jobs.Soak config order path) = (1 ≤ order.runs) × (order.runs ≤ 1000000) × IsRough order.roughness
+IsWithin _ = Unit {0}
+
+-- Words with no fault ask for the job that their subcommand asks for, or give no UUID. An error has a kind that the faults of the
+-- words say, or memory ran out.
+abbrev pub Reads : App → List Text → Result Job Error → Type 0
+Reads line words (Ok job) =
+    (fault_of line words ≡ []) × IsSomeAnd (subcommand_of line words) (λ named. Asks named.0 (given_by named.1) job) × IsWithin job
+Reads line words (Err error) =
+    HasKind (fault_of line words) error
+    ⊎ ((fault_of line words ≡ []) × IsSomeAnd (subcommand_of line words) (λ named. IsNoUuid named.0 (given_by named.1) error))
+
+-- ---- the steps
+
+-- A command line finds a subcommand and its rows in words with no fault, and else gives an error.
+abbrev pub IsFound : App → List Text → ArgMatches → Type 0
+IsFound line words matches =
+    (fault_of line words ≡ []) × (subcommand_rows_of matches ≡ subcommand_of line words) × (has_subcommand matches ≡ true)
+
+abbrev pub Finds : App → List Text → Result ArgMatches Error → Type 0
+Finds line words result = MatchResult result (IsFound line words) (HasKind (fault_of line words))
+
+-- There is no byte under a name.
+abbrev pub IsNoByte : Given → (name : Text) → Type 0
+IsNoByte words name = (text : Text) → words.one name ≡ Some text → IsNumeral 10 (without_leading_plus text) → number_of text < 2 ^ 8 → ⊥
+
+-- Why words give no endpoint: memory ran out, there is no identifier, or the text is no UUID.
+abbrev pub RefusesEndpoint : Given → Error → Type 0
+RefusesEndpoint words error =
+    (kind_of error ≡ kinds.OutOfMemory)
+    ⊎ (((kind_of error ≡ kinds.MissingRequiredArgument) × IsNoByte words (codes "EID"))
+    ⊎ ((kind_of error ≡ kinds.ValueValidation) × (parsed (text_under words (codes "uuid")) ≡ None)))
+
+-- A name of none of the subcommands.
+abbrev pub IsNoJob : (name : Text) → Type 0
+IsNoJob name =
+    (name ≢ codes "answer") × (name ≢ codes "inspect") × (name ≢ codes "replay") × (name ≢ codes "plan") × (name ≢ codes "run")
+    × (name ≢ codes "soak") × (name ≢ codes "sel") × (name ≢ codes "build")
+
+-- Why the subcommand of a name, with these words, asks for no job: memory ran out, or it is one that answers, without an endpoint.
+abbrev pub IsRefused : (name : Text) → Given → Error → Type 0
+IsRefused name words error = (kind_of error ≡ kinds.OutOfMemory) ⊎ ((name ≡ codes "answer") × RefusesEndpoint words error)
+
+-- or it is none
+abbrev pub Refuses : (name : Text) → Given → Error → Type 0
+Refuses name words error = IsRefused name words error ⊎ IsNoJob name
