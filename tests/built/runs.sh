@@ -212,8 +212,13 @@ $work/nowhere/trace: No such file or directory (os error 2)" "$(shown_by run --q
     compare 'why a log is not made' "fwupd: sel
 $work: Is a directory (os error 21)" "$(shown_by replay --sel "$work" data/worlds/one.config "$top/examples/update.schedule" | tr -d '\r')"
     compare 'why a recording is refused' 'fwupd: record
-data/one.fwpkg: it is another file of this command, or lies in its store, or the disk is full' \
+data/one.fwpkg: it is no plain file, or another file of this command, or in its store, or its disk is full' \
         "$(shown_by run --quiet --record data/one.fwpkg data/worlds/one.config "$work" | tr -d '\r')"
+    mkfifo "$work/a.pipe"
+    : > "$work/no.spec"
+    compare 'why a package is not built' "fwupd: output
+$work/a.pipe: it is no plain file, or another file of this command, or in its store, or its disk is full" \
+        "$(shown_by build "$work/no.spec" "$work/a.pipe" | tr -d '\r')"
     compare 'which line a step stands in' "fwupd: step 4: Refused:NotNow
 $work/late.schedule: line 4: verdict 9 verify-ok" "$(shown_by replay data/worlds/one.config "$work/late.schedule" | tr -d '\r')"
     compare 'nothing is said elsewhere' 'fwupd: none: unreadable' "$(fwupd inspect none 2>&1)"

@@ -10,7 +10,7 @@ use fw_package::Package;
 use fw_script::{ScriptCause, read_schedule};
 use fwupd_words::Job;
 use std::alloc::Global;
-use std::fs::OpenOptions;
+use std::fs::{self, OpenOptions};
 use std::io::{self, IsTerminal};
 use std::str;
 
@@ -85,17 +85,34 @@ fn explain_step(rt: &HostRuntime, schedule: &str, step: usize) {
     }
 }
 
-/// Why a file isn't written, or isn't made: the system's reason, as far as another try shows it.
-fn explain_unwritten(rt: &HostRuntime, path: &str) {
+/// Whether a path names a pipe, a device or a socket, which may wait when it is opened.
+fn is_special(rt: &HostRuntime, path: &str) -> bool {
+    match fs::metadata(rt, path) {
+        Ok(found) => !found.is_file() && !found.is_dir(),
+        Err(_) => false,
+    }
+}
+
+/// The system's reason why a file isn't written or made, as far as another try shows it, which makes nothing.
+fn refusal(rt: &HostRuntime, path: &str) -> Option<io::Error> {
+    if is_special(rt, path) {
+        return None;
+    }
     let (folder, _) = folder_and_name(path);
-    let tried = OpenOptions::new().append(true).open(rt, path);
-    let _ = match tried {
-        Err(error) if error.kind() != io::ErrorKind::NotFound => eprintln!(rt; "{path}: {error}"),
-        Err(error) if SystemFiles::new(rt).identity(folder).is_none() => {
-            eprintln!(rt; "{path}: {error}")
-        }
-        _ => eprintln!(rt;
-            "{path}: it is another file of this command, or lies in its store, or the disk is full"
+    let has_folder = SystemFiles::new(rt).identity(folder).is_some();
+    match OpenOptions::new().append(true).open(rt, path) {
+        Err(error) if error.kind() == io::ErrorKind::NotFound && has_folder => None,
+        Err(error) => Some(error),
+        Ok(_) => None,
+    }
+}
+
+/// Why a file isn't written, or isn't made.
+fn explain_unwritten(rt: &HostRuntime, path: &str) {
+    let _ = match refusal(rt, path) {
+        Some(error) => eprintln!(rt; "{path}: {error}"),
+        None => eprintln!(rt;
+            "{path}: it is no plain file, or another file of this command, or in its store, or its disk is full"
         ),
     };
 }
