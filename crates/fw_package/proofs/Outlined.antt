@@ -1,17 +1,16 @@
 -- The outline that is read from a file's beginning is that of its package.
-use Rattle.std.proofs.Common.{◌≡◌, ℕ, zero, suc, ◌+◌, ◌-◌, ◌*◌, ◌<◌, ◌≤◌, ◌∙◌, ◌==◌, not, nat_eq, nat_lt, if◌then◌else◌, Bool, true, false, List, [], ◌∷◌, Result, Ok, Err, length, map, take, drop, get_or, slice_index, refl, sym, ap, subst, arith, length-drop}
+use Rattle.std.proofs.Common.{◌≡◌, ℕ, zero, suc, ◌+◌, ◌<◌, ◌≤◌, ◌∙◌, nat_lt, if◌then◌else◌, Bool, true, false, List, [], ◌∷◌, Result, Ok, Err, length, map, take, drop, get_or, refl, sym, ap, subst, arith, length-drop}
 use Rattle.std.proofs.lemmas.Bool.{le-ltb}
 use borrow.Author.Tests.{ltb-false, ltb-true}
 use Rattle.std.proofs.lemmas.List.{drop-take, get_or-drop, get_or-take, length-take-le, take_all}
-use Rattle.std.specs.List.{starts_with}
 use Rattle.std.specs.Result.{result_map_both}
 use Rattle.byteorder.specs.Endian.{little_number}
 use Rattle.byteorder.specs.Numbers.{little_from-take}
 use Rattle.fw_package.specs.Components.{PlaceOf, component_of, components_of, place_of, placed}
-use Rattle.fw_package.specs.Layout.{LayoutOf, layout_of, text_size_of}
+use Rattle.fw_package.specs.Layout.{layout_of, text_size_of}
 use Rattle.fw_package.specs.Outlines.{ContentsOf, IsBeginning, OutlineOf, contents_of, its_place, outline_of, outlined, place_within, places_of}
 use Rattle.fw_package.specs.Package.{ComponentOf, PackageText}
-use Rattle.fw_package.specs.Reading.{bitmap_size_of, checked, header_of, package_identifier, package_of, parts_of}
+use Rattle.fw_package.specs.Reading.{bitmap_size_of, checked, header_of, package_of, parts_of}
 use Rattle.fw_package.specs.Records.{◌>>=◌, records_of}
 use Rattle.fw_package.specs.declared.fault.PackageFault.{PackageFault}
 use Rattle.fw_package.specs.declared.fault.PackageFault.TheVariants.{ImageRange}

@@ -1,9 +1,8 @@
 -- Components that stand in a row, in a file of which the length alone is known.
 use Rattle.std.proofs.Common.{◌≡◌, ◌≢◌, ℕ, zero, suc, ◌+◌, ◌-◌, ◌<◌, ◌≤◌, List, [], ◌∷◌, Some, None, Ok, Err, IsOk, IsSome, length, drop, refl, arith, slice_index}
 use Rattle.fw_package.specs.Components.{PlaceOf}
-use Rattle.fw_package.specs.Layout.{after_component, after_components}
+use Rattle.fw_package.specs.Layout.{after_component}
 use Rattle.fw_package.specs.Outlines.{place_within, places_of}
-use Rattle.fw_package.specs.Records.{◌>>=◌}
 use Rattle.fw_package.specs.Views.{ArePlaces, listed}
 use Rattle.fw_package.specs.declared.fault.PackageFault.{PackageFault}
 use Rattle.fw_package.proofs.Rows.{count_first, fault_of, first_left, one_more, read_refused, read_whole}

@@ -1,5 +1,5 @@
 -- The components that a record uses are rising, and there.
-use Rattle.std.proofs.Common.{◌≡◌, ℕ, zero, suc, ◌+◌, ◌<◌, ◌∙◌, ◌==◌, Bool, true, false, if◌then◌else◌, All, List, Result, Ok, Err, IfOk, IsSome, ◌≤◌, length, take, drop, sym, ap, subst, arith, slice_index}
+use Rattle.std.proofs.Common.{◌≡◌, ℕ, zero, suc, ◌+◌, ◌<◌, ◌∙◌, ◌==◌, Bool, true, false, if◌then◌else◌, All, List, Result, Ok, Err, IfOk, IsSome, ◌≤◌, length, take, drop, sym, ap, arith, slice_index}
 use Rattle.std.specs.List.{range_with_len}
 use Rattle.std.specs.List.Sorted.{IsStrictlyIncreasing}
 use Rattle.std.proofs.lemmas.List.Elements.{All-cons, All-filter}

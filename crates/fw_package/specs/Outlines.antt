@@ -1,5 +1,5 @@
 -- What a package's header says of it, its images by length and place alone (DSP0267 1.0, firmware update package header).
-use Rattle.std.specs.Prelude.{ℕ, zero, suc, ◌≡◌, ◌+◌, ◌/◌, nat_lt, if◌then◌else◌, List, [], ◌∷◌, Result, Ok, Err, length, map, take, drop}
+use Rattle.std.specs.Prelude.{ℕ, zero, suc, ◌≡◌, ◌+◌, nat_lt, if◌then◌else◌, List, [], ◌∷◌, Result, Ok, Err, length, map, take, drop}
 use Rattle.byteorder.specs.Endian.{little_number}
 use Rattle.fw_package.specs.Components.{PlaceOf, place_of}
 use Rattle.fw_package.specs.Layout.{layout_of, text_size_of}

@@ -9,9 +9,9 @@ ghost use Rattle.fw_package.specs.Reading.{IsUsing};
 
 use crate::fault::PackageFault;
 use crate::layout::{BITMAP_BITS, walk};
+use crate::numbers::u16_at;
 use crate::reading::{bitmap_size, check, header};
 use crate::records::Records;
-use byteorder::{ByteOrder, LittleEndian};
 
 /// A header's size, its records, and where its components stand.
 #[derive(Drop)]
@@ -43,7 +43,7 @@ impl<'a> Contents<'a> {
             return Err(PackageFault::HeaderSize);
         };
         let bitmap_size = bitmap_size(
-            usize::from(LittleEndian::read_u16(&header[BITMAP_BITS..])),
+            usize::from(u16_at(header, BITMAP_BITS)),
             layout.component_count,
         )?;
         let records = Records::read(

@@ -9,14 +9,17 @@ ghost use Rattle.fw_package.specs.Package.{descriptor_of};
 ghost use Rattle.fw_package.specs.Records.{descriptor_split, descriptors_split, split_after};
 
 use crate::fault::PackageFault;
+use crate::numbers::u16_at;
 use crate::texts::Descriptor;
-use byteorder::{ByteOrder, LittleEndian};
 use std::marker::Model;
 
 /// The bytes of a descriptor before its data: type and size.
 pub(crate) const DESCRIPTOR_SIZE: usize = 4;
 
-/// The place of a descriptor's size, after its type.
+/// The place of a descriptor's type.
+const DESCRIPTOR_TYPE: usize = 0;
+
+/// The place of a descriptor's size.
 const DESCRIPTOR_LENGTH: usize = 2;
 
 /// Descriptors that stand one after the other. It is also an iterator over them.
@@ -125,10 +128,10 @@ fn descriptor(bytes: &[u8]) -> Result<(Descriptor<'_>, &[u8]), PackageFault>
     ensures { result_map_both (λ p. (descriptor_of p.0, p.1.now)) (λ e. e) result ≡ descriptor_split bytes.now }
 {
     let (head, rest) = split(bytes, DESCRIPTOR_SIZE)?;
-    let size = usize::from(LittleEndian::read_u16(&head[DESCRIPTOR_LENGTH..]));
+    let size = usize::from(u16_at(head, DESCRIPTOR_LENGTH));
     let (content, rest) = split(rest, size)?;
     let descriptor = Descriptor {
-        kind: LittleEndian::read_u16(head),
+        kind: u16_at(head, DESCRIPTOR_TYPE),
         bytes: content,
     };
     Ok((descriptor, rest))

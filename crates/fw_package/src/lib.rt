@@ -12,6 +12,7 @@ mod fault;
 mod laws;
 mod layout;
 mod measures;
+mod numbers;
 mod outlines;
 mod packages;
 mod places;

@@ -1,7 +1,7 @@
 //! A component without its image: what the image is, how long, and where it stands.
 
 ghost use Rattle.std.specs.Iterator.{YieldsFirstBy, item_count};
-ghost use Rattle.std.specs.Prelude.{◌≡◌, ◌+◌, ◌≤◌, length, drop, IsSome};
+ghost use Rattle.std.specs.Prelude.{◌≡◌, ◌+◌, ◌^◌, ◌<◌, ◌≤◌, length, drop, IsSome};
 ghost use Rattle.std.specs.Result.{result_map_both};
 ghost use Rattle.fw_package.specs.Components.{place_of};
 ghost use Rattle.fw_package.specs.Layout.{after_component, after_components, text_size_of};
@@ -11,11 +11,14 @@ ghost use Rattle.fw_package.specs.Package.{text_of};
 
 use crate::fault::PackageFault;
 use crate::layout::{COMPONENT_SIZE, COMPONENT_TEXT_LENGTH};
+use crate::numbers::{u16_at, u32_at};
 use crate::texts::Text;
-use byteorder::{ByteOrder, LittleEndian};
 use std::marker::Model;
 
-/// The place of the component identifier, after the classification.
+/// The place of the component classification.
+const CLASSIFICATION: usize = 0;
+
+/// The place of the component identifier.
 const IDENTIFIER: usize = 2;
 
 /// The place of the comparison stamp.
@@ -62,27 +65,37 @@ impl<'a> Place<'a> {
         requires { IsSome (after_component bytes.now) }
         ensures { result_map_both place_seen (λ e. e) result ≡ place_within file_length bytes.now }
     {
-        let offset = LittleEndian::read_u32(&bytes[OFFSET..]) as usize;
-        let size = LittleEndian::read_u32(&bytes[IMAGE_SIZE..]) as usize;
-        if offset + size > file_length {
+        let place = Place::first(bytes);
+        if place.offset + place.size > file_length {
             return Err(PackageFault::ImageRange);
         }
-        Ok(Place {
-            classification: LittleEndian::read_u16(bytes),
-            identifier: LittleEndian::read_u16(&bytes[IDENTIFIER..]),
-            stamp: LittleEndian::read_u32(&bytes[STAMP..]),
-            options: LittleEndian::read_u16(&bytes[OPTIONS..]),
-            offset,
-            size,
-            text: version_text(bytes),
-        })
+        Ok(place)
+    }
+
+    /// The component with which these bytes begin, wherever its image ends.
+    fn first(bytes: &'a [u8]) -> Place<'a>
+        requires { IsSome (after_component bytes.now) }
+        ensures seen { place_seen result ≡ place_of bytes.now }
+        ensures small { result.offset + result.size < 2 ^ 33 }
+    {
+        let text = version_text(bytes);
+        Place {
+            classification: u16_at(bytes, CLASSIFICATION),
+            identifier: u16_at(bytes, IDENTIFIER),
+            stamp: u32_at(bytes, STAMP),
+            options: u16_at(bytes, OPTIONS),
+            offset: u32_at(bytes, OFFSET) as usize,
+            size: u32_at(bytes, IMAGE_SIZE) as usize,
+            text,
+        }
     }
 }
 
 /// The version text of the component with which these bytes begin.
 fn version_text(bytes: &[u8]) -> Text<'_>
     requires { IsSome (after_component bytes.now) }
-    ensures { text_of result ≡ (place_of bytes.now).text }
+    ensures text { text_of result ≡ (place_of bytes.now).text }
+    ensures long { COMPONENT_SIZE ≤ length bytes.now }
 {
     Text {
         kind: bytes[TEXT_TYPE],

@@ -7,6 +7,7 @@ ghost use Rattle.fw_package.specs.Reading.{bitmap_size_of, checked, header_of};
 use crate::crc::crc32;
 use crate::fault::PackageFault;
 use crate::layout::{CHECKSUM_SIZE, FIXED_SIZE, HEADER_SIZE, REVISION};
+use crate::numbers::u16_at;
 use byteorder::{ByteOrder, LittleEndian};
 
 /// The package header identifier of revision 1, F018878C-CB7D-4943-9800-A02F059ACA02.
@@ -35,7 +36,7 @@ pub fn header(bytes: &[u8]) -> Result<&[u8], PackageFault>
     if bytes[REVISION] != HEADER_REVISION {
         return Err(PackageFault::Revision);
     }
-    let size = usize::from(LittleEndian::read_u16(&bytes[HEADER_SIZE..]));
+    let size = usize::from(u16_at(bytes, HEADER_SIZE));
     if bytes.len() < size {
         return Err(PackageFault::HeaderSize);
     }

@@ -14,6 +14,7 @@ ghost use Rattle.fw_package.specs.Layout.{after_records};
 use crate::descriptors::{Descriptors, split};
 use crate::fault::PackageFault;
 use crate::layout::skip_records;
+use crate::numbers::{u16_at, u32_at};
 use crate::texts::{Descriptor, Text};
 use crate::uses::Uses;
 use byteorder::{ByteOrder, LittleEndian};
@@ -67,11 +68,11 @@ impl<'a> Record<'a> {
         let (bitmap, rest) = split(rest, bitmap_size)?;
         let (text, rest) = split(rest, usize::from(head[TEXT_LENGTH]))?;
         let (descriptors, rest) = Descriptors::read(rest, head[DESCRIPTOR_COUNT])?;
-        if rest.len() != usize::from(LittleEndian::read_u16(&head[DATA_LENGTH..])) {
+        if rest.len() != usize::from(u16_at(head, DATA_LENGTH)) {
             return Err(PackageFault::RecordLength);
         }
         Ok(Record {
-            flags: LittleEndian::read_u32(&head[FLAGS..]),
+            flags: u32_at(head, FLAGS),
             set_text: Text {
                 kind: head[TEXT_TYPE],
                 bytes: text,
