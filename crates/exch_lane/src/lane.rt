@@ -1,15 +1,18 @@
 //! A lane.
 
-ghost use Rattle.std.specs.Prelude.{◌&&◌, ◌==◌, ◌≡◌, ◌≤◌, IfErr, None, OnErr, OnOk, is_some, length, map};
+ghost use Rattle.std.specs.Prelude.{[], ◌&&◌, ◌++◌, ◌==◌, ◌∷◌, ◌≡◌, ◌≤◌, IfErr, None, OnErr, OnOk, is_some, length, map};
+ghost use Rattle.pldm_base.specs.Header.{IsHead, pldm_of};
 ghost use Rattle.pldm_base.specs.Limits.{reply_limit};
 ghost use Rattle.pldm_exch.specs.Caller.{is_quiet, may_begin, tick_of, tick_word};
 ghost use Rattle.pldm_exch.specs.Ends.{asker_of, taker_of};
+ghost use Rattle.pldm_exch.specs.Kept.{kept_with};
+ghost use Rattle.pldm_exch.specs.Requests.{body_in, reply_message};
 ghost use Rattle.exch_lane.specs.Journals.{HasRoom, sent_of, with_learnt, with_sent, with_taken};
-ghost use Rattle.exch_lane.specs.Lanes.{AreEnds, StepOf, entry_of, is_deaf_in, lane_new, step_of};
+ghost use Rattle.exch_lane.specs.Lanes.{AreEnds, EntryOf, StepOf, entry_of, is_deaf_in, lane_new, step_of};
 ghost use Rattle.exch_lane.specs.Nodes.{asker_after, asker_ticked, call_tick_of, heard_in, taker_after};
 ghost use Rattle.mctp_wire.specs.Packet.{IsRead, spelling};
 ghost use Rattle.pldm_exch.specs.Sides.{answering_row, asker_counts, asker_row, asking_row, learnt_in, taker_counts, taker_row};
-ghost use Rattle.exch_lane.specs.Steps.{IsCause, MayTake, abandons, begins, lane_after, lane_ticks, may_step, restarts};
+ghost use Rattle.exch_lane.specs.Steps.{IsCause, MayTake, abandons, begins, lane_after, lane_ticks, may_step, restarts, sendings};
 
 use crate::clock::{UNMISSED, may_beat, since_after};
 use crate::entry::LaneEntry;
@@ -17,7 +20,7 @@ use crate::journal::{Journal, SentPacket};
 use crate::step::{End, LaneFault, LaneStep};
 use mctp_reasm::{MAX_PACKETS, Message};
 use mctp_wire::{Packet, Unit};
-use pldm_base::{HEADER_SIZE, MAX_REPLY, Reply};
+use pldm_base::{HEADER_SIZE, MAX_REPLY, PldmHead, Reply};
 use pldm_exch::{Asker, Brought, CallTick, DEAF, Request, Taker, body_of};
 use std::alloc::Global;
 use std::marker::Model;
@@ -325,14 +328,30 @@ fn taker_answers(taker: &mut Taker, journal: &mut Journal, packet: &Packet<'_>, 
     match taker.hear(packet, &mut message) {
         Brought::Nothing | Brought::Strays => {}
         Brought::Again => journal.send(taker.unit(), &message),
-        Brought::New(head) => {
-            let request = Request::new(&message, head);
-            let answer = taker.answer(&request, reply);
-            journal.send(taker.unit(), &answer);
-            let body = data_of(body_of(&message));
-            journal.note(LaneEntry::Taken(request.head().command, body, data_of(reply)));
-        }
+        Brought::New(head) => taker_takes(taker, journal, &message, head, reply),
     }
+}
+
+/// The taker takes a new request, the message under this head, and answers it by `reply`.
+fn taker_takes(
+    taker: &mut Taker,
+    journal: &mut Journal,
+    message: &Message,
+    head: PldmHead,
+    reply: &[u8],
+)
+    requires room { HasRoom journal.old }
+    requires head { IsHead head }
+    requires reply { length reply.now ≤ reply_limit taker.old.unit }
+    ensures taker { taker.new ≡ record taker.old { kept = kept_with taker.old.kept (reply_message message.now head reply.now) } }
+    ensures packets { map sent_of journal.new.packets.items ≡ map sent_of journal.old.packets.items ++ sendings taker.old.unit journal.old.time (reply_message message.now head reply.now) }
+    ensures entries { map entry_of journal.new.entries.items ≡ map entry_of journal.old.entries.items ++ EntryOf.Taken head.command (body_in (pldm_of message.now.bytes)) reply.now ∷ [] }
+    ensures time { journal.new.time ≡ journal.old.time }
+{
+    let answer = taker.answer(&Request::new(message, head), reply);
+    journal.send(taker.unit(), &answer);
+    let body = data_of(body_of(message));
+    journal.note(LaneEntry::Taken(head.command, body, data_of(reply)));
 }
 
 /// A tick at the asker: a deaf count falls by one, and where it is 0 then the end grows older.
