@@ -97,8 +97,10 @@ traces() {
         "$(cd "$folder" && fwupd run --quiet --trace in/fresh --sel fresh one.config . > report && echo "$(wc -l < in/fresh) $(wc -c < fresh)")"
     fwupd run --store "$folder/store" "$folder/one.config" "$folder" > /dev/null 2>&1 || (cd "$folder" && fwupd run --store store one.config . > report)
     ln -sfn store/9 "$folder/into"
+    ln -sfn store/9/active "$folder/leads"
+    ln -sfn store/9/none "$folder/loose"
     before=$(cd "$folder" && cksum store/history store/9/*)
-    for name in store/history store/9/active store/9/10-1.1.image store/new in/../store/9/new into/new; do
+    for name in store/history store/9/active store/9/10-1.1.image store/new in/../store/9/new into/new leads loose; do
         for option in trace sel record; do
             compare "a $option in a store, $name" "fwupd: $option" "$(cd "$folder" && fwupd run --store store --$option "$name" one.config . 2>&1)"
         done

@@ -3,6 +3,7 @@ pub mod Cells
 pub mod Entries
 pub mod History
 pub mod Laws
+pub mod Lending
 pub mod Names
 pub mod Nodes
 pub mod Pairs

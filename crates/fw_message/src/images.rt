@@ -4,38 +4,37 @@ ghost use Rattle.std.specs.Prelude.{◌≡◌, ◌≤◌, OnOk, IfOk, length, ma
 ghost use Rattle.fd_core.specs.Images.{put_among, rises};
 ghost use Rattle.fw_message.specs.Entries.{applied_puts, place_in, put_of};
 
-use crate::entry::{Entry, Event, Image};
+use crate::entry::Image;
+use crate::lending::image_of;
 use fd_core::{Bank, Component, Key};
+use fw_package::Package;
 use std::alloc::{AllocError, Global};
 
-/// A copy of each image that is applied, by rising key.
-pub fn applied_images<B: Bank>(
+/// Each image that is applied, by rising key.
+pub fn applied_images<'a, B: Bank>(
     alloc: Global,
+    packages: &'a [Package<'a>],
     bank: &B,
     components: &[Component],
-) -> Result<Vec<Image>, AllocError>
+) -> Result<Vec<Image<'a>>, AllocError>
     ensures { IfOk result (λ images. map put_of images.items ≡ applied_puts (B.rows bank.now) components.now) }
 {
     let [component, rest @ ..] = components else {
         return Ok(Vec::new(alloc));
     };
-    let mut images = applied_images(alloc, bank, rest)?;
+    let mut images = applied_images(alloc, packages, bank, rest)?;
     let Some((_, bytes)) = bank.applied(component.key) else {
         return Ok(images);
     };
-    let bytes = Vec::from_slice(alloc, bytes)?;
-    let image = Image {
-        key: component.key,
-        bytes,
-    };
+    let image = image_of(alloc, packages, component.key, bytes)?;
     put_in(&mut images, image)?;
     Ok(images)
 }
 
 /// Puts an image among others, by rising key.
 #[tactic(auto, using(crate::proofs::Rising::put_in_place))]
-fn put_in(images: &mut Vec<Image>, image: Image) -> Result<(), AllocError>
-    ensures { OnOk result (map put_of images.new.items ≡ put_among (put_of image) (map put_of images.old.items)) }
+fn put_in<'a>(images: &mut Vec<Image<'a>>, image: Image<'a>) -> Result<(), AllocError>
+    ensures { OnOk result (map put_of images.new.items ≡ put_among (put_of image.entry) (map put_of images.old.items)) }
 {
     let place = place_for(images, image.key);
     let Ok(()) = images.insert(place, image) else {
@@ -45,7 +44,7 @@ fn put_in(images: &mut Vec<Image>, image: Image) -> Result<(), AllocError>
 }
 
 /// How many images stand before one with this key.
-fn place_for(images: &[Image], key: Key) -> usize
+fn place_for(images: &[Image<'_>], key: Key) -> usize
     ensures place { result ≡ place_in (map put_of images.now) key }
     ensures within { result ≤ length images.now }
 {

@@ -6,6 +6,7 @@ mod cell;
 mod entry;
 mod images;
 mod laws;
+mod lending;
 mod messages;
 mod pair;
 mod replay;

@@ -31,7 +31,7 @@ pub struct MessageWorld<'a, B: Bank + Drop> {
     /// The devices, each with its session and both cells.
     pairs: Vec<Pair<'a, B>>,
     /// What happened, in order.
-    history: Vec<Entry>,
+    history: Vec<Entry<'a>>,
 }
 
 impl<'a, B: Bank + Drop> Model for MessageWorld<'a, B> {
@@ -128,7 +128,7 @@ impl<'a, B: Bank + Drop> MessageWorld<'a, B> {
     }
 
     /// What happened, in order.
-    pub fn history(&self) -> &[Entry]
+    pub fn history(&self) -> &[Entry<'a>]
         ensures { map entry_of result.now ≡ self.now.world.history }
     {
         self.history.as_slice()

@@ -9,7 +9,9 @@ ghost use Rattle.fw_message.specs.Entries.{put_of};
 ghost use Rattle.fw_message.specs.Nodes.{room_of};
 
 use crate::entry::Image;
+use crate::lending::image_in;
 use fd_core::{Bank, Device, Key, Progress, State, Verdict};
+use fw_package::Package;
 
 /// Whether a device waits for this verdict: VERIFY and APPLY wait for one each, while they are in progress.
 pub fn awaits<B: Bank>(device: &Device<B>, verdict: Verdict) -> bool
@@ -46,19 +48,21 @@ pub fn room_for<B: Bank>(device: &Device<B>, verdict: Verdict) -> usize
     }
 }
 
-/// A copy of the image that is applied for a component, into room that is empty; None where there is none, or not the room.
-pub fn copied<B: Bank>(bank: &B, key: Key, room: Vec<u8>) -> Option<Image>
+/// The image that is applied for a component, copied into room that is empty unless a package lends its bytes; None where there is
+/// none, or not the room.
+pub fn copied<'a, B: Bank>(
+    packages: &'a [Package<'a>],
+    bank: &B,
+    key: Key,
+    room: Vec<u8>,
+) -> Option<Image<'a>>
     requires { room.items ≡ [] }
     ensures whole { IfSome (applied_of (row_of (B.rows bank.now) key)) (λ image. length image.bytes ≤ vec_capacity room
         → map put_of (option_to_list result) ≡ record { key = key; bytes = image.bytes } ∷ []) }
     ensures none { applied_of (row_of (B.rows bank.now) key) ≡ None → result ≡ None }
 {
     let (_, image) = bank.applied(key)?;
-    let mut bytes = room;
-    let Ok(()) = bytes.extend_from_slice(image) else {
-        return None;
-    };
-    Some(Image { key, bytes })
+    image_in(packages, key, image, room)
 }
 
 /// Whether the work of the device's state failed.

@@ -2,7 +2,7 @@
 
 ghost use Rattle.std.specs.Prelude.{[], ◌≡◌, ◌==◌, ◌&&◌, IfOk, map, option_map, true};
 ghost use Rattle.std.specs.List.{list_all};
-ghost use Rattle.fw_message.specs.Entries.{entry_of, event_of};
+ghost use Rattle.fw_message.specs.Entries.{entry_of, event_of, put_of};
 ghost use Rattle.fw_script.specs.Seen.{component_of, device_of};
 ghost use Rattle.fw_world.specs.Worlds.{site_for};
 ghost use Rattle.fw_soak.specs.Checking.{applies, are_right, has_applied, is_clean, is_named_for, is_right, is_running, runs_it, runs_them, runs_what_it_may};
@@ -50,15 +50,20 @@ fn is_named_for(
     packages: &[Package<'_>],
     devices: &[DeviceConfig],
     device: u8,
-    image: &Image,
+    image: &Image<'_>,
 ) -> Result<bool, AllocError>
-    ensures { IfOk result (λ named. named ≡ is_named_for packages.now (record { key = image.now.key; bytes = image.now.bytes.items }) (device_for (map device_of devices.now) device)) }
+    ensures { IfOk result (λ named. named ≡ is_named_for packages.now (put_of image.now) (device_for (map device_of devices.now) device)) }
 {
     let Some(config) = device_for(devices, device) else {
         return Ok(false);
     };
     let known = known(alloc, config.descriptors.lent())?;
-    Ok(is_named(packages, known.as_slice(), image.key, &image.bytes))
+    Ok(is_named(
+        packages,
+        known.as_slice(),
+        image.key,
+        image.bytes.as_slice(),
+    ))
 }
 
 /// The image of a package's component that the agent recorded, under its key. What isn't there has no bytes.
@@ -83,7 +88,7 @@ fn recorded_image<'a>(packages: &[Package<'a>], recorded: Recorded) -> Lent<'a>
 }
 
 /// Whether an entry of the history says that a device applied an image.
-fn applies(entry: &Entry, device: u8, image: Lent<'_>) -> bool
+fn applies(entry: &Entry<'_>, device: u8, image: Lent<'_>) -> bool
     ensures { result ≡ ((entry.now.device == device) && applies (record { key = image.entry.key; bytes = image.entry.bytes.now }) (event_of entry.now.event)) }
 {
     if entry.device != device {
@@ -97,7 +102,7 @@ fn applies(entry: &Entry, device: u8, image: Lent<'_>) -> bool
 }
 
 /// Whether a device applied an image.
-fn has_applied(history: &[Entry], device: u8, image: Lent<'_>) -> bool
+fn has_applied(history: &[Entry<'_>], device: u8, image: Lent<'_>) -> bool
     ensures { result ≡ has_applied (map entry_of history.now) device (record { key = image.entry.key; bytes = image.entry.bytes.now }) }
 {
     for entry in history {
@@ -113,8 +118,8 @@ fn is_right(
     alloc: Global,
     packages: &[Package<'_>],
     devices: &[DeviceConfig],
-    before: &[Entry],
-    entry: &Entry,
+    before: &[Entry<'_>],
+    entry: &Entry<'_>,
 ) -> Result<bool, AllocError>
     ensures { IfOk result (λ right. right ≡ is_right packages.now (map device_of devices.now) (map entry_of before.now) entry.now.device (event_of entry.now.event)) }
 {
@@ -133,7 +138,7 @@ fn are_right(
     alloc: Global,
     packages: &[Package<'_>],
     devices: &[DeviceConfig],
-    history: &[Entry],
+    history: &[Entry<'_>],
 ) -> Result<bool, AllocError>
     ensures { IfOk result (λ right. right ≡ are_right packages.now (map device_of devices.now) [] (map entry_of history.now)) }
 {
@@ -156,7 +161,7 @@ pub fn is_right_history(
     alloc: Global,
     packages: &[Package<'_>],
     devices: &[DeviceConfig],
-    history: &[Entry],
+    history: &[Entry<'_>],
 ) -> Result<bool, AllocError>
     ensures sound { IfOk result (λ right. right ≡ true → AreRight packages.now (map device_of devices.now) [] (map entry_of history.now)) }
     ensures complete { IfOk result (λ right. AreRight packages.now (map device_of devices.now) [] (map entry_of history.now) → right ≡ true) }
@@ -169,7 +174,7 @@ pub fn is_right_history(
 
 /// The image that runs for a component of a device after what happened: the last that it activated, or else the one that it began
 /// with.
-fn runs_after<'a>(history: &'a [Entry], device: u8, component: &'a ComponentConfig) -> &'a [u8]
+fn runs_after<'a>(history: &'a [Entry<'_>], device: u8, component: &'a ComponentConfig) -> &'a [u8]
     ensures { result.now ≡ runs_after (map entry_of history.now) device component.now.component.key component.now.image.items }
 {
     let mut runs = component.image.as_slice();
@@ -187,7 +192,7 @@ fn runs_after<'a>(history: &'a [Entry], device: u8, component: &'a ComponentConf
 
 /// Whether a device's bank runs for a component what it may, where this is the device's identifier.
 fn runs_it<B: Bank>(
-    history: &[Entry],
+    history: &[Entry<'_>],
     node: &DeviceNode<B>,
     eid: u8,
     component: &ComponentConfig,
@@ -203,7 +208,7 @@ fn runs_it<B: Bank>(
 
 /// Whether a device's bank runs for each of these components what it may.
 fn runs_them<B: Bank>(
-    history: &[Entry],
+    history: &[Entry<'_>],
     node: &DeviceNode<B>,
     eid: u8,
     components: &[ComponentConfig],

@@ -10,7 +10,7 @@ use fw_world::{Step, World};
 use std::alloc::{AllocError, Global};
 
 /// How many images devices activated.
-pub(crate) fn activations(history: &[Entry]) -> usize
+pub(crate) fn activations(history: &[Entry<'_>]) -> usize
     ensures { result ≡ activations_in (map entry_of history.now) }
 {
     let mut count = 0;

@@ -15,6 +15,7 @@ use crate::step::StepFault;
 use fd_core::{Bank, Verdict};
 use fw_message::Entry;
 use fw_node::{DeviceNode, Outbox};
+use fw_package::Package;
 use mctp_wire::{RawPacket, Unit};
 use std::alloc::{AllocError, Global};
 
@@ -43,10 +44,10 @@ pub(crate) fn unit_of<B: Bank>(nodes: &[DeviceNode<B>]) -> Unit
 }
 
 /// The nodes of devices to which nothing was sent.
-pub(crate) fn new_sites<B: Bank + Drop>(
+pub(crate) fn new_sites<'a, B: Bank + Drop>(
     alloc: Global,
     nodes: Vec<DeviceNode<B>>,
-) -> Result<Vec<Site<B>>, AllocError>
+) -> Result<Vec<Site<'a, B>>, AllocError>
     requires { AllByRecursion (λ n. HasComponents n.half.core.device) nodes.items }
     ensures { IfOk result (λ sites. sites_of sites.items ≡ map new_site nodes.items) }
 {
@@ -62,7 +63,7 @@ pub(crate) fn new_sites<B: Bank + Drop>(
 }
 
 /// Where the device of this identifier stands.
-pub(crate) fn place_of<B: Bank>(sites: &[Site<B>], eid: u8) -> Option<usize>
+pub(crate) fn place_of<B: Bank>(sites: &[Site<'_, B>], eid: u8) -> Option<usize>
     ensures place { result ≡ place_of (sites_of sites.now) eid }
     ensures within { IfSome result (λ place. place < length sites.now) }
 {
@@ -76,7 +77,10 @@ pub(crate) fn place_of<B: Bank>(sites: &[Site<B>], eid: u8) -> Option<usize>
 
 /// What stands at the place of this identifier.
 #[tactic(auto, using(crate::proofs::Places::at_place))]
-pub(crate) fn site_for<B: Bank>(sites: &[Site<B>], eid: u8) -> Option<&Site<B>>
+pub(crate) fn site_for<'s, 'a, B: Bank>(
+    sites: &'s [Site<'a, B>],
+    eid: u8,
+) -> Option<&'s Site<'a, B>>
     ensures { option_map (λ s. s.now.site) result ≡ site_for (sites_of sites.now) eid }
 {
     let Some(place) = place_of(sites, eid) else {
@@ -86,7 +90,7 @@ pub(crate) fn site_for<B: Bank>(sites: &[Site<B>], eid: u8) -> Option<&Site<B>>
 }
 
 /// Makes room for so many packets at each device.
-pub(crate) fn make_room<B: Bank>(sites: &mut [Site<B>], count: u16) -> Result<(), AllocError>
+pub(crate) fn make_room<B: Bank>(sites: &mut [Site<'_, B>], count: u16) -> Result<(), AllocError>
     ensures room { OnOk result (HaveRoom count sites.new) }
     ensures lacked { OnErr result (LacksRoom count sites.old) }
     ensures same { sites_of sites.new ≡ sites_of sites.old }
@@ -102,7 +106,7 @@ pub(crate) fn make_room<B: Bank>(sites: &mut [Site<B>], count: u16) -> Result<()
 }
 
 /// Puts each packet that the agent sent behind those of the device that it is for, dated now. There is room for them.
-pub(crate) fn post_all<B: Bank>(sites: &mut [Site<B>], now: u32, outbox: &mut Outbox)
+pub(crate) fn post_all<B: Bank>(sites: &mut [Site<'_, B>], now: u32, outbox: &mut Outbox)
     requires room { HaveRoom 128 sites.old }
     requires few { length outbox.old ≤ 64 }
     ensures sites { sites_of sites.new ≡ posts now (sites_of sites.old) outbox.old }
@@ -117,7 +121,7 @@ pub(crate) fn post_all<B: Bank>(sites: &mut [Site<B>], now: u32, outbox: &mut Ou
 
 /// Puts a packet that the agent sent behind those of the device that it is for. There is room for it.
 #[tactic(auto, using(crate::proofs::Places::post_nowhere))]
-fn post<B: Bank>(sites: &mut [Site<B>], now: u32, packet: RawPacket)
+fn post<B: Bank>(sites: &mut [Site<'_, B>], now: u32, packet: RawPacket)
     requires { HaveRoom 1 sites.old }
     ensures sites { sites_of sites.new ≡ post now (sites_of sites.old) packet.items }
     ensures room { (n : ℕ) → HaveRoom (n + 1) sites.old → HaveRoom n sites.new }
@@ -130,7 +134,7 @@ fn post<B: Bank>(sites: &mut [Site<B>], now: u32, packet: RawPacket)
 }
 
 /// The place of the device that a packet is for, which its second byte says (DSP0236).
-fn place_for<B: Bank>(sites: &[Site<B>], packet: &[u8]) -> Option<usize>
+fn place_for<B: Bank>(sites: &[Site<'_, B>], packet: &[u8]) -> Option<usize>
     ensures place { result ≡ place_for (sites_of sites.now) packet.now }
     ensures within { IfSome result (λ place. place < length sites.now) }
 {
@@ -141,7 +145,12 @@ fn place_for<B: Bank>(sites: &[Site<B>], packet: &[u8]) -> Option<usize>
 }
 
 /// A tick passes, which all devices but these count; what they send is dated now.
-pub(crate) fn pass_all<B: Bank>(sites: &mut [Site<B>], missed: &[u8], now: u32, outbox: &mut Outbox)
+pub(crate) fn pass_all<B: Bank>(
+    sites: &mut [Site<'_, B>],
+    missed: &[u8],
+    now: u32,
+    outbox: &mut Outbox,
+)
     requires room { HaveRoom 64 sites.old }
     requires outbox { outbox.old ≡ [] }
     ensures sites { sites_of sites.new ≡ map (site_goes_on missed.now now) (sites_of sites.old) }
@@ -155,7 +164,7 @@ pub(crate) fn pass_all<B: Bank>(sites: &mut [Site<B>], missed: &[u8], now: u32, 
 }
 
 /// Whether each device that misses a tick may miss it.
-pub(crate) fn may_all_beat<B: Bank>(sites: &[Site<B>], missed: &[u8]) -> bool
+pub(crate) fn may_all_beat<B: Bank>(sites: &[Site<'_, B>], missed: &[u8]) -> bool
     ensures { result ≡ list_all (may_site_beat missed.now) (sites_of sites.now) }
 {
     for site in sites {
@@ -167,14 +176,15 @@ pub(crate) fn may_all_beat<B: Bank>(sites: &[Site<B>], missed: &[u8]) -> bool
 }
 
 /// The node at a place hears the bytes of a packet; what it sends is dated now, and what it activates is noted.
-pub(crate) fn hear_at<B: Bank>(
-    sites: &mut [Site<B>],
+pub(crate) fn hear_at<'a, B: Bank>(
+    sites: &mut [Site<'a, B>],
     place: usize,
     alloc: Global,
+    packages: &'a [Package<'a>],
     now: u32,
     bytes: &[u8],
     outbox: &mut Outbox,
-    history: &mut Vec<Entry>,
+    history: &mut Vec<Entry<'a>>,
 ) -> Result<(), AllocError>
     requires place { place < length sites.old }
     requires outbox { outbox.old ≡ [] }
@@ -184,7 +194,7 @@ pub(crate) fn hear_at<B: Bank>(
     ensures outbox { outbox.new ≡ [] }
     ensures count { length sites.new ≡ length sites.old }
 {
-    match sites[place].hear(alloc, now, bytes, outbox, history) {
+    match sites[place].hear(alloc, packages, now, bytes, outbox, history) {
         Ok(()) => {}
         Err(error) => return Err(error),
     }
@@ -192,12 +202,13 @@ pub(crate) fn hear_at<B: Bank>(
 }
 
 /// The node at a place has a verdict; what it applies is noted.
-pub(crate) fn judge_at<B: Bank>(
-    sites: &mut [Site<B>],
+pub(crate) fn judge_at<'a, B: Bank>(
+    sites: &mut [Site<'a, B>],
     place: usize,
     alloc: Global,
+    packages: &'a [Package<'a>],
     verdict: Verdict,
-    history: &mut Vec<Entry>,
+    history: &mut Vec<Entry<'a>>,
 ) -> Result<(), StepFault>
     requires place { place < length sites.old }
     ensures judged { OnOk result (JudgedAt (sites_of sites.old) place verdict (sites_of sites.new) (map entry_of history.old.items) (map entry_of history.new.items)) }
@@ -207,7 +218,7 @@ pub(crate) fn judge_at<B: Bank>(
     ensures unnoted { OnErr result (map entry_of history.new.items ≡ map entry_of history.old.items) }
     ensures count { length sites.new ≡ length sites.old }
 {
-    match sites[place].judge(alloc, verdict, history) {
+    match sites[place].judge(alloc, packages, verdict, history) {
         Ok(()) => {}
         Err(fault) => return Err(fault),
     }
@@ -216,7 +227,7 @@ pub(crate) fn judge_at<B: Bank>(
 
 /// The node at a place starts anew.
 #[tactic(auto, using(crate::proofs::Places::restart_there))]
-pub(crate) fn restart_at<B: Bank>(sites: &mut [Site<B>], place: usize)
+pub(crate) fn restart_at<B: Bank>(sites: &mut [Site<'_, B>], place: usize)
     requires { place < length sites.old }
     ensures sites { sites_of sites.new ≡ site_restarts (sites_of sites.old) (Some place) (slice_get (sites_of sites.old) place) }
     ensures count { length sites.new ≡ length sites.old }

@@ -26,16 +26,18 @@ pub record PlaceOf : Type 0 where
   pub name : List ℕ
 
 -- What is known of the file of a path before it is read: its bytes, if they are, whether it may be that it can't be read, and
--- which file it is, or that there is none, and where it lies, or that this is nowhere, if that is known.
+-- which file it is, or that there is none, whether the path names a link, and where the file lies, or that this is nowhere, if that is
+-- known.
 pub record FileOf : Type 0 where
   pub bytes : Option (List ℕ)
   pub may_fail : Bool
   pub identity : Option (Option FileIdentity)
+  pub is_link : Option Bool
   pub place : Option (Option PlaceOf)
 
 -- nothing is
 abbrev pub any_file : FileOf
-any_file = record { bytes = None; may_fail = true; identity = None; place = None }
+any_file = record { bytes = None; may_fail = true; identity = None; is_link = None; place = None }
 
 -- bytes that a file may hold of which this is known
 abbrev pub MayHold : FileOf → List ℕ → Type 0
@@ -50,6 +52,15 @@ pub record MayBegin (file : FileOf) (beginning : List ℕ) (file_length : ℕ) :
 -- which file it may be
 abbrev pub MayBe : FileOf → Option FileIdentity → Type 0
 MayBe file identity = IfSome file.identity (λ known. identity ≡ known)
+
+-- whether its path may name a link
+abbrev pub MayLink : FileOf → Bool → Type 0
+MayLink file is_link = IfSome file.is_link (λ known. is_link ≡ known)
+
+-- it names one to no file, which may lead to any place
+pub record IsLoose (file : FileOf) : Type 0 where
+  pub missing : MayBe file None
+  pub link : MayLink file true
 
 -- where it may lie
 abbrev pub MayLie : FileOf → Option PlaceOf → Type 0
@@ -91,19 +102,24 @@ pub record IsOneFile (first second : FileOf) : Type 0 where
   pub of_first : MayBe first (Some identity)
   pub of_second : MayBe second (Some identity)
 
--- two paths name two files, or one of them none; or both none, in two places
+-- two paths name two files, or one of them none; or both none, in two places, and neither is a link
 pub record AreTwoFiles (first second : FileOf) : Type 0 where
   pub one : Option FileIdentity
   pub other : Option FileIdentity
   pub of_first : MayBe first one
   pub of_second : MayBe second other
   pub differ : IfSome one (λ identity. other ≢ Some identity)
+  pub first_link : one ≡ None → other ≡ None → MayLink first false
+  pub second_link : one ≡ None → other ≡ None → MayLink second false
   pub places : one ≡ None → other ≡ None → AreTwoPlaces first second
 
 -- What is written to a path is written over the file of another: they are spelled alike, or name one file, or one place where there is
--- none yet.
+-- none yet; or it may be, since one of them is a link to none.
 abbrev pub IsOver : (files : List ℕ → FileOf) → (written path : List ℕ) → Type 0
-IsOver files written path = (path ≡ written) ⊎ (IsOneFile (files path) (files written) ⊎ IsOnePlace (files path) (files written))
+IsOver files written path =
+    (path ≡ written)
+    ⊎ (IsOneFile (files path) (files written)
+    ⊎ (IsLoose (files path) ⊎ (IsLoose (files written) ⊎ IsOnePlace (files path) (files written))))
 
 -- It isn't: they are spelled otherwise, and name two files.
 abbrev pub IsApartFrom : (files : List ℕ → FileOf) → (written path : List ℕ) → Type 0

@@ -3,7 +3,7 @@
 ghost use Rattle.std.specs.Io.KnownBytes.{IsAtEnd};
 ghost use Rattle.std.specs.Prelude.{◌≡◌, ◌≢◌, ◌∷◌, IfErr, IfOk, IfSome, IsSomeAnd, List, OnOk, option_map, false, map, string_bytes, true, ℕ};
 ghost use Rattle.std.specs.List.{AllByRecursion};
-ghost use Rattle.fwupd_jobs.specs.Setups.{AreTwoPlaces, FileOf, IsApartFrom, IsBelow, IsOnePlace, IsOutside, IsOver, IsOverOne, MayBe, MayBegin, MayHold, any_file};
+ghost use Rattle.fwupd_jobs.specs.Setups.{AreTwoPlaces, FileOf, IsApartFrom, IsBelow, IsOnePlace, IsOutside, IsOver, IsOverOne, MayBe, MayBegin, MayHold, MayLink, any_file};
 
 use crate::beginnings::{BEGINNING, Beginning, read_first};
 use fwupd_base::read_some;
@@ -54,6 +54,10 @@ pub trait Files {
     fn identity(&self, path: &str) -> Option<FileIdentity>
         ensures { MayBe (holds self.now path.now) result };
 
+    /// Whether a path names a symbolic link.
+    fn is_link(&self, path: &str) -> bool
+        ensures { MayLink (holds self.now path.now) result };
+
     /// Whether two paths name one place, whether or not a file lies there: the same name in the same folder.
     fn is_one_place(&self, one: &str, other: &str) -> bool
         ensures same { result ≡ true → IsOnePlace (holds self.now one.now) (holds self.now other.now) }
@@ -85,14 +89,6 @@ impl<'a> SystemFiles<'a> {
         let mut file = File::open(self.rt, path)?;
         let size = size_of(&file);
         read_whole(alloc, &mut file, size)
-    }
-
-    /// Whether a path names a symbolic link.
-    fn is_link(&self, path: &str) -> bool {
-        match fs::symlink_metadata(self.rt, path) {
-            Ok(found) => found.is_symlink(),
-            Err(_) => false,
-        }
     }
 
     /// The beginning of a file. One that says that it is longer isn't read further.
@@ -187,12 +183,15 @@ impl<'a> Files for SystemFiles<'a> {
         }
     }
 
+    fn is_link(&self, path: &str) -> bool {
+        match fs::symlink_metadata(self.rt, path) {
+            Ok(found) => found.is_symlink(),
+            Err(_) => false,
+        }
+    }
+
     #[tactic(auto, using(crate::proofs::AnyFiles::any_place))]
     fn is_one_place(&self, one: &str, other: &str) -> bool {
-        // A link to no file may name any place.
-        if self.is_link(one) || self.is_link(other) {
-            return true;
-        }
         let (one_folder, one_name) = folder_and_name(one);
         let (other_folder, other_name) = folder_and_name(other);
         let folder = self.identity(one_folder);
@@ -221,7 +220,8 @@ pub(crate) fn folder_and_name(path: &str) -> (&str, &str) {
     }
 }
 
-/// Whether two paths are of one file: they are spelled alike, or both name the same, or one place where there is none yet.
+/// Whether two paths are of one file: they are spelled alike, or both name the same, or one place where there is none yet; or may be,
+/// since one of them is a link to none.
 pub fn is_same_file<F: Files>(files: &F, one: &str, other: &str) -> bool
     ensures same { result ≡ true → IsOver (F.holds files.now) other.now one.now }
     ensures apart { result ≡ false → IsApartFrom (F.holds files.now) other.now one.now }
@@ -231,7 +231,10 @@ pub fn is_same_file<F: Files>(files: &F, one: &str, other: &str) -> bool
     }
     match (files.identity(one), files.identity(other)) {
         (Some(first), Some(second)) => first == second,
-        (None, None) => files.is_one_place(one, other),
+        // A link to no file may lead to any place.
+        (None, None) => {
+            files.is_link(one) || files.is_link(other) || files.is_one_place(one, other)
+        }
         _ => false,
     }
 }

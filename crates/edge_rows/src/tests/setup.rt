@@ -207,7 +207,7 @@ pub fn tells(world: &Small<'_>, story: &[u8]) -> bool {
 }
 
 /// The letter of what happened.
-fn letter_of(event: &Event) -> u8 {
+fn letter_of(event: &Event<'_>) -> u8 {
     match event {
         Event::Applied(_) => b'A',
         Event::Recorded(_) => b'R',

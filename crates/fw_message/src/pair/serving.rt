@@ -71,14 +71,18 @@ impl<'a, B: Bank> Pair<'a, B> {
         Some(works)
     }
 
-    /// A copy of what the device activates if it takes what the agent asked: nothing, unless that is ActivateFirmware.
+    /// What the device activates if it takes what the agent asked: nothing, unless that is ActivateFirmware.
     #[tactic(auto, using(crate::proofs::Applied::all_applied))]
-    pub fn images_to_activate(&self, alloc: Global) -> Result<Vec<Image>, AllocError>
+    pub fn images_to_activate(
+        &self,
+        alloc: Global,
+        packages: &'a [Package<'a>],
+    ) -> Result<Vec<Image<'a>>, AllocError>
         ensures { IfOk result (λ images. map put_of images.items ≡ to_activate self.now.node.pair) }
     {
         match &self.down {
             Some(held) if matches!(held.command(), Command::ActivateFirmware { .. }) => {
-                applied_images(alloc, self.device.bank(), self.device.keys())
+                applied_images(alloc, packages, self.device.bank(), self.device.keys())
             }
             _ => Ok(Vec::new(alloc)),
         }
@@ -128,7 +132,7 @@ impl<'a, B: Bank> Pair<'a, B> {
         packages: &'a [Package<'a>],
         verdict: Verdict,
         room: Vec<u8>,
-    ) -> Option<(bool, Option<Image>)>
+    ) -> Option<(bool, Option<Image<'a>>)>
         requires empty { room.items ≡ [] }
         requires room { verdict ≡ Verdict.ApplyOk → IfSome (staged_of self.old.node.pair.device.phase) (λ s. s.1 ≤ vec_capacity room) }
         ensures step { IfSome result (λ r. step_of packages.now self.old.node.pair (StepOf.Judge verdict r.0) ≡ Some (record {
@@ -149,7 +153,7 @@ impl<'a, B: Bank> Pair<'a, B> {
         let Some((key, _)) = staged else {
             return Some((works, None));
         };
-        Some((works, copied(self.device.bank(), key, room)))
+        Some((works, copied(packages, self.device.bank(), key, room)))
     }
 
     /// The session learns the answer that it waits for. False where there is none.

@@ -97,7 +97,7 @@ pub fn happened_last(world: &Small<'_>, letters: &[u8]) -> bool {
     last.len() == letters.len()
 }
 
-fn letter_of(entry: &Entry) -> u8 {
+fn letter_of(entry: &Entry<'_>) -> u8 {
     match &entry.event {
         Event::Applied(image) if is_worked(entry, image.key, image.bytes.as_slice()) => b'A',
         Event::Activated(image) if is_worked(entry, image.key, image.bytes.as_slice()) => b'V',
@@ -112,7 +112,7 @@ const FIRST: Recorded = Recorded {
     component: 0,
 };
 
-fn is_worked(entry: &Entry, key: Key, bytes: &[u8]) -> bool {
+fn is_worked(entry: &Entry<'_>, key: Key, bytes: &[u8]) -> bool {
     entry.device == DEVICE && key == KEY && is_worked_image(bytes)
 }
 

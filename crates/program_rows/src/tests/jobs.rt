@@ -57,6 +57,10 @@ impl<'a> Files for MemFiles<'a> {
         None
     }
 
+    fn is_link(&self, _path: &str) -> bool {
+        false
+    }
+
     #[tactic(auto, using(fwupd_jobs::proofs::AnyFiles::any_place))]
     fn is_one_place(&self, one: &str, other: &str) -> bool {
         one == other

@@ -10,6 +10,7 @@ use fw_package::Package;
 use fw_script::{Config, read_config};
 use fw_soak::is_right_history;
 use std::alloc::{AllocError, Global};
+use std::borrow::CowSlice;
 use std::test::Fail;
 use ua_core::Recorded;
 
@@ -77,7 +78,7 @@ pub fn worked(alloc: Global) -> Option<Config>
 }
 
 /// An image for the component (10, N).
-fn image(alloc: Global, identifier: u16, bytes: Bytes) -> Result<Image, AllocError> {
+fn image(alloc: Global, identifier: u16, bytes: Bytes) -> Result<Image<'static>, AllocError> {
     let mut image = Vec::new(alloc);
     for byte in 0..=239 {
         image.push(byte)?;
@@ -93,12 +94,12 @@ fn image(alloc: Global, identifier: u16, bytes: Bytes) -> Result<Image, AllocErr
             classification: 10,
             identifier,
         },
-        bytes: image,
+        bytes: CowSlice::Owned(image),
     })
 }
 
 /// These things as entries of a history, each of a device.
-fn entries(alloc: Global, things: &[(u8, Happens)]) -> Result<Vec<Entry>, AllocError> {
+fn entries(alloc: Global, things: &[(u8, Happens)]) -> Result<Vec<Entry<'static>>, AllocError> {
     let mut entries = Vec::new(alloc);
     for (device, thing) in things {
         let event = match *thing {

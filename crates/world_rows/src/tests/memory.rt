@@ -9,6 +9,7 @@ use fw_package::Package;
 use fw_world::{Event, Image, Step, StepFault};
 use mctp_wire::Unit;
 use std::alloc::{AllocError, Global};
+use std::borrow::CowSlice;
 use std::test::Fail;
 use ua_core::{Cause, SessionState};
 
@@ -39,9 +40,11 @@ fn takes(world: &mut Small<'_>, steps: &[Step]) -> bool {
     true
 }
 
-/// Whether this is the worked image.
-fn is_worked(image: &Image) -> bool {
-    image.key == KEY && is_image(image.bytes.as_slice())
+/// Whether this is the worked image, lent by its package.
+fn is_worked(image: &Image<'_>) -> bool {
+    image.key == KEY
+        && is_image(image.bytes.as_slice())
+        && matches!(image.bytes, CowSlice::Borrowed(_))
 }
 
 /// Whether the device applied the image, the agent recorded the first component of the first package, and the device activated

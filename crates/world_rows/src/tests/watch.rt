@@ -75,7 +75,7 @@ impl Watch {
     }
 
     /// Looks at the entries that weren't there before.
-    pub fn look(&mut self, history: &[Entry]) {
+    pub fn look(&mut self, history: &[Entry<'_>]) {
         let Some(new) = history.get(self.entries..) else {
             self.is_safe = false;
             return;
@@ -87,7 +87,7 @@ impl Watch {
     }
 
     /// Looks at an entry.
-    fn see(&mut self, entry: &Entry) {
+    fn see(&mut self, entry: &Entry<'_>) {
         let Some(seen) = self
             .devices
             .get_mut(usize::from(entry.device.wrapping_sub(9)))
@@ -105,7 +105,7 @@ impl Watch {
 }
 
 /// The component of this number, from 0, of an image's key.
-fn component_of(image: &Image) -> usize {
+fn component_of(image: &Image<'_>) -> usize {
     usize::from(image.key.identifier).saturating_sub(1)
 }
 
@@ -126,7 +126,7 @@ fn times(table: &Table, package: usize, component: usize) -> u32 {
 
 impl Seen {
     /// Whether an activation begins with this.
-    fn begins(&self, event: &Event) -> bool {
+    fn begins(&self, event: &Event<'_>) -> bool {
         match event {
             Event::Activated(_) => self.package.is_none(),
             _ => false,
@@ -134,7 +134,7 @@ impl Seen {
     }
 
     /// Takes note of what happened: whether it is safe.
-    fn takes(&mut self, event: &Event) -> bool {
+    fn takes(&mut self, event: &Event<'_>) -> bool {
         match event {
             Event::Applied(image) => self.applies(image),
             Event::Recorded(recorded) => self.records(recorded.package, recorded.component),
@@ -143,11 +143,11 @@ impl Seen {
     }
 
     /// An image is applied; an activation that went on has ended.
-    fn applies(&mut self, image: &Image) -> bool {
+    fn applies(&mut self, image: &Image<'_>) -> bool {
         self.package = None;
         let component = component_of(image);
         for package in 0..PACKAGES {
-            if is_image(package, component, self.stretch, &image.bytes) {
+            if is_image(package, component, self.stretch, image.bytes.as_slice()) {
                 return count(&mut self.applied, package, component).is_some();
             }
         }
@@ -165,13 +165,13 @@ impl Seen {
     }
 
     /// An image is activated: it is a component's that was recorded, and all of one activation are of one package.
-    fn activates(&mut self, image: &Image) -> bool {
+    fn activates(&mut self, image: &Image<'_>) -> bool {
         let component = component_of(image);
         if self.package.is_none() {
             self.before = self.since;
             self.since = [[0; COMPONENTS]; PACKAGES];
             for package in 0..PACKAGES {
-                if is_image(package, component, self.stretch, &image.bytes) {
+                if is_image(package, component, self.stretch, image.bytes.as_slice()) {
                     self.package = Some(package);
                 }
             }
@@ -180,6 +180,6 @@ impl Seen {
             return false;
         };
         times(&self.before, package, component) > 0
-            && is_image(package, component, self.stretch, &image.bytes)
+            && is_image(package, component, self.stretch, image.bytes.as_slice())
     }
 }
