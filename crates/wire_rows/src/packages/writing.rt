@@ -288,10 +288,6 @@ fn refuses_what_is_too_long(rt: HostRuntime) {
     }
 }
 
-static DESCRIPTORS: [Descriptor<'static>; 256] = [FIRST; 256];
-
-static RECORDS: [AskedRecord<'static>; 256] = [RECORD; 256];
-
 /// The package of these records and components, without a version text.
 fn asked<'a>(
     records: &'a [AskedRecord<'a>],
@@ -314,12 +310,19 @@ fn fault_with(descriptors: &[Descriptor<'_>]) -> Option<AskedFault> {
     fault_of(&asked(&[record], &[COMPONENT]))
 }
 
+/// The fault of a package with these records.
+fn fault_of_records(records: &[AskedRecord<'_>]) -> Option<AskedFault> {
+    fault_of(&asked(records, &[COMPONENT]))
+}
+
 #[test]
 fn refuses_what_is_too_many(rt: HostRuntime) {
-    assert!(rt; fault_with(&DESCRIPTORS[..255]).is_none());
-    assert!(rt; fault_with(&DESCRIPTORS) == Some(AskedFault::Limit));
-    assert!(rt; fault_of(&asked(&RECORDS[..255], &[COMPONENT])).is_none());
-    assert!(rt; fault_of(&asked(&RECORDS, &[COMPONENT])) == Some(AskedFault::Limit));
+    let descriptors = [FIRST; 256];
+    assert!(rt; fault_with(&descriptors[..255]).is_none());
+    assert!(rt; fault_with(&descriptors) == Some(AskedFault::Limit));
+    let records = [RECORD; 256];
+    assert!(rt; fault_of_records(&records[..255]).is_none());
+    assert!(rt; fault_of_records(&records) == Some(AskedFault::Limit));
 }
 
 /// Bytes for what is as long as it may be.
