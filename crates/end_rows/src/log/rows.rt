@@ -254,7 +254,7 @@ const TIMES: [Row<'static>; 13] = [
     ),
 ];
 
-static SITUATIONS: [(&str, &[Row<'static>]); 7] = [
+const SITUATIONS: [(&str, &[Row<'static>]); 7] = [
     ("a note is read whole and in parts", &PARTS),
     ("a delete leaves that record out", &DELETES),
     ("a wrong length comes first", &LENGTHS),
