@@ -128,41 +128,63 @@ fn is_noted(entry: &LaneEntry, noted: Noted<'_>) -> bool {
     }
 }
 
-/// A situation: what is done, each with its fault; how many packets were sent then, some of them by number, date and bytes; and what
-/// happened.
+/// A situation at a transmission unit: what is done, each with its fault; how many packets were sent then, some of them by number, date
+/// and bytes; and what happened.
 #[derive(Drop)]
 struct Row<'a> {
     situation: &'a str,
+    unit: Unit,
     acts: &'a [(Act<'a>, Option<LaneFault>)],
     count: usize,
     sent: &'a [(usize, u32, &'a [u8])],
     history: &'a [Noted<'a>],
 }
 
-/// Whether a lane of a transmission unit comes to what a row says.
-fn holds(alloc: Global, unit: Unit, row: &Row<'_>) -> bool {
-    let mut lane = Lane::new(alloc, unit, 8, 9);
-    for (act, fault) in row.acts {
+/// Whether a lane takes what is done, each act with its fault.
+fn takes_all(lane: &mut Lane, acts: &[(Act<'_>, Option<LaneFault>)]) -> bool {
+    for (act, fault) in acts {
         let taken = match *act {
-            Ticks(count) => ticks(&mut lane, count, false),
-            Deaf(count) => ticks(&mut lane, count, true),
-            act => takes(&mut lane, act, *fault),
+            Ticks(count) => ticks(lane, count, false),
+            Deaf(count) => ticks(lane, count, true),
+            act => takes(lane, act, *fault),
         };
         if !taken {
             return false;
         }
     }
-    for (number, date, bytes) in row.sent {
-        if !is_sent(&lane, *number, *date, bytes) {
+    true
+}
+
+/// Whether the packets of these numbers have these dates and bytes.
+fn are_sent(lane: &Lane, sent: &[(usize, u32, &[u8])]) -> bool {
+    for (number, date, bytes) in sent {
+        if !is_sent(lane, *number, *date, bytes) {
             return false;
         }
     }
-    for (entry, noted) in lane.history().iter().zip(row.history) {
-        if !is_noted(entry, *noted) {
+    true
+}
+
+/// Whether this happened, and nothing else.
+fn are_noted(entries: &[LaneEntry], history: &[Noted<'_>]) -> bool {
+    if entries.len() != history.len() {
+        return false;
+    }
+    for (place, noted) in history.iter().enumerate() {
+        if !is_noted(&entries[place], *noted) {
             return false;
         }
     }
-    lane.packets().len() == row.count && lane.history().len() == row.history.len()
+    true
+}
+
+/// Whether a lane comes to what a row says.
+fn holds(alloc: Global, row: &Row<'_>) -> bool {
+    let mut lane = Lane::new(alloc, row.unit, 8, 9);
+    takes_all(&mut lane, row.acts)
+        && are_sent(&lane, row.sent)
+        && are_noted(lane.history(), row.history)
+        && lane.packets().len() == row.count
 }
 
 const REQUEST: [u8; 10] = [0x01, 9, 8, 0xC8, 0x01, 0x80, 0x05, 0x10, 0xF0, 0x00];
@@ -175,9 +197,10 @@ const REPLY_13: [u8; 9] = [0x01, 8, 9, 0xC0, 0x01, 0x00, 0x05, 0x13, 0x00];
 /// The second packet of a request whose message has one byte more than the transmission unit.
 const SECOND: [u8; 5] = [0x01, 9, 8, 0x58, 0x5A];
 
-const ROWS: [Row<'static>; 6] = [
+static ROWS: [Row<'static>; 6] = [
     Row {
         situation: "a repeated request gets its first reply again",
+        unit: Unit::U64,
         acts: &[
             (Begin(0x10, &[0xF0, 0x00]), None),
             (ToTaker(1, &[0x00, 0x01]), None),
@@ -202,6 +225,7 @@ const ROWS: [Row<'static>; 6] = [
     Row {
         // it neither repeats nor learns; its next request has the first tag and identifier again, and is new to the taker
         situation: "an asker that starts anew is deaf for 40 ticks",
+        unit: Unit::U64,
         acts: &[
             (Begin(0x01, &[]), None),
             (ToTaker(1, &[0x00]), None),
@@ -225,6 +249,7 @@ const ROWS: [Row<'static>; 6] = [
     },
     Row {
         situation: "faults are named and change nothing",
+        unit: Unit::U64,
         acts: &[
             (Abandon, Some(LaneFault::NotNow)),
             (ToTaker(0, &[0x00]), Some(LaneFault::NoSuchPacket)),
@@ -243,6 +268,7 @@ const ROWS: [Row<'static>; 6] = [
         // the asker counts 12 of the first 14 units, so the request goes out for the last time at 14; that packet may come
         // until 22, when the taker has counted 22 ticks since it took the request
         situation: "the last repeat of a request comes 22 units after it began, and meets its kept answer",
+        unit: Unit::U64,
         acts: &[
             (Begin(0x10, &[0xF0, 0x00]), None),
             (ToTaker(1, &[0x00, 0x01]), None),
@@ -264,6 +290,7 @@ const ROWS: [Row<'static>; 6] = [
     },
     Row {
         situation: "an end misses a tick only where it counted eight since the last that it missed",
+        unit: Unit::U64,
         acts: &[
             (BothMiss, None),
             (AskerMisses, Some(LaneFault::NotNow)),
@@ -286,6 +313,7 @@ const ROWS: [Row<'static>; 6] = [
     Row {
         // the sixth tick that the asker counts is in the seventh unit
         situation: "a missed tick leaves an end as it is",
+        unit: Unit::U64,
         acts: &[
             (Begin(0x10, &[0xF0, 0x00]), None),
             (Ticks(5), None),
@@ -302,144 +330,141 @@ const ROWS: [Row<'static>; 6] = [
 #[test]
 fn lanes_come_to_what_the_rows_say(rt: HostRuntime) {
     for row in &ROWS {
-        assert!(rt; holds(rt.alloc(), Unit::U64, row), "{}", row.situation);
+        assert!(rt; holds(rt.alloc(), row), "{}", row.situation);
     }
 }
 
-/// Pieces of a sending and of its repeat mix: a second piece alone; the first of the repeat with the second of the first
-/// sending; and the other way round.
-fn mixes(alloc: Global, unit: Unit, body: &[u8]) -> bool {
-    let row = Row {
-        situation: "",
-        acts: &[
-            (Begin(0x13, body), None),
-            (Ticks(6), None),
-            (ToAsker(5), Some(LaneFault::NoSuchPacket)),
-            (ToTaker(2, &[0x05]), None),
-            (ToTaker(3, &[0x06]), None),
-            (ToTaker(2, &[0x00]), None),
-            (ToTaker(1, &[0x07]), None),
-            (ToTaker(4, &[0x08]), None),
-        ],
-        count: 6,
-        sent: &[(5, 6, &REPLY_13), (6, 6, &REPLY_13)],
-        history: &[Asked(0x13, body), Taken(0x13, body, &[0x00])],
+/// What becomes of a request with these data, whose message has one byte more than the transmission unit.
+macro_rules! two_packets {
+    ($unit:expr, $body:expr) => {
+        [
+            Row {
+                // a second piece alone; the first of the repeat with the second of the first sending; and the other way round
+                situation: "pieces of a sending and of its repeat mix",
+                unit: $unit,
+                acts: &[
+                    (Begin(0x13, $body), None),
+                    (Ticks(6), None),
+                    (ToAsker(5), Some(LaneFault::NoSuchPacket)),
+                    (ToTaker(2, &[0x05]), None),
+                    (ToTaker(3, &[0x06]), None),
+                    (ToTaker(2, &[0x00]), None),
+                    (ToTaker(1, &[0x07]), None),
+                    (ToTaker(4, &[0x08]), None),
+                ],
+                count: 6,
+                sent: &[(5, 6, &REPLY_13), (6, 6, &REPLY_13)],
+                history: &[Asked(0x13, $body), Taken(0x13, $body, &[0x00])],
+            },
+            Row {
+                // the taker counts 8 of the 10
+                situation: "an assembly waits 10 units for its next piece where two ticks are missed",
+                unit: $unit,
+                acts: &[
+                    (Begin(0x13, $body), None),
+                    (ToTaker(1, &[0x05]), None),
+                    (TakerMisses, None),
+                    (Ticks(8), None),
+                    (TakerMisses, None),
+                    (ToTaker(4, &[0x00]), None),
+                ],
+                count: 5,
+                sent: &[(4, 6, &SECOND), (5, 10, &REPLY_13)],
+                history: &[Asked(0x13, $body), Taken(0x13, $body, &[0x00])],
+            },
+            Row {
+                situation: "an assembly is over after 11 units, whatever is missed",
+                unit: $unit,
+                acts: &[
+                    (Begin(0x13, $body), None),
+                    (ToTaker(1, &[0x05]), None),
+                    (TakerMisses, None),
+                    (Ticks(8), None),
+                    (TakerMisses, None),
+                    (Ticks(1), None),
+                    (ToTaker(4, &[0x00]), None),
+                ],
+                count: 4,
+                sent: &[(4, 6, &SECOND)],
+                history: &[Asked(0x13, $body)],
+            },
+        ]
     };
-    holds(alloc, unit, &row)
 }
 
-/// An assembly waits 10 units for its next piece where two ticks are missed: the taker counts 8 of them.
-fn waits(alloc: Global, unit: Unit, body: &[u8]) -> bool {
-    let row = Row {
-        situation: "",
-        acts: &[
-            (Begin(0x13, body), None),
-            (ToTaker(1, &[0x05]), None),
-            (TakerMisses, None),
-            (Ticks(8), None),
-            (TakerMisses, None),
-            (ToTaker(4, &[0x00]), None),
-        ],
-        count: 5,
-        sent: &[(4, 6, &SECOND), (5, 10, &REPLY_13)],
-        history: &[Asked(0x13, body), Taken(0x13, body, &[0x00])],
-    };
-    holds(alloc, unit, &row)
-}
-
-/// An assembly is over after 11 units, whatever is missed.
-fn is_over(alloc: Global, unit: Unit, body: &[u8]) -> bool {
-    let row = Row {
-        situation: "",
-        acts: &[
-            (Begin(0x13, body), None),
-            (ToTaker(1, &[0x05]), None),
-            (TakerMisses, None),
-            (Ticks(8), None),
-            (TakerMisses, None),
-            (Ticks(1), None),
-            (ToTaker(4, &[0x00]), None),
-        ],
-        count: 4,
-        sent: &[(4, 6, &SECOND)],
-        history: &[Asked(0x13, body)],
-    };
-    holds(alloc, unit, &row)
-}
-
-/// The data of a request whose message has one byte more than the transmission unit.
-const ONE_MORE: [(Unit, &[u8]); 2] = [(Unit::U64, &[0x5A; 61]), (Unit::U128, &[0x5A; 125])];
+static TWO_PACKETS: [[Row<'static>; 3]; 2] = [
+    two_packets!(Unit::U64, &[0x5A; 61]),
+    two_packets!(Unit::U128, &[0x5A; 125]),
+];
 
 #[test]
 fn two_packets_are_one_message(rt: HostRuntime) {
-    for (unit, body) in ONE_MORE {
-        assert!(rt; mixes(rt.alloc(), unit, body), "{} bytes", body.len());
-        assert!(rt; waits(rt.alloc(), unit, body), "{} bytes", body.len());
-        assert!(rt; is_over(rt.alloc(), unit, body), "{} bytes", body.len());
+    for rows in &TWO_PACKETS {
+        for row in rows {
+            assert!(rt; holds(rt.alloc(), row), "{}", row.situation);
+        }
     }
 }
 
-/// Whether data of so many bytes go to and fro as a request and as its reply, each in four packets.
-fn go_to_and_fro(alloc: Global, unit: Unit, most: &[u8]) -> bool {
-    let row = Row {
-        situation: "",
-        acts: &[
-            (Begin(0x13, most), None),
-            (ToTaker(1, most), None),
-            (ToTaker(2, most), None),
-            (ToTaker(3, most), None),
-            (ToTaker(4, most), None),
-            (ToAsker(5), None),
-            (ToAsker(6), None),
-            (ToAsker(7), None),
-            (ToAsker(8), None),
-        ],
-        count: 8,
-        sent: &[],
-        history: &[Asked(0x13, most), Taken(0x13, most, most), Learnt(most)],
+/// These data go to and fro as a request's and as its reply's, each in four packets.
+macro_rules! to_and_fro {
+    ($unit:expr, $most:expr) => {
+        Row {
+            situation: "data go to and fro",
+            unit: $unit,
+            acts: &[
+                (Begin(0x13, $most), None),
+                (ToTaker(1, $most), None),
+                (ToTaker(2, $most), None),
+                (ToTaker(3, $most), None),
+                (ToTaker(4, $most), None),
+                (ToAsker(5), None),
+                (ToAsker(6), None),
+                (ToAsker(7), None),
+                (ToAsker(8), None),
+            ],
+            count: 8,
+            sent: &[],
+            history: &[Asked(0x13, $most), Taken(0x13, $most, $most), Learnt($most)],
+        }
     };
-    holds(alloc, unit, &row)
 }
 
-/// Whether data of so many bytes are refused as a request's and as a reply, and shorter ones are taken after that.
-fn are_refused(alloc: Global, unit: Unit, more: &[u8]) -> bool {
-    let row = Row {
-        situation: "",
-        acts: &[
-            (Begin(0x13, more), Some(LaneFault::NotNow)),
-            (ToTaker(1, more), Some(LaneFault::NotNow)),
-            (Begin(0x13, &[]), None),
-            (ToTaker(1, more), Some(LaneFault::NotNow)),
-            (ToTaker(1, &[0x00]), None),
-        ],
-        count: 2,
-        sent: &[(2, 0, &REPLY_13)],
-        history: &[Asked(0x13, &[]), Taken(0x13, &[], &[0x00])],
+/// These data are refused as a request's and as a reply's, and shorter ones are taken after that.
+macro_rules! refused {
+    ($unit:expr, $more:expr) => {
+        Row {
+            situation: "data are refused",
+            unit: $unit,
+            acts: &[
+                (Begin(0x13, $more), Some(LaneFault::NotNow)),
+                (ToTaker(1, $more), Some(LaneFault::NotNow)),
+                (Begin(0x13, &[]), None),
+                (ToTaker(1, $more), Some(LaneFault::NotNow)),
+                (ToTaker(1, &[0x00]), None),
+            ],
+            count: 2,
+            sent: &[(2, 0, &REPLY_13)],
+            history: &[Asked(0x13, &[]), Taken(0x13, &[], &[0x00])],
+        }
     };
-    holds(alloc, unit, &row)
 }
-
-const BYTES: [u8; 509] = [0x5A; 509];
 
 /// How much data goes to and fro, and how much is refused. A step holds at most 508 bytes, so that a unit of 128 refuses
 /// none of them.
+static FOUR_PACKETS: [Row<'static>; 4] = [
+    to_and_fro!(Unit::U64, &[0x5A; 252]),
+    refused!(Unit::U64, &[0x5A; 253]),
+    refused!(Unit::U64, &[0x5A; 508]),
+    to_and_fro!(Unit::U128, &[0x5A; 508]),
+];
+
 #[test]
 fn a_message_has_four_packets(rt: HostRuntime) {
-    for (unit, size, taken) in [
-        (Unit::U64, 252usize, true),
-        (Unit::U64, 253, false),
-        (Unit::U64, 508, false),
-        (Unit::U128, 508, true),
-    ] {
-        assert!(rt; size <= 509);
-        let bytes = &BYTES[..size];
-        if taken {
-            assert!(rt; go_to_and_fro(rt.alloc(), unit, bytes), "{size} bytes");
-        } else {
-            assert!(rt; are_refused(rt.alloc(), unit, bytes), "{size} bytes");
-        }
+    for row in &FOUR_PACKETS {
+        assert!(rt; holds(rt.alloc(), row), "{}", row.situation);
     }
-    assert!(rt; Reply::new().try_extend_from_slice(&BYTES).is_err());
+    assert!(rt; Reply::new().try_extend_from_slice(&[0x5A; 509]).is_err());
 }
 
 /// Whether the steps before a fault are taken, and none after it.
@@ -478,7 +503,7 @@ fn counted_in(alloc: Global, units: u32) -> Option<u32> {
 }
 
 /// The units in which the slowest asker counts so many ticks: it is behind by one, and by one more after each eight.
-const SLOWEST: [(u32, u32); 7] = [
+static SLOWEST: [(u32, u32); 7] = [
     (1, 0),
     (9, 8),
     (10, 8),
@@ -490,9 +515,9 @@ const SLOWEST: [(u32, u32); 7] = [
 
 #[test]
 fn the_slowest_end_is_behind_by_an_eighth(rt: HostRuntime) {
-    for (units, counted) in SLOWEST {
+    for (units, counted) in &SLOWEST {
         assert!(rt;
-            counted_in(rt.alloc(), units) == Some(counted),
+            counted_in(rt.alloc(), *units) == Some(*counted),
             "{units} units"
         );
     }

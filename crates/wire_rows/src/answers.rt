@@ -2,9 +2,9 @@
 
 use fwup_wire::code::{command, completion, response, text_type};
 use fwup_wire::{
-    Answer, ComponentParameters, Descriptor, DescriptorList, Key, MAX_TRANSFER, MIN_TRANSFER,
-    OfferResponse, ParameterList, TableResponse, Text, Version, read_answer, transfer_size,
-    write_answer,
+    Answer, ComponentParameters, Descriptor, DescriptorList, Descriptors, Key, MAX_TRANSFER,
+    MIN_TRANSFER, OfferResponse, ParameterList, Parameters, TableResponse, Text, Version,
+    read_answer, transfer_size, write_answer,
 };
 use mctp_wire::Unit;
 
@@ -16,16 +16,22 @@ const TWO_DESCRIPTORS: [u8; 20] = [
     0, 14, 0, 0, 0, 2, 0, 0, 2, 0, 0x34, 0x12, 0x01, 0x02, 4, 0, 0x78, 0x56, 0x34, 0x12,
 ];
 
-/// The two, read.
-const DESCRIPTORS_READ: [Descriptor<'static>; 2] = [
-    Descriptor {
-        kind: 0,
-        bytes: &[0x34, 0x12],
-    },
-    Descriptor {
-        kind: 0x0201,
-        bytes: &[0x78, 0x56, 0x34, 0x12],
-    },
+/// The two, read, each with the bytes of the list that it ends.
+static DESCRIPTORS_READ: [(Descriptor<'static>, &[u8]); 2] = [
+    (
+        Descriptor {
+            kind: 0,
+            bytes: &[0x34, 0x12],
+        },
+        &ONE_DESCRIPTOR,
+    ),
+    (
+        Descriptor {
+            kind: 0x0201,
+            bytes: &[0x78, 0x56, 0x34, 0x12],
+        },
+        &TWO_DESCRIPTORS,
+    ),
 ];
 
 /// Component (10, 1) with text `1.0` and nothing pending.
@@ -66,56 +72,65 @@ const ONE: Version<'static> = Version {
     },
 };
 
-/// The components, read.
-const PARAMETERS_READ: [ComponentParameters<'static>; 3] = [
-    ComponentParameters {
-        key: Key {
-            classification: 10,
-            identifier: 1,
-        },
-        index: 0,
-        active: ONE,
-        pending: Version {
-            stamp: 0,
-            text: NO_TEXT,
-        },
-    },
-    ComponentParameters {
-        key: Key {
-            classification: 10,
-            identifier: 2,
-        },
-        index: 1,
-        active: ONE,
-        pending: Version {
-            stamp: 2,
-            text: Text {
-                text_type: text_type::ASCII,
-                bytes: b"v2",
+/// The components, read, each with the bytes of the list that it ends.
+static PARAMETERS_READ: [(ComponentParameters<'static>, &[u8]); 3] = [
+    (
+        ComponentParameters {
+            key: Key {
+                classification: 10,
+                identifier: 1,
+            },
+            index: 0,
+            active: ONE,
+            pending: Version {
+                stamp: 0,
+                text: NO_TEXT,
             },
         },
-    },
-    ComponentParameters {
-        key: Key {
-            classification: 0xFFFF,
-            identifier: 258,
+        &ONE_COMPONENT,
+    ),
+    (
+        ComponentParameters {
+            key: Key {
+                classification: 10,
+                identifier: 2,
+            },
+            index: 1,
+            active: ONE,
+            pending: Version {
+                stamp: 2,
+                text: Text {
+                    text_type: text_type::ASCII,
+                    bytes: b"v2",
+                },
+            },
         },
-        index: 255,
-        active: Version {
-            stamp: 0xFFFF_FFFF,
-            text: NO_TEXT,
+        &TWO_COMPONENTS,
+    ),
+    (
+        ComponentParameters {
+            key: Key {
+                classification: 0xFFFF,
+                identifier: 258,
+            },
+            index: 255,
+            active: Version {
+                stamp: 0xFFFF_FFFF,
+                text: NO_TEXT,
+            },
+            pending: Version {
+                stamp: 0,
+                text: NO_TEXT,
+            },
         },
-        pending: Version {
-            stamp: 0,
-            text: NO_TEXT,
-        },
-    },
+        &THREE_COMPONENTS,
+    ),
 ];
 
 /// Answers by their command: those without fields, or with those that say nothing; a table entry that isn't supported; an offer declined,
 /// as the stamp is the same, and 300 seconds; an activation that takes 258; and
 /// lists of descriptors and of components.
-const WHOLE: [(u8, &[u8]); 15] = [
+static WHOLE: [(u8, &[u8]); 15] = [
     (command::REQUEST_UPDATE, &[0; 4]),
     (command::TRANSFER_COMPLETE, &[0]),
     (command::VERIFY_COMPLETE, &[0]),
@@ -135,6 +150,26 @@ const WHOLE: [(u8, &[u8]); 15] = [
     (command::GET_FIRMWARE_PARAMETERS, &TWO_COMPONENTS),
     (command::GET_FIRMWARE_PARAMETERS, &THREE_COMPONENTS),
 ];
+
+/// Whether a list has this many entries, the first of those above.
+fn are_descriptors(told: &Descriptors<'_>, count: usize) -> bool {
+    for (one, (other, _)) in told.iter().zip(&DESCRIPTORS_READ) {
+        if one != *other {
+            return false;
+        }
+    }
+    told.len() == count && told.is_empty() == (count == 0)
+}
+
+/// The same of components, of which there is one at least.
+fn are_parameters(told: &Parameters<'_>, count: usize) -> bool {
+    for (one, (other, _)) in told.iter().zip(&PARAMETERS_READ) {
+        if one != *other {
+            return false;
+        }
+    }
+    told.len() == count && !told.is_empty()
+}
 
 /// Whether an answer says what its row does, a list of this many entries the first of those above.
 fn is_told(answer: &Answer<'_>, count: usize) -> bool {
@@ -156,22 +191,8 @@ fn is_told(answer: &Answer<'_>, count: usize) -> bool {
                 }
         }
         Answer::ActivateFirmware { time } => *time == 258,
-        Answer::QueryDeviceIdentifiers(told) => {
-            for (one, other) in told.iter().zip(&DESCRIPTORS_READ) {
-                if one != *other {
-                    return false;
-                }
-            }
-            told.len() == count && told.is_empty() == (count == 0)
-        }
-        Answer::GetFirmwareParameters(told) => {
-            for (one, other) in told.iter().zip(&PARAMETERS_READ) {
-                if one != *other {
-                    return false;
-                }
-            }
-            told.len() == count && !told.is_empty()
-        }
+        Answer::QueryDeviceIdentifiers(told) => are_descriptors(told, count),
+        Answer::GetFirmwareParameters(told) => are_parameters(told, count),
         _ => true,
     }
 }
@@ -183,8 +204,7 @@ fn reads_and_writes(byte: u8, bytes: &[u8]) -> bool {
             let count = bytes.get(5).copied().unwrap_or(0);
             is_told(&answer, usize::from(count))
                 && bytes.first() == Some(&answer.code())
-                && answer.is_writable()
-                && write_answer(&answer).as_slice() == bytes
+                && is_written(&answer, bytes)
         }
         Err(_) => false,
     }
@@ -197,17 +217,20 @@ fn reads_answers_and_writes_them_back(rt: HostRuntime) {
     }
 }
 
+/// Whether an answer is written as these bytes.
+fn is_written(answer: &Answer<'_>, bytes: &[u8]) -> bool {
+    answer.is_writable() && write_answer(answer).as_slice() == bytes
+}
+
 /// Whether the descriptors, put together one by one, are written as the bytes above.
 fn descriptors_are_put_together() -> bool {
-    let wanted: [&[u8]; 2] = [&ONE_DESCRIPTOR, &TWO_DESCRIPTORS];
     let mut list = DescriptorList::new();
-    for (descriptor, bytes) in DESCRIPTORS_READ.iter().zip(&wanted) {
+    for (descriptor, bytes) in &DESCRIPTORS_READ {
         if descriptor.bytes.len() > 4 || list.room() < 8 {
             return false;
         }
         list.push(descriptor);
-        let answer = Answer::QueryDeviceIdentifiers(list.lent());
-        if !answer.is_writable() || write_answer(&answer).as_slice() != *bytes {
+        if !is_written(&Answer::QueryDeviceIdentifiers(list.lent()), bytes) {
             return false;
         }
     }
@@ -216,16 +239,14 @@ fn descriptors_are_put_together() -> bool {
 
 /// Whether the components, put together one by one, are written as the bytes above.
 fn components_are_put_together() -> bool {
-    let wanted: [&[u8]; 3] = [&ONE_COMPONENT, &TWO_COMPONENTS, &THREE_COMPONENTS];
     let mut list = ParameterList::new();
-    for (component, bytes) in PARAMETERS_READ.iter().zip(&wanted) {
+    for (component, bytes) in &PARAMETERS_READ {
         let (active, pending) = (component.active.text.bytes, component.pending.text.bytes);
         if active.len() > 3 || pending.len() > 2 || list.room() < 44 {
             return false;
         }
         list.push(component);
-        let answer = Answer::GetFirmwareParameters(list.lent());
-        if !answer.is_writable() || write_answer(&answer).as_slice() != *bytes {
+        if !is_written(&Answer::GetFirmwareParameters(list.lent()), bytes) {
             return false;
         }
     }
@@ -239,12 +260,12 @@ fn puts_lists_together(rt: HostRuntime) {
 }
 
 /// The commands that have answers.
-const COMMANDS: [u8; 13] = [
+static COMMANDS: [u8; 13] = [
     0x01, 0x02, 0x10, 0x13, 0x14, 0x15, 0x16, 0x17, 0x18, 0x1A, 0x1B, 0x1C, 0x1D,
 ];
 
 /// Codes of refusals.
-const CODES: [u8; 6] = [
+static CODES: [u8; 6] = [
     0x01,
     0x04,
     completion::NOT_IN_UPDATE_MODE,
@@ -276,7 +297,7 @@ fn ends_refusals_at_the_code(rt: HostRuntime) {
 /// What is no answer: a descriptor missing, one too many, a longer list, a longer descriptor; metadata, package data wanted; a byte missing, a byte
 /// too many, a code alone, fields of a bare answer; a broken component, its bit; a status without flags; and answers to
 /// commands that aren't known, refusals too.
-const MALFORMED: [(u8, &[u8]); 23] = [
+static MALFORMED: [(u8, &[u8]); 23] = [
     (0x01, &[0, 6, 0, 0, 0, 2, 0, 0, 2, 0, 0x34, 0x12]),
     (0x01, &[0, 6, 0, 0, 0, 0, 0, 0, 2, 0, 0x34, 0x12]),
     (0x01, &[0, 7, 0, 0, 0, 1, 0, 0, 2, 0, 0x34, 0x12]),
@@ -310,7 +331,7 @@ fn refuses_malformed_answers(rt: HostRuntime) {
 }
 
 /// How many bytes of an image an answer carries, and whether it is writable: a reply has at most 508 bytes with its code.
-const CARRIED: [(usize, bool); 6] = [
+static CARRIED: [(usize, bool); 6] = [
     (0, true),
     (240, true),
     (251, true),

@@ -29,7 +29,7 @@ const OFFER: [u8; 21] = [
 /// A command's code and its data, and what it is.
 type Row<'a> = (u8, &'a [u8], Command<'a>);
 
-const ROWS: [Row<'static>; 15] = [
+static ROWS: [Row<'static>; 15] = [
     (0x01, &[], Command::QueryDeviceIdentifiers),
     (0x02, &[], Command::GetFirmwareParameters),
     (
@@ -172,37 +172,51 @@ fn fits_its_text(byte: u8, fields: &[u8], place: usize, length: u8) -> bool {
     true
 }
 
+/// Commands with a text: where its length stands, and what it is.
+static TEXTED: [(u8, &[u8], usize, u8); 3] = [
+    (0x10, &REQUEST, 10, 1),
+    (0x13, &ENTRY, 11, 2),
+    (0x14, &OFFER, 18, 2),
+];
+
 #[test]
 fn refuses_every_length_but_its_own(rt: HostRuntime) {
     for (byte, fields, _) in &ROWS {
         assert!(rt; has_one_length(*byte, fields), "{byte}");
     }
-    assert!(rt;
-        fits_its_text(0x10, &REQUEST, 10, 1)
-            && fits_its_text(0x13, &ENTRY, 11, 2)
-            && fits_its_text(0x14, &OFFER, 18, 2)
-    );
+    for (byte, fields, place, length) in &TEXTED {
+        assert!(rt; fits_its_text(*byte, fields, *place, *length), "{byte}");
+    }
+}
+
+#[test]
+fn a_text_outlives_what_is_read(rt: HostRuntime) {
     assert!(rt; text_alone(&REQUEST) == b"A".as_slice());
 }
 
 /// How many bytes a set text has, and whether RequestUpdate is writable with it: request data have at most 252 bytes, so that
 /// they go over a network of either unit.
-const TEXTS: [(usize, bool); 4] = [(0, true), (241, true), (242, false), (255, false)];
+static TEXTS: [(usize, bool); 4] = [(0, true), (241, true), (242, false), (255, false)];
+
+/// Whether RequestUpdate is writable with a set text of so many bytes.
+fn is_writable(size: usize) -> bool {
+    let text = [0x41; 255];
+    let command = Command::RequestUpdate(UpdateRequest {
+        transfer_size: 496,
+        components: 1,
+        outstanding: 1,
+        package_data_length: 0,
+        image_set: Text {
+            text_type: text_type::ASCII,
+            bytes: text.get(..size).unwrap_or(&[]),
+        },
+    });
+    command.is_writable()
+}
 
 #[test]
 fn writes_request_data_that_fit_each_unit(rt: HostRuntime) {
-    let text = [0x41; 255];
     for (size, writable) in &TEXTS {
-        let command = Command::RequestUpdate(UpdateRequest {
-            transfer_size: 496,
-            components: 1,
-            outstanding: 1,
-            package_data_length: 0,
-            image_set: Text {
-                text_type: text_type::ASCII,
-                bytes: text.get(..*size).unwrap_or(&[]),
-            },
-        });
-        assert!(rt; command.is_writable() == *writable, "{size}");
+        assert!(rt; is_writable(*size) == *writable, "{size}");
     }
 }

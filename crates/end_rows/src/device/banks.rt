@@ -2,7 +2,7 @@
 
 use crate::device::setup::{KEY, bank, write};
 use fd_core::{Bank, Key, MemBank};
-use std::test::Fail;
+use std::alloc::Global;
 
 /// What is called on the worked component.
 #[derive(Clone, Copy)]
@@ -24,7 +24,7 @@ type Row<'a> = (
 );
 
 /// The rows follow one another.
-const ROWS: [Row<'static>; 6] = [
+static ROWS: [Row<'static>; 6] = [
     (
         &[Call::Apply(&[1, 2, 3])],
         &[0xAA],
@@ -66,13 +66,21 @@ fn make(bank: &mut MemBank, call: Call<'_>) -> bool {
     }
 }
 
-/// Whether the bank has what a row says, after its calls.
-fn holds(bank: &mut MemBank, row: &Row<'_>) -> bool {
-    let (calls, runs, next, areas) = row;
-    for call in *calls {
+/// Makes these calls. Whether all worked.
+fn make_all(bank: &mut MemBank, calls: &[Call<'_>]) -> bool {
+    for call in calls {
         if !make(bank, *call) {
             return false;
         }
+    }
+    true
+}
+
+/// Whether the bank has what a row says, after its calls.
+fn holds(bank: &mut MemBank, row: &Row<'_>) -> bool {
+    let (calls, runs, next, areas) = row;
+    if !make_all(bank, calls) {
+        return false;
     }
     let active = match bank.active(KEY) {
         Some((_, bytes)) => bytes,
@@ -91,12 +99,25 @@ const OTHER: Key = Key {
     identifier: 2,
 };
 
-#[test]
-fn keeps_images_in_three_areas(rt: HostRuntime) -> Result<(), Fail> {
-    let mut bank = bank(rt.alloc(), 1)?;
+/// Whether the bank has what each row says, and no areas of another component.
+fn keeps(bank: &mut MemBank) -> bool {
     for row in &ROWS {
-        assert!(rt; holds(&mut bank, row));
+        if !holds(bank, row) {
+            return false;
+        }
     }
-    assert!(rt; bank.areas(OTHER).is_none());
-    Ok(())
+    bank.areas(OTHER).is_none()
+}
+
+/// Whether a new bank does.
+fn new_one_keeps(alloc: Global) -> bool {
+    match bank(alloc, 1) {
+        Ok(mut bank) => keeps(&mut bank),
+        Err(_) => false,
+    }
+}
+
+#[test]
+fn keeps_images_in_three_areas(rt: HostRuntime) {
+    assert!(rt; new_one_keeps(rt.alloc()));
 }

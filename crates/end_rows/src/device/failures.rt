@@ -5,7 +5,7 @@ use crate::device::setup::{
     ACTIVATE, APPLY, COMPLETE, Call, IDLE, READY, VERIFY, advance, bank, device, follows, report,
     status, worked,
 };
-use fd_core::{FailBank, Verdict};
+use fd_core::{Device, FailBank, MemBank, Verdict};
 use fwup_wire::{Answer, Malformed};
 use std::alloc::Global;
 
@@ -15,10 +15,10 @@ const OFFER: [u8; 21] = [
 ];
 
 /// The bank's call that fails, and what comes of it: `begin`, and `switch`.
-const FAILURES: [(u64, [Call<'static>; 4]); 2] = [
+static FAILURES: [(u64, &[Call<'static>]); 2] = [
     (
         1,
-        [
+        &[
             Go(IDLE, READY, 32),
             Ask(0x14, &OFFER, &[1]),
             Go(READY, ACTIVATE, 32),
@@ -27,7 +27,7 @@ const FAILURES: [(u64, [Call<'static>; 4]); 2] = [
     ),
     (
         4,
-        [
+        &[
             Go(IDLE, COMPLETE, 32),
             Ask(0x1A, &[0], &[1]),
             Go(COMPLETE, ACTIVATE, 32),
@@ -54,7 +54,7 @@ fn answers_code_1_once_where_the_bank_fails(rt: HostRuntime) {
 /// A bad verdict, by its place: what is reported, and the status.
 type Bad<'a> = (&'a str, usize, Verdict, (u8, u8), [u8; 5]);
 
-const VERDICTS: [Bad<'static>; 2] = [
+static VERDICTS: [Bad<'static>; 2] = [
     (
         "unsound",
         VERIFY,
@@ -71,14 +71,11 @@ const VERDICTS: [Bad<'static>; 2] = [
     ),
 ];
 
-/// Whether a bad verdict is reported till an answer comes, a malformed one too, and the component can be given up then.
-fn is_reported(alloc: Global, row: &Bad<'_>, malformed: bool) -> bool {
+/// Whether a device reports a bad verdict till an answer comes, a malformed one too, and the component can be given up then.
+fn reports(device: &mut Device<MemBank>, row: &Bad<'_>, malformed: bool) -> bool {
     let (_, place, verdict, failure, expected) = row;
-    let Ok(mut device) = worked(alloc) else {
-        return false;
-    };
-    advance(&mut device, *place);
-    if device.verdict(*verdict).is_err() || report(&device) != Some(*failure) {
+    advance(device, *place);
+    if device.verdict(*verdict).is_err() || report(device) != Some(*failure) {
         return false;
     }
     if malformed {
@@ -86,9 +83,17 @@ fn is_reported(alloc: Global, row: &Bad<'_>, malformed: bool) -> bool {
     } else {
         device.learn(Ok(&Answer::Refused { code: 0x88 }));
     }
-    report(&device).is_none()
-        && status(&mut device) == *expected
-        && follows(&mut device, &[Ask(0x1C, &[], &[0])])
+    report(device).is_none()
+        && status(device) == *expected
+        && follows(device, &[Ask(0x1C, &[], &[0])])
+}
+
+/// Whether the worked device does.
+fn is_reported(alloc: Global, row: &Bad<'_>, malformed: bool) -> bool {
+    match worked(alloc) {
+        Ok(mut device) => reports(&mut device, row, malformed),
+        Err(_) => false,
+    }
 }
 
 #[test]

@@ -4,9 +4,9 @@ use crate::device::setup::{
     ACTIVATE, DOWNLOAD, KEY, READY, SIZE, advance, advance_between, ask, bank, label, number,
     offer, worked, write,
 };
-use fd_core::Bank;
+use fd_core::{Bank, Device, MemBank};
 use fwup_wire::code::command::UPDATE_COMPONENT;
-use std::test::Fail;
+use pldm_base::Reply;
 
 /// Writes two bytes of an image of two, then begins one of three in their place. Where that is refused, the two bytes
 /// stand there whole and are applied; else the three bytes are. How many bytes are applied then, 0 where the first
@@ -36,52 +36,89 @@ fn update<B: Bank>(bank: &mut B, image: &[u8]) -> bool {
     write(bank, image, true) && bank.switch().is_ok()
 }
 
-#[test]
-fn refused_memory_leaves_the_stage(rt: HostRuntime) -> Result<(), Fail> {
-    let Ok(mut bank) = bank(rt.alloc(), 1) else {
-        return Ok(());
-    };
-    // The first image takes memory once, in `begin`. Where that is refused, it is given at the second call.
-    if !update(&mut bank, &[1, 2, 3]) {
-        assert!(rt; bank.failures() == 1);
-        assert!(rt; bank.areas(KEY) == Some((0, None)));
-        assert!(rt; update(&mut bank, &[1, 2, 3]));
-    }
-    // The area of the factory image has the memory of one byte. It is asked for two and then for three.
+/// Whether the first image, which takes memory once, in `begin`, is updated at the second call where that is refused.
+fn takes_the_first(bank: &mut MemBank) -> bool {
+    update(bank, &[1, 2, 3])
+        || bank.failures() == 1 && bank.areas(KEY) == Some((0, None)) && update(bank, &[1, 2, 3])
+}
+
+/// Whether the area of the factory image, which has the memory of one byte, is asked for two and then for three. Where either is refused,
+/// the stage is as it was.
+fn asks_for_three(bank: &mut MemBank) -> bool {
     let before = bank.failures();
-    let written = write_over(&mut bank);
+    let written = write_over(bank);
     if bank.failures() == before {
-        assert!(rt; written == 3);
+        written == 3
     } else {
-        assert!(rt; written == 0 || written == 2);
-        assert!(rt; bank.failures() == 1);
+        (written == 0 || written == 2) && bank.failures() == 1
     }
-    let before = bank.failures();
-    let written = write_over(&mut bank);
-    assert!(rt; written == 3 || bank.failures() == 1);
-    // From now on all three areas have their memory, and updates take none.
-    if bank.failures() == 0 && before == 0 {
-        for _ in 0..4 {
-            assert!(rt; update(&mut bank, &[7, 7]));
+}
+
+/// Whether four more updates work, with no failure so far.
+fn takes_four(bank: &mut MemBank) -> bool {
+    for _ in 0..4 {
+        if !update(bank, &[7, 7]) {
+            return false;
         }
     }
-    Ok(())
+    true
+}
+
+/// Whether a bank in memory keeps its stage, whichever allocation is refused.
+fn keeps_the_stage(bank: &mut MemBank) -> bool {
+    if !takes_the_first(bank) {
+        return false;
+    }
+    let before = bank.failures();
+    if !asks_for_three(bank) {
+        return false;
+    }
+    let written = write_over(bank);
+    if written != 3 && bank.failures() != 1 {
+        return false;
+    }
+    // From now on all three areas have their memory, and updates take none.
+    bank.failures() != 0 || before != 0 || takes_four(bank)
 }
 
 #[test]
-fn refused_memory_is_asked_for_again(rt: HostRuntime) -> Result<(), Fail> {
-    let Ok(mut device) = worked(rt.alloc()) else {
-        return Ok(());
-    };
-    advance(&mut device, READY);
-    let mut reply = ask(&mut device, UPDATE_COMPONENT, &offer(2, SIZE, false), true);
-    if reply.as_slice() == [1].as_slice() {
-        assert!(rt; device.bank().failures() == 1);
-        assert!(rt; number(&device) == 2);
-        reply = ask(&mut device, UPDATE_COMPONENT, &offer(2, SIZE, false), true);
+fn refused_memory_leaves_the_stage(rt: HostRuntime) {
+    if let Ok(mut bank) = bank(rt.alloc(), 1) {
+        assert!(rt; keeps_the_stage(&mut bank));
     }
-    assert!(rt; reply.as_slice() == [0, 0, 0, 0, 0, 0, 0, 0, 0].as_slice());
-    advance_between(&mut device, DOWNLOAD, ACTIVATE, SIZE);
-    assert!(rt; number(&device) == 6);
-    Ok(())
+}
+
+/// The reply to UpdateComponent.
+fn offered(device: &mut Device<MemBank>) -> Reply {
+    ask(device, UPDATE_COMPONENT, &offer(2, SIZE, false), true)
+}
+
+/// UpdateComponent is taken.
+static TAKEN: [u8; 9] = [0; 9];
+
+/// Whether UpdateComponent is taken in READY XFER, at the second time where memory is refused and the device stays there.
+fn takes_the_offer(device: &mut Device<MemBank>) -> bool {
+    let reply = offered(device);
+    if reply.as_slice() == [1].as_slice() {
+        device.bank().failures() == 1
+            && number(device) == 2
+            && offered(device).as_slice() == TAKEN.as_slice()
+    } else {
+        reply.as_slice() == TAKEN.as_slice()
+    }
+}
+
+/// Whether a device takes the offer so, and is then updated.
+fn is_asked_again(device: &mut Device<MemBank>) -> bool {
+    advance(device, READY);
+    let taken = takes_the_offer(device);
+    advance_between(device, DOWNLOAD, ACTIVATE, SIZE);
+    taken && number(device) == 6
+}
+
+#[test]
+fn refused_memory_is_asked_for_again(rt: HostRuntime) {
+    if let Ok(mut device) = worked(rt.alloc()) {
+        assert!(rt; is_asked_again(&mut device));
+    }
 }

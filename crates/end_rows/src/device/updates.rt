@@ -15,7 +15,7 @@ use std::alloc::Global;
 type Size<'a> = (&'a str, u32, (u32, u32, u32));
 
 /// At the unit of 64 bytes: 240 bytes at once.
-const SIZES: [Size<'static>; 6] = [
+static SIZES: [Size<'static>; 6] = [
     ("empty", 0, (0, 0, 0)),
     ("below the least length", 31, (1, 0, 32)),
     ("the greatest length", 240, (1, 0, 240)),
@@ -25,7 +25,7 @@ const SIZES: [Size<'static>; 6] = [
 ];
 
 /// At the unit of 128 bytes: 496 bytes at once.
-const LONG_SIZES: [Size<'static>; 6] = [
+static LONG_SIZES: [Size<'static>; 6] = [
     ("empty", 0, (0, 0, 0)),
     ("below the least length", 31, (1, 0, 32)),
     ("the greatest length", 496, (1, 0, 496)),
@@ -97,7 +97,7 @@ fn stores_and_activates_images_of_each_size(rt: HostRuntime) {
 }
 
 /// What RequestUpdate says, and how many bytes of a long image the device asks for at first.
-const ASKS: [(Unit, &[u8], u32); 4] = [
+static ASKS: [(Unit, &[u8], u32); 4] = [
     (Unit::U64, &REQUEST, 240),
     (Unit::U64, &LONG_REQUEST, 240),
     (Unit::U128, &REQUEST, 240),

@@ -57,7 +57,7 @@ pub fn learn_descriptors(session: &mut Session, lent: &Lent<'_>, bytes: &[u8; 2]
 
 /// The answer of a device that has component (10, 2) under index 5: code and capabilities, one component, no set texts; key,
 /// index, stamp 1, text of type 1 and 3 bytes, no date; the same of the pending image; methods, capabilities, both texts.
-const PARAMETERS: [u8; 56] = [
+static PARAMETERS: [u8; 56] = [
     0, 0, 0, 0, 0, 1, 0, 0, 0, 0, 0, 10, 0, 2, 0, 5, 1, 0, 0, 0, 1, 3, 0, 0, 0, 0, 0, 0, 0, 0, 1,
     0, 0, 0, 1, 3, 0, 0, 0, 0, 0, 0, 0, 0, 2, 0, 0, 0, 0, 0, b'1', b'.', b'0', b'1', b'.', b'0',
 ];

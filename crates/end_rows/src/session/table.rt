@@ -10,7 +10,7 @@ use std::test::Fail;
 use ua_core::{Cause, Lent, Session, SessionState};
 
 /// What a device may say, good and bad: a row of the table has a code for each.
-const SAYINGS: [Command<'static>; 7] = [
+static SAYINGS: [Command<'static>; 7] = [
     Command::RequestFirmwareData {
         offset: 0,
         length: 32,
@@ -41,7 +41,7 @@ fn led(alloc: Global, lent: &Lent<'_>, state: SessionState) -> Session {
     session
 }
 
-const CODES: [(SessionState, [u8; 7]); 15] = [
+static CODES: [(SessionState, [u8; 7]); 15] = [
     (SessionState::Idle, [0x88; 7]),
     (SessionState::Query, [0x88; 7]),
     (SessionState::Params, [0x88; 7]),
@@ -136,7 +136,7 @@ fn led_on(state: SessionState, command: &Command<'_>) -> SessionState {
 /// A request of data from an image of so many bytes: the code, and how many bytes of the image come before the zeros.
 type Asked = (&'static str, u32, (u32, u32), u8, usize);
 
-const PIECES: [Asked; 22] = [
+static PIECES: [Asked; 22] = [
     ("fewer than 32 bytes", 241, (0, 31), 0x83, 0),
     ("more than 240 bytes", 241, (0, 241), 0x83, 0),
     ("more than 32 bytes past the end", 241, (242, 32), 0x82, 0),
@@ -162,7 +162,7 @@ const PIECES: [Asked; 22] = [
 ];
 
 /// The same at the unit of 128 bytes.
-const LONG_PIECES: [Asked; 9] = [
+static LONG_PIECES: [Asked; 9] = [
     ("fewer than 32 bytes", 500, (0, 31), 0x83, 0),
     ("more than 496 bytes", 500, (0, 497), 0x83, 0),
     ("the greatest numbers", 500, (u32::MAX, u32::MAX), 0x83, 0),

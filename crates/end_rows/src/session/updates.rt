@@ -12,7 +12,7 @@ use std::test::Fail;
 use ua_core::{Cause, Lent, Session, SessionState};
 
 /// Nine components, one more than a plan has.
-const NINE: [Item<'static>; 9] = [
+static NINE: [Item<'static>; 9] = [
     Item {
         key: (10, 1),
         ..ITEM
@@ -128,7 +128,7 @@ fn a_session_starts_with_a_hundred_records(rt: HostRuntime) -> Result<(), Fail> 
 }
 
 /// The response codes for both components, how many are then updated, and the last of them.
-const RESPONSES: [(u8, u8, usize, usize); 7] = [
+static RESPONSES: [(u8, u8, usize, usize); 7] = [
     (0, 0, 2, 1),
     (0, 6, 1, 0),
     (6, 0, 1, 1),
@@ -185,7 +185,7 @@ fn wishes(alloc: Global, unit: Unit, lent: &Lent<'_>, turns: usize, expected: &[
 }
 
 /// The numbers of turns, and the command that is wished then.
-const WISHES: [(usize, &[u8]); 11] = [
+static WISHES: [(usize, &[u8]); 11] = [
     (0, &[0x01]),
     (1, &[0x02]),
     (2, &[0x1D]),
@@ -228,7 +228,7 @@ fn wishes_each_command_with_its_fields(rt: HostRuntime) -> Result<(), Fail> {
 }
 
 /// The number of components, the turns, and the flag of the table entry that is wished then.
-const FLAGS: [(usize, usize, TransferFlag); 4] = [
+static FLAGS: [(usize, usize, TransferFlag); 4] = [
     (1, 4, TransferFlag::StartAndEnd),
     (3, 4, TransferFlag::Start),
     (3, 5, TransferFlag::Middle),
@@ -287,7 +287,7 @@ fn asks_again(alloc: Global, lent: &Lent<'_>, turns: usize, state: SessionState)
 }
 
 /// The turns that lead to each state of one component's update that wishes a command.
-const WISHING: [(usize, SessionState); 7] = [
+static WISHING: [(usize, SessionState); 7] = [
     (0, SessionState::Query),
     (1, SessionState::Params),
     (2, SessionState::ClearOld),
@@ -324,7 +324,7 @@ fn leads(alloc: Global, draft: Draft<'_>, vendor: &[u8; 2], state: SessionState)
 }
 
 /// How many components the package has, the vendor's identifier, and where they lead.
-const NAMED: [(usize, [u8; 2], SessionState); 4] = [
+static NAMED: [(usize, [u8; 2], SessionState); 4] = [
     (1, [0x34, 0x12], SessionState::Params),
     (1, [0x34, 0x13], SessionState::Failed(Cause::NoRecord)),
     (

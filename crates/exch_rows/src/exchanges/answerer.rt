@@ -66,7 +66,7 @@ fn hold(steps: &[Step]) -> bool {
     true
 }
 
-const ROWS: [(&str, &[Step]); 3] = [
+static ROWS: [(&str, &[Step]); 3] = [
     (
         "one answer",
         &[

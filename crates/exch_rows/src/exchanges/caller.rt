@@ -112,7 +112,7 @@ fn give(run: &mut Run, turns: &[Turns<'_>]) -> bool {
     true
 }
 
-const ROWS: [(&str, &[Turns<'static>]); 5] = [
+static ROWS: [(&str, &[Turns<'static>]); 5] = [
     (
         "no answer",
         &[
@@ -189,7 +189,7 @@ fn heard(to: bool, tag: u8, bytes: &[u8]) -> Option<u8> {
 /// A situation: TO and the tag of a message, its bytes, and what is heard.
 type Row<'a> = (&'a str, bool, u8, [u8; 5], Option<u8>);
 
-const MESSAGES: [Row<'static>; 9] = [
+static MESSAGES: [Row<'static>; 9] = [
     ("its answer", false, 2, [1, 0x02, 5, 0x1B, 7], Some(7)),
     ("another identifier", false, 2, [1, 0x0A, 5, 0x1B, 7], None),
     ("another type", false, 2, [1, 0x02, 0, 0x1B, 7], None),

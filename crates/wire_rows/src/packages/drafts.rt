@@ -15,28 +15,28 @@ pub struct Draft<'a> {
 }
 
 /// Identifier and revision.
-const OPENING: [u8; 17] = [
+static OPENING: [u8; 17] = [
     0xF0, 0x18, 0x87, 0x8C, 0xCB, 0x7D, 0x49, 0x43, 0x98, 0x00, 0xA0, 0x2F, 0x05, 0x9A, 0xCA, 0x02,
     1,
 ];
 
 /// A record of 19 bytes with set text `A` and descriptor 0000, data 34 12, which uses components 1 and 2.
-const RECORD_A: [u8; 19] = [
+static RECORD_A: [u8; 19] = [
     19, 0, 1, 0, 0, 0, 0, 1, 1, 0, 0, 0x03, b'A', 0x00, 0x00, 2, 0, 0x34, 0x12,
 ];
 
 /// A record of 21 bytes with set text `B` and descriptor 0001, data 78 56 34 12, which uses component 2.
-const RECORD_B: [u8; 21] = [
+static RECORD_B: [u8; 21] = [
     21, 0, 1, 0, 0, 0, 0, 1, 1, 0, 0, 0x02, b'B', 0x01, 0x00, 4, 0, 0x78, 0x56, 0x34, 0x12,
 ];
 
 /// Component (10, 1) with no stamp and an empty image at 134, text `v1`.
-const COMPONENT_1: [u8; 24] = [
+static COMPONENT_1: [u8; 24] = [
     10, 0, 1, 0, 0xFF, 0xFF, 0xFF, 0xFF, 0, 0, 0, 0, 134, 0, 0, 0, 0, 0, 0, 0, 1, 2, b'v', b'1',
 ];
 
 /// Component (10, 2) with stamp 7, options 2 and an image of 300 bytes at 134, text `v2`.
-const COMPONENT_2: [u8; 24] = [
+static COMPONENT_2: [u8; 24] = [
     10, 0, 2, 0, 7, 0, 0, 0, 2, 0, 0, 0, 134, 0, 0, 0, 0x2C, 1, 0, 0, 1, 2, b'v', b'2',
 ];
 

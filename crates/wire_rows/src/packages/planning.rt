@@ -28,7 +28,7 @@ const OTHER_TYPE: Descriptor<'static> = Descriptor {
 };
 
 /// A device's descriptors, and the record that is for it.
-const CHOICES: [(&[Descriptor<'static>], Option<usize>); 6] = [
+static CHOICES: [(&[Descriptor<'static>], Option<usize>); 6] = [
     (&[SECOND], Some(1)),
     (&[FIRST, SECOND], Some(0)),
     (&[SECOND, FIRST], Some(0)),
@@ -81,7 +81,7 @@ fn fault_of(file: &[u8]) -> Option<PlanFault> {
 }
 
 /// Nine components without images and texts.
-const NINE: [&[u8]; 9] = [
+static NINE: [&[u8]; 9] = [
     &[
         10, 0, 1, 0, 0, 0, 0, 0, 0, 0, 0, 0, 0, 0, 0, 0, 0, 0, 0, 0, 1, 0,
     ],
@@ -164,7 +164,7 @@ fn twofold(identifier: u8, text: u8, set_text: u8) -> File {
 /// A situation: the second component's identifier and text, the set text, and the fault.
 type Row<'a> = (&'a str, u8, u8, u8, Option<PlanFault>);
 
-const FAULTS: [Row<'static>; 6] = [
+static FAULTS: [Row<'static>; 6] = [
     ("two keys, the longest text", 2, 200, 2, None),
     (
         "one key twice",

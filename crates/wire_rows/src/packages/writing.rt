@@ -56,18 +56,39 @@ const COMPONENT: AskedComponent<'static> = AskedComponent {
     size: 241,
 };
 
-/// The package of these records and components, without a version text.
-fn asked<'a>(
-    records: &'a [AskedRecord<'a>],
-    components: &'a [AskedComponent<'a>],
-) -> AskedPackage<'a> {
-    AskedPackage {
-        release: [0; 13],
-        version: b"",
-        records,
-        components,
-    }
-}
+/// The package of that record and component, without a version text.
+const PACKAGE: AskedPackage<'static> = AskedPackage {
+    release: [0; 13],
+    version: b"",
+    records: &[RECORD],
+    components: &[COMPONENT],
+};
+
+/// Packages, and their headers.
+static WRITTEN: [(AskedPackage<'static>, &[u8]); 2] = [
+    (PACKAGE, &ONE),
+    (
+        AskedPackage {
+            records: &[AskedRecord {
+                uses: &[0, 1],
+                ..RECORD
+            }],
+            components: &[
+                AskedComponent {
+                    size: 32,
+                    ..COMPONENT
+                },
+                AskedComponent {
+                    identifier: 2,
+                    size: 500,
+                    ..COMPONENT
+                },
+            ],
+            ..PACKAGE
+        },
+        &TWO,
+    ),
+];
 
 /// Whether a package's header is written as these bytes.
 fn is_written(package: &AskedPackage<'_>, bytes: &[u8]) -> bool {
@@ -77,25 +98,13 @@ fn is_written(package: &AskedPackage<'_>, bytes: &[u8]) -> bool {
 
 #[test]
 fn writes_a_header(rt: HostRuntime) {
-    assert!(rt; is_written(&asked(&[RECORD], &[COMPONENT]), &ONE));
-    let both = AskedRecord {
-        uses: &[0, 1],
-        ..RECORD
-    };
-    let first = AskedComponent {
-        size: 32,
-        ..COMPONENT
-    };
-    let second = AskedComponent {
-        identifier: 2,
-        size: 500,
-        ..COMPONENT
-    };
-    assert!(rt; is_written(&asked(&[both], &[first, second]), &TWO));
+    for (package, bytes) in &WRITTEN {
+        assert!(rt; is_written(package, bytes));
+    }
 }
 
 /// The package of two records that the other rows read, up to its last image's end.
-const WORKED: AskedPackage<'static> = AskedPackage {
+static WORKED: AskedPackage<'static> = AskedPackage {
     release: [0x15; 13],
     version: b"pkg",
     records: &[
@@ -134,17 +143,24 @@ const WORKED: AskedPackage<'static> = AskedPackage {
     ],
 };
 
+/// Whether these are its header, its last image and five bytes more, and it is read without those.
+fn is_written_worked(file: &[u8]) -> bool {
+    let (Some(header), Some(image), Some(package)) = (
+        file.get(..134),
+        file.get(134..434),
+        file.get(..434),
+    ) else {
+        return false;
+    };
+    file.len() == 439
+        && is_written(&WORKED, header)
+        && worked_rest().get(..300) == Some(image)
+        && Package::read(package).is_ok()
+}
+
 #[test]
 fn writes_the_package_of_two_records(rt: HostRuntime) {
-    let mut header = Header::new();
-    assert!(rt; WORKED.write_header(&mut header).is_ok());
-    let file = worked();
-    assert!(rt; file.len() == 439);
-    let (package, more) = file.as_slice().split_at(434);
-    let (before, image) = package.split_at(134);
-    assert!(rt; header.as_slice() == before && more.len() == 5);
-    assert!(rt; worked_rest().starts_with(image) && image.len() == 300);
-    assert!(rt; Package::read(package).is_ok());
+    assert!(rt; is_written_worked(worked().as_slice()));
 }
 
 /// Why a package can't be written, if there is a reason. What stood in the buffer stands there still.
@@ -158,82 +174,186 @@ fn fault_of(package: &AskedPackage<'_>) -> Option<AskedFault> {
     }
 }
 
+/// A situation: a package, and why it can't be written, if there is a reason.
+type Asking<'a> = (&'a str, AskedPackage<'a>, Option<AskedFault>);
+
+/// The package whose second record has these uses.
+macro_rules! using {
+    ($uses:expr) => {
+        AskedPackage {
+            records: &[
+                RECORD,
+                AskedRecord {
+                    uses: $uses,
+                    ..RECORD
+                },
+            ],
+            ..PACKAGE
+        }
+    };
+}
+
+static USES: [Asking<'static>; 7] = [
+    ("not there", using!(&[1]), Some(AskedFault::Uses)),
+    ("one twice", using!(&[0, 0]), Some(AskedFault::Uses)),
+    ("falling", using!(&[1, 0]), Some(AskedFault::Uses)),
+    ("rising, not there", using!(&[0, 1]), Some(AskedFault::Uses)),
+    (
+        "of no components",
+        AskedPackage {
+            components: &[],
+            ..PACKAGE
+        },
+        Some(AskedFault::Uses),
+    ),
+    (
+        "none of none",
+        AskedPackage {
+            records: &[AskedRecord {
+                uses: &[],
+                ..RECORD
+            }],
+            components: &[],
+            ..PACKAGE
+        },
+        None,
+    ),
+    (
+        "no records",
+        AskedPackage {
+            records: &[],
+            components: &[],
+            ..PACKAGE
+        },
+        None,
+    ),
+];
+
 #[test]
 fn refuses_components_that_do_not_rise_or_are_not_there(rt: HostRuntime) {
-    let uses: [&[u16]; 4] = [&[1], &[0, 0], &[1, 0], &[0, 1]];
-    for uses in uses {
-        let record = AskedRecord { uses, ..RECORD };
-        assert!(rt; fault_of(&asked(&[RECORD, record], &[COMPONENT])) == Some(AskedFault::Uses));
+    for (situation, package, fault) in &USES {
+        assert!(rt; fault_of(package) == *fault, "{situation}");
     }
-    assert!(rt; fault_of(&asked(&[RECORD], &[])) == Some(AskedFault::Uses));
-    let unused = AskedRecord {
-        uses: &[],
+}
+
+/// Texts of the package, of its record and of its component.
+macro_rules! texts {
+    ($text:expr, $fault:expr) => {
+        [
+            (
+                "a version",
+                AskedPackage {
+                    version: $text,
+                    ..PACKAGE
+                },
+                $fault,
+            ),
+            (
+                "a set text",
+                AskedPackage {
+                    records: &[AskedRecord {
+                        set_text: $text,
+                        ..RECORD
+                    }],
+                    ..PACKAGE
+                },
+                $fault,
+            ),
+            (
+                "a component's text",
+                AskedPackage {
+                    components: &[AskedComponent {
+                        text: $text,
+                        ..COMPONENT
+                    }],
+                    ..PACKAGE
+                },
+                $fault,
+            ),
+        ]
+    };
+}
+
+static TEXTS: [[Asking<'static>; 3]; 2] = [
+    texts!(&[b'x'; 255], None),
+    texts!(&[b'x'; 256], Some(AskedFault::Limit)),
+];
+
+#[test]
+fn refuses_what_is_too_long(rt: HostRuntime) {
+    for rows in &TEXTS {
+        for (situation, package, fault) in rows {
+            assert!(rt; fault_of(package) == *fault, "{situation}");
+        }
+    }
+}
+
+/// The package of these records and components, without a version text.
+fn asked<'a>(
+    records: &'a [AskedRecord<'a>],
+    components: &'a [AskedComponent<'a>],
+) -> AskedPackage<'a> {
+    AskedPackage {
+        release: [0; 13],
+        version: b"",
+        records,
+        components,
+    }
+}
+
+/// The fault of a package whose record has these descriptors.
+fn fault_with(descriptors: &[Descriptor<'_>]) -> Option<AskedFault> {
+    let record = AskedRecord {
+        descriptors,
         ..RECORD
     };
-    assert!(rt; fault_of(&asked(&[unused], &[])).is_none());
-    assert!(rt; fault_of(&asked(&[], &[])).is_none());
+    fault_of(&asked(&[record], &[COMPONENT]))
+}
+
+/// The fault of a package with these records.
+fn fault_of_records(records: &[AskedRecord<'_>]) -> Option<AskedFault> {
+    fault_of(&asked(records, &[COMPONENT]))
+}
+
+#[test]
+fn refuses_what_is_too_many(rt: HostRuntime) {
+    let descriptors = [FIRST; 256];
+    assert!(rt; fault_with(&descriptors[..255]).is_none());
+    assert!(rt; fault_with(&descriptors) == Some(AskedFault::Limit));
+    let records = [RECORD; 256];
+    assert!(rt; fault_of_records(&records[..255]).is_none());
+    assert!(rt; fault_of_records(&records) == Some(AskedFault::Limit));
 }
 
 /// Bytes for what is as long as it may be.
 static LONG: [u8; 65_535] = [b'x'; 65_535];
 
 #[test]
-fn refuses_what_is_too_long(rt: HostRuntime) {
-    let (short, long) = (&LONG[..255], &LONG[..256]);
-    for (text, fault) in [(short, None), (long, Some(AskedFault::Limit))] {
-        let version = AskedPackage {
-            version: text,
-            ..asked(&[RECORD], &[COMPONENT])
-        };
-        assert!(rt; fault_of(&version) == fault);
-        let record = AskedRecord {
-            set_text: text,
-            ..RECORD
-        };
-        assert!(rt; fault_of(&asked(&[record], &[COMPONENT])) == fault);
-        let component = AskedComponent { text, ..COMPONENT };
-        assert!(rt; fault_of(&asked(&[RECORD], &[component])) == fault);
-    }
-}
-
-#[test]
-fn refuses_what_is_too_many(rt: HostRuntime) {
-    let descriptors = [FIRST; 256];
-    let records = [RECORD; 256];
-    for (count, fault) in [(255, None), (256, Some(AskedFault::Limit))] {
-        let record = AskedRecord {
-            descriptors: &descriptors[..count],
-            ..RECORD
-        };
-        assert!(rt; fault_of(&asked(&[record], &[COMPONENT])) == fault);
-        assert!(rt; fault_of(&asked(&records[..count], &[COMPONENT])) == fault);
-    }
-}
-
-#[test]
 fn refuses_a_header_of_more_than_its_size_can_tell(rt: HostRuntime) {
-    for (size, fault) in [(65_535 - 84, None), (65_535 - 83, Some(AskedFault::Limit))] {
-        let descriptor = Descriptor {
-            kind: 0,
-            bytes: &LONG[..size],
-        };
-        let record = AskedRecord {
-            descriptors: &[descriptor],
-            ..RECORD
-        };
-        assert!(rt; fault_of(&asked(&[record], &[COMPONENT])) == fault);
-    }
+    let longest = Descriptor {
+        kind: 0,
+        bytes: &LONG[..65_535 - 84],
+    };
+    let longer = Descriptor {
+        kind: 0,
+        bytes: &LONG[..65_535 - 83],
+    };
+    assert!(rt; fault_with(&[longest]).is_none());
+    assert!(rt; fault_with(&[longer]) == Some(AskedFault::Limit));
 }
+
+/// The fault of a package whose second component has an image of this size.
+fn fault_of_size(size: usize) -> Option<AskedFault> {
+    let large = AskedComponent { size, ..COMPONENT };
+    fault_of(&asked(&[RECORD], &[COMPONENT, large]))
+}
+
+/// The bytes of a file with two components, at most, without the second one's image.
+const ROOM: usize = 4_294_967_295 - 110 - 241;
 
 #[test]
 fn refuses_a_file_of_more_than_an_offset_can_tell(rt: HostRuntime) {
-    let room = 4_294_967_295 - 110;
-    for (size, fault) in [
-        (room - 241, None),
-        (room - 240, Some(AskedFault::Limit)),
-        (usize::MAX, Some(AskedFault::Limit)),
-    ] {
-        let large = AskedComponent { size, ..COMPONENT };
-        assert!(rt; fault_of(&asked(&[RECORD], &[COMPONENT, large])) == fault);
-    }
+    assert!(rt; fault_of_size(ROOM).is_none());
+    assert!(rt; fault_of_size(ROOM + 1) == Some(AskedFault::Limit));
+    assert!(rt; fault_of_size(usize::MAX) == Some(AskedFault::Limit));
 }
