@@ -9,4 +9,5 @@ mod rough;
 mod runs;
 mod setup;
 mod stories;
+mod trials;
 mod units;

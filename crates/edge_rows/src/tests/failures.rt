@@ -1,19 +1,19 @@
 //! Runs in which one call of the device's bank fails.
 
-use crate::tests::packages::{file, package};
 use crate::tests::setup::{
     DEVICE, KEY, Small, driven, is_updated, runs_first, stands, start, step, tells, world,
 };
+use crate::tests::trials::{Trial, holds};
 use fd_core::{Bank, State};
 use fw_edge::{Driven, MemLink};
+use fw_package::Package;
 use fw_world::{Missed, Step};
 use mctp_wire::Unit;
-use std::alloc::Global;
-use std::test::Fail;
+use std::alloc::{AllocError, Global};
 use ua_core::{Cause, SessionState};
 
 /// What a failing call leads to.
-struct Failure {
+pub struct Failure {
     /// Which of the calls begin, put, put, seal and switch fails, counted from 1.
     call: u64,
     /// The turns after which the session has failed, and why.
@@ -29,7 +29,7 @@ struct Failure {
 }
 
 /// A row for each call.
-const FAILURES: [Failure; 5] = [
+static FAILURES: [Failure; 5] = [
     Failure {
         call: 1,
         turns: 6,
@@ -132,10 +132,12 @@ fn is_done(world: &Small<'_>, driven: Option<Driven>) -> bool {
 }
 
 /// Whether a world in which that call fails goes as the row says, then rests, and is then updated.
-fn goes_so(alloc: Global, failure: &Failure) -> Result<bool, Fail> {
-    let bytes = file(alloc)?;
-    let packages = [package(&bytes)?];
-    let mut world = world(alloc, Unit::U64, &packages, 1, failure.call)?;
+pub fn fails_and_goes_on<'a>(
+    alloc: Global,
+    packages: &'a [Package<'a>],
+    failure: &Failure,
+) -> Result<bool, AllocError> {
+    let mut world = world(alloc, Unit::U64, packages, 1, failure.call)?;
     let mut links = [MemLink::new(alloc)];
     let failed = update(alloc, &mut world, &mut links);
     let fails = fails_so(&world, failed, failure);
@@ -145,11 +147,12 @@ fn goes_so(alloc: Global, failure: &Failure) -> Result<bool, Fail> {
 }
 
 #[test]
-fn an_update_ends_where_a_call_of_the_bank_fails_and_the_next_is_done(
-    rt: HostRuntime,
-) -> Result<(), Fail> {
+fn an_update_ends_where_a_call_of_the_bank_fails_and_the_next_is_done(rt: HostRuntime) {
     for failure in &FAILURES {
-        assert!(rt; goes_so(rt.alloc(), failure)?, "{}", failure.call);
+        assert!(rt;
+            holds(rt.alloc(), Trial::BankFails(failure)),
+            "{}",
+            failure.call
+        );
     }
-    Ok(())
 }

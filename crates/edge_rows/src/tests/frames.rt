@@ -7,7 +7,7 @@ use std::io::{self, Read, Write};
 use std::test::Fail;
 
 /// The control message Get Endpoint ID from 8 to 9, as a frame.
-const FRAME: [u8; 9] = [0x07, 0x00, 0x01, 0x09, 0x08, 0xC8, 0x00, 0x80, 0x02];
+static FRAME: [u8; 9] = [0x07, 0x00, 0x01, 0x09, 0x08, 0xC8, 0x00, 0x80, 0x02];
 
 /// Its packet.
 const PACKET: &[u8] = &[0x01, 0x09, 0x08, 0xC8, 0x00, 0x80, 0x02];
@@ -31,56 +31,55 @@ fn a_frame_is_its_length_and_its_packet(rt: HostRuntime) -> Result<(), Fail> {
     Ok(())
 }
 
+/// A situation: the bytes, and their fault at a unit of 64 and of 128.
+static FAULTS: [(&str, &[u8], FrameFault, FrameFault); 10] = [
+    ("nothing", &[], FrameFault::End, FrameFault::End),
+    ("half a length", &[0x07], FrameFault::Cut, FrameFault::Cut),
+    ("a length", &[0x07, 0x00], FrameFault::Cut, FrameFault::Cut),
+    (
+        "a part of a packet",
+        &[0x07, 0x00, 0x01, 0x09],
+        FrameFault::Cut,
+        FrameFault::Cut,
+    ),
+    (
+        "length 0",
+        &[0x00, 0x00],
+        FrameFault::Size,
+        FrameFault::Size,
+    ),
+    ("length 68", &[0x44, 0x00], FrameFault::Cut, FrameFault::Cut),
+    (
+        "length 69",
+        &[0x45, 0x00],
+        FrameFault::Size,
+        FrameFault::Cut,
+    ),
+    (
+        "length 132",
+        &[0x84, 0x00],
+        FrameFault::Size,
+        FrameFault::Cut,
+    ),
+    (
+        "length 133",
+        &[0x85, 0x00],
+        FrameFault::Size,
+        FrameFault::Size,
+    ),
+    (
+        "length 256",
+        &[0x00, 0x01],
+        FrameFault::Size,
+        FrameFault::Size,
+    ),
+];
+
 #[test]
 fn what_is_no_frame_is_named(rt: HostRuntime) {
-    let table: [(&str, &[u8], FrameFault, FrameFault); 10] = [
-        ("nothing", &[], FrameFault::End, FrameFault::End),
-        ("half a length", &[0x07], FrameFault::Cut, FrameFault::Cut),
-        ("a length", &[0x07, 0x00], FrameFault::Cut, FrameFault::Cut),
-        (
-            "a part of a packet",
-            &[0x07, 0x00, 0x01, 0x09],
-            FrameFault::Cut,
-            FrameFault::Cut,
-        ),
-        (
-            "length 0",
-            &[0x00, 0x00],
-            FrameFault::Size,
-            FrameFault::Size,
-        ),
-        ("length 68", &[0x44, 0x00], FrameFault::Cut, FrameFault::Cut),
-        (
-            "length 69",
-            &[0x45, 0x00],
-            FrameFault::Size,
-            FrameFault::Cut,
-        ),
-        (
-            "length 132",
-            &[0x84, 0x00],
-            FrameFault::Size,
-            FrameFault::Cut,
-        ),
-        (
-            "length 133",
-            &[0x85, 0x00],
-            FrameFault::Size,
-            FrameFault::Size,
-        ),
-        (
-            "length 256",
-            &[0x00, 0x01],
-            FrameFault::Size,
-            FrameFault::Size,
-        ),
-    ];
-    for (situation, bytes, at_64, at_128) in table {
-        assert!(rt; read(Unit::U64, bytes).err() == Some(at_64), "{situation}");
-        assert!(rt;
-            read(Unit::U128, bytes).err() == Some(at_128),
-            "{situation}"
-        );
+    for (situation, bytes, at_64, at_128) in &FAULTS {
+        let faults = (read(Unit::U64, bytes).err(), read(Unit::U128, bytes).err());
+        assert!(rt; faults == (Some(*at_64), Some(*at_128)), "{situation}");
     }
 }
 

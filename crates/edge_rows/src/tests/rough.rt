@@ -1,15 +1,14 @@
 //! Links that are bad on purpose.
 
-use crate::tests::packages::{file, package};
-use crate::tests::runs::started;
-use crate::tests::setup::{DEVICE, driven, is_updated, runs_first, stands};
-use fd_core::State;
+use crate::tests::runs::{is_silent, started};
+use crate::tests::setup::{DEVICE, driven_over, is_updated, runs_first};
+use crate::tests::trials::{Trial, holds};
 use fw_edge::{Link, MemLink, Rough, Roughness};
+use fw_package::Package;
 use fw_world::Side;
 use mctp_wire::RawPacket;
 use std::alloc::{AllocError, Global};
 use std::test::Fail;
-use ua_core::{Cause, SessionState};
 
 /// So many of a hundred packets lost, and twice, and so many turns late at most, by the chances of a seed.
 fn roughness(loss: u8, duplicate: u8, delay: u8, seed: u64) -> Roughness {
@@ -67,84 +66,103 @@ fn comes(alloc: Global, asked: Roughness, last: u8, turns: usize) -> Result<Vec<
     Ok(came)
 }
 
-#[test]
-fn at_none_and_at_all_nothing_is_left_to_chance(rt: HostRuntime) -> Result<(), Fail> {
-    let table: [(&str, u8, u8, &[u8]); 4] = [
-        ("none is lost, none comes twice", 0, 0, &[1, 2, 3]),
-        ("each is lost", 100, 0, &[]),
-        ("each comes twice", 0, 100, &[1, 1, 2, 2, 3, 3]),
-        ("each is lost, and none comes twice", 100, 100, &[]),
-    ];
-    for (situation, loss, duplicate, want) in table {
-        for seed in 0..3 {
-            let came = comes(rt.alloc(), roughness(loss, duplicate, 0, seed), 3, 1)?;
-            assert!(rt; came.as_slice() == want, "{situation}");
+/// A situation: how many of a hundred packets are lost, how many come twice, and what comes of three.
+static CERTAIN: [(&str, u8, u8, &[u8]); 4] = [
+    ("none is lost, none comes twice", 0, 0, &[1, 2, 3]),
+    ("each is lost", 100, 0, &[]),
+    ("each comes twice", 0, 100, &[1, 1, 2, 2, 3, 3]),
+    ("each is lost, and none comes twice", 100, 100, &[]),
+];
+
+/// Whether this comes of three packets by the chances of three seeds.
+fn comes_so(alloc: Global, loss: u8, duplicate: u8, want: &[u8]) -> bool {
+    for seed in 0..3 {
+        match comes(alloc, roughness(loss, duplicate, 0, seed), 3, 1) {
+            Ok(came) if came.as_slice() == want => {}
+            _ => return false,
         }
     }
-    Ok(())
+    true
 }
 
 #[test]
-fn each_packet_comes_once_and_late_by_no_more_turns(rt: HostRuntime) -> Result<(), Fail> {
-    for seed in 0..10 {
-        let mut came = comes(rt.alloc(), roughness(0, 0, 8, seed), 40, 9)?;
-        came.sort()?;
-        assert!(rt; came.len() == 40);
-        for (place, number) in came.iter().enumerate() {
-            assert!(rt; usize::from(*number) == place + 1);
+fn at_none_and_at_all_nothing_is_left_to_chance(rt: HostRuntime) {
+    for (situation, loss, duplicate, want) in &CERTAIN {
+        assert!(rt;
+            comes_so(rt.alloc(), *loss, *duplicate, want),
+            "{situation}"
+        );
+    }
+}
+
+/// Whether these are the numbers 1 to 40.
+fn are_forty(came: &[u8]) -> bool {
+    for (place, number) in came.iter().enumerate() {
+        if usize::from(*number) != place + 1 {
+            return false;
         }
     }
-    Ok(())
+    came.len() == 40
+}
+
+/// Whether each of forty packets comes once by a seed's chances, and late by eight turns at most.
+fn each_comes_once(alloc: Global, seed: u64) -> bool {
+    match comes(alloc, roughness(0, 0, 8, seed), 40, 9) {
+        Ok(mut came) => came.sort().is_ok() && are_forty(&came),
+        Err(_) => false,
+    }
+}
+
+#[test]
+fn each_packet_comes_once_and_late_by_no_more_turns(rt: HostRuntime) {
+    for seed in 0..10 {
+        assert!(rt; each_comes_once(rt.alloc(), seed));
+    }
+}
+
+/// Whether a seed gives the same twice, and another seed something else.
+fn is_repeated(alloc: Global) -> Result<bool, AllocError> {
+    let first = comes(alloc, roughness(30, 30, 5, 1), 100, 6)?;
+    let again = comes(alloc, roughness(30, 30, 5, 1), 100, 6)?;
+    let other = comes(alloc, roughness(30, 30, 5, 2), 100, 6)?;
+    Ok(first.as_slice() == again.as_slice() && first.as_slice() != other.as_slice())
 }
 
 #[test]
 fn a_seed_gives_the_same_again(rt: HostRuntime) -> Result<(), Fail> {
-    let first = comes(rt.alloc(), roughness(30, 30, 5, 1), 100, 6)?;
-    let again = comes(rt.alloc(), roughness(30, 30, 5, 1), 100, 6)?;
-    let other = comes(rt.alloc(), roughness(30, 30, 5, 2), 100, 6)?;
-    assert!(rt; first.as_slice() == again.as_slice());
-    assert!(rt; first.as_slice() != other.as_slice());
+    assert!(rt; is_repeated(rt.alloc())?);
     Ok(())
 }
 
 /// Whether the worked update ends over such a link, and the device runs the worked image or the one with which it came.
-fn ends(alloc: Global, asked: Roughness) -> Result<bool, Fail> {
-    let bytes = file(alloc)?;
-    let packages = [package(&bytes)?];
-    let mut world = started(alloc, &packages)?;
+pub fn ends<'a>(
+    alloc: Global,
+    packages: &'a [Package<'a>],
+    asked: Roughness,
+) -> Result<bool, AllocError> {
+    let mut world = started(alloc, packages)?;
     let mut links = [rough(alloc, asked)];
-    let mut steps = Vec::new(alloc);
-    let ended = driven(&mut world, &mut links, 5000, &mut steps).is_ok_and(|run| run.turns < 5000);
+    let ended = match driven_over(alloc, &mut world, &mut links, 5000) {
+        Some(run) => run.turns < 5000,
+        None => false,
+    };
     Ok(ended && (is_updated(&world, DEVICE) || runs_first(&world, DEVICE)))
 }
 
 #[test]
-fn an_update_over_rough_links_ends_with_one_image_or_the_other(
-    rt: HostRuntime,
-) -> Result<(), Fail> {
+fn an_update_over_rough_links_ends_with_one_image_or_the_other(rt: HostRuntime) {
     for seed in 0..10 {
-        assert!(rt; ends(rt.alloc(), roughness(20, 10, 3, seed))?);
+        assert!(rt; holds(rt.alloc(), Trial::EndsRoughly(roughness(20, 10, 3, seed))));
     }
-    Ok(())
+}
+
+/// Whether the worked update over a link that loses all is silent.
+pub fn loses_all<'a>(alloc: Global, packages: &'a [Package<'a>]) -> Result<bool, AllocError> {
+    let mut links = [rough(alloc, roughness(100, 0, 0, 1))];
+    is_silent(alloc, packages, &mut links)
 }
 
 #[test]
-fn an_update_over_a_link_that_loses_all_is_silent(rt: HostRuntime) -> Result<(), Fail> {
-    let bytes = file(rt.alloc())?;
-    let packages = [package(&bytes)?];
-    let mut world = started(rt.alloc(), &packages)?;
-    let mut links = [rough(rt.alloc(), roughness(100, 0, 0, 1))];
-    let mut steps = Vec::new(rt.alloc());
-    let run = driven(&mut world, &mut links, 100, &mut steps)?;
-    assert!(rt; run.turns == 19 && run.foreign == 0);
-    assert!(rt;
-        stands(
-            &world,
-            DEVICE,
-            SessionState::Failed(Cause::Silent),
-            State::Idle,
-            3
-        )
-    );
-    Ok(())
+fn an_update_over_a_link_that_loses_all_is_silent(rt: HostRuntime) {
+    assert!(rt; holds(rt.alloc(), Trial::LosesAll));
 }

@@ -3,8 +3,9 @@
 use crate::tests::links::{BadLink, Trouble};
 use crate::tests::packages::{file, package};
 use crate::tests::setup::{
-    DEVICE, Small, driven, is_updated, runs_first, stands, start, tells, world,
+    DEVICE, Small, driven, driven_over, is_updated, runs_first, stands, start, tells, world,
 };
+use crate::tests::trials::{Trial, holds};
 use fd_core::State;
 use fw_edge::{Driven, EdgeFault, Link, MemLink};
 use fw_package::Package;
@@ -24,12 +25,12 @@ pub fn started<'a>(alloc: Global, packages: &'a [Package<'a>]) -> Result<Small<'
 }
 
 /// A link's trouble, and after how many turns, with how many foreign frames and packets, the worked world is then updated.
-type Row = (&'static str, Trouble, u32, u64, usize);
+pub type Row = (&'static str, Trouble, u32, u64, usize);
 
 /// Where the answer to UpdateComponent, packet 12, is lost, the device asks for data at 7 to 12, in vain, since the agent waits
 /// for that answer, which comes again at 12. Its data requests are then at 13 and 14, its completions wait for the tags of those
 /// at 7, 8 and 9: until 47 to 49.
-const ROWS: [Row; 4] = [
+static ROWS: [Row; 4] = [
     ("nothing is lost", Trouble::Loses(0), 12, 0, 27),
     ("the first answer is lost", Trouble::Loses(2), 18, 0, 29),
     (
@@ -48,37 +49,37 @@ const ROWS: [Row; 4] = [
     ),
 ];
 
+/// Whether the worked world is updated at this time, by so many packets.
+fn is_updated_at(world: &Small<'_>, now: u32, sent: usize) -> bool {
+    world.now() == now
+        && tells(world, b"ARV")
+        && is_updated(world, DEVICE)
+        && stands(world, DEVICE, SessionState::Done, State::Activate, sent)
+}
+
 /// Whether the worked world, driven over such a link, ends updated as the row says.
-fn updates(alloc: Global, row: Row) -> Result<bool, Fail> {
-    let (_, trouble, turns, foreign, sent) = row;
-    let bytes = file(alloc)?;
-    let packages = [package(&bytes)?];
-    let mut world = started(alloc, &packages)?;
+pub fn updates<'a>(
+    alloc: Global,
+    packages: &'a [Package<'a>],
+    row: &Row,
+) -> Result<bool, AllocError> {
+    let (_, trouble, turns, foreign, sent) = *row;
+    let mut world = started(alloc, packages)?;
     let mut links = [BadLink::new(alloc, trouble)];
-    let mut steps = Vec::new(alloc);
-    let driven = driven(&mut world, &mut links, 100, &mut steps);
-    Ok(
-        driven == Ok(Driven { turns, foreign })
-            && world.now() == turns
-            && tells(&world, b"ARV")
-            && is_updated(&world, DEVICE)
-            && stands(&world, DEVICE, SessionState::Done, State::Activate, sent),
-    )
+    let driven = driven_over(alloc, &mut world, &mut links, 100);
+    Ok(driven == Some(Driven { turns, foreign }) && is_updated_at(&world, turns, sent))
 }
 
 #[test]
-fn an_update_takes_so_many_turns_over_each_link(rt: HostRuntime) -> Result<(), Fail> {
-    for row in ROWS {
-        assert!(rt; updates(rt.alloc(), row)?, "{}", row.0);
+fn an_update_takes_so_many_turns_over_each_link(rt: HostRuntime) {
+    for row in &ROWS {
+        assert!(rt; holds(rt.alloc(), Trial::Updates(row)), "{}", row.0);
     }
-    Ok(())
 }
 
 /// Whether a link that gives forged frames whenever it is asked lets three ticks pass and nothing else.
-fn passes_ticks(alloc: Global) -> Result<bool, Fail> {
-    let bytes = file(alloc)?;
-    let packages = [package(&bytes)?];
-    let mut world = started(alloc, &packages)?;
+pub fn passes_ticks<'a>(alloc: Global, packages: &'a [Package<'a>]) -> Result<bool, AllocError> {
+    let mut world = started(alloc, packages)?;
     let mut steps = Vec::new(alloc);
     let mut links = [BadLink::new(alloc, Trouble::ForgesAlways)];
     let driven = driven(&mut world, &mut links, 3, &mut steps);
@@ -92,9 +93,8 @@ fn passes_ticks(alloc: Global) -> Result<bool, Fail> {
 }
 
 #[test]
-fn a_link_that_gives_forged_frames_without_end_stops_no_turn(rt: HostRuntime) -> Result<(), Fail> {
-    assert!(rt; passes_ticks(rt.alloc())?);
-    Ok(())
+fn a_link_that_gives_forged_frames_without_end_stops_no_turn(rt: HostRuntime) {
+    assert!(rt; holds(rt.alloc(), Trial::PassesTicks));
 }
 
 /// Whether a fresh world that takes these steps is this world, as far as it shows.
@@ -120,40 +120,39 @@ fn is_replay<'a>(
 }
 
 /// Drives the worked world over a link that fails in its `k`-th call: whether it didn't; None where the outcome isn't right.
-fn fails_at(alloc: Global, k: u64) -> Result<Option<bool>, Fail> {
-    let bytes = file(alloc)?;
-    let packages = [package(&bytes)?];
-    let mut world = started(alloc, &packages)?;
+fn fails_at<'a>(
+    alloc: Global,
+    packages: &'a [Package<'a>],
+    k: u64,
+) -> Result<Option<bool>, AllocError> {
+    let mut world = started(alloc, packages)?;
     let mut steps = Vec::new(alloc);
     let mut links = [BadLink::new(alloc, Trouble::Fails(k))];
     let driven = driven(&mut world, &mut links, 100, &mut steps);
-    if !is_replay(alloc, &packages, &world, &steps)? {
-        return Ok(None);
-    }
+    let same = is_replay(alloc, packages, &world, &steps)?;
     let [link] = &links;
-    match (driven, link.failures()) {
-        (Ok(_), 0) => Ok(Some(true)),
-        (Err(EdgeFault::Frame), 1) => Ok(Some(false)),
-        _ => Ok(None),
-    }
+    Ok(match (driven, link.failures()) {
+        (Ok(_), 0) if same => Some(true),
+        (Err(EdgeFault::Frame), 1) if same => Some(false),
+        _ => None,
+    })
 }
 
-/// The number of the first call whose failure the run doesn't meet; None where one's outcome isn't right.
-fn calls(alloc: Global) -> Result<Option<u64>, Fail> {
+/// Whether each call fails so, up to one whose failure the run doesn't meet.
+pub fn fails_at_each<'a>(alloc: Global, packages: &'a [Package<'a>]) -> Result<bool, AllocError> {
     for k in 1..1_000 {
-        match fails_at(alloc, k)? {
-            Some(true) => return Ok(Some(k)),
+        match fails_at(alloc, packages, k)? {
+            Some(true) => return Ok(true),
             Some(false) => {}
-            None => return Ok(None),
+            None => return Ok(false),
         }
     }
-    Ok(None)
+    Ok(false)
 }
 
 #[test]
-fn a_link_that_fails_ends_the_run_at_a_replay_of_its_steps(rt: HostRuntime) -> Result<(), Fail> {
-    assert!(rt; calls(rt.alloc())?.is_some());
-    Ok(())
+fn a_link_that_fails_ends_the_run_at_a_replay_of_its_steps(rt: HostRuntime) {
+    assert!(rt; holds(rt.alloc(), Trial::FailsAtEach));
 }
 
 /// Whether the worked world is driven over a link in memory until its update is done, or has failed since its device's bank had no
@@ -191,28 +190,34 @@ fn refused_memory_hands_back_the_steps_taken(rt: HostRuntime) -> Result<(), Fail
     Ok(())
 }
 
-/// Whether the worked world, driven over a link that gives each packet back at its sender's end, fails as over one that loses all:
-/// what comes back is a packet of the pair, and its sender isn't whom it is for.
-fn hears_itself(alloc: Global) -> Result<bool, Fail> {
-    let bytes = file(alloc)?;
-    let packages = [package(&bytes)?];
-    let mut world = started(alloc, &packages)?;
-    let mut links = [BadLink::new(alloc, Trouble::Echoes)];
-    let mut steps = Vec::new(alloc);
-    let driven = driven(&mut world, &mut links, 100, &mut steps);
+/// Whether the worked world, driven over such a link, fails in turn 19, since the device answers nothing, and runs its first image.
+pub fn is_silent<'a, L: Link>(
+    alloc: Global,
+    packages: &'a [Package<'a>],
+    links: &mut [L],
+) -> Result<bool, AllocError> {
+    let mut world = started(alloc, packages)?;
+    let driven = driven_over(alloc, &mut world, links, 100);
     let (turns, foreign) = (19, 0);
     let silent = SessionState::Failed(Cause::Silent);
     Ok(
-        driven == Ok(Driven { turns, foreign })
+        driven == Some(Driven { turns, foreign })
             && stands(&world, DEVICE, silent, State::Idle, 3)
             && runs_first(&world, DEVICE),
     )
 }
 
+/// Whether a link that gives each packet back at its sender's end is as silent.
+pub fn echoes<'a>(alloc: Global, packages: &'a [Package<'a>]) -> Result<bool, AllocError> {
+    let mut links = [BadLink::new(alloc, Trouble::Echoes)];
+    is_silent(alloc, packages, &mut links)
+}
+
+/// A link that gives each packet back at its sender's end fails as one that loses all: what comes back is a packet of the pair, and
+/// its sender isn't whom it is for.
 #[test]
-fn a_packet_at_its_senders_end_is_for_nobody(rt: HostRuntime) -> Result<(), Fail> {
-    assert!(rt; hears_itself(rt.alloc())?);
-    Ok(())
+fn a_packet_at_its_senders_end_is_for_nobody(rt: HostRuntime) {
+    assert!(rt; holds(rt.alloc(), Trial::Echoes));
 }
 
 /// The world of devices 9 to 11 with their updates started, driven over links of which the second has this trouble, and the turns
@@ -221,7 +226,7 @@ fn three<'a>(
     alloc: Global,
     packages: &'a [Package<'a>],
     trouble: Trouble,
-) -> Result<(Small<'a>, Option<u32>), Fail> {
+) -> Result<(Small<'a>, Option<u32>), AllocError> {
     let mut world = world(alloc, Unit::U64, packages, 3, 0)?;
     let started = start(&mut world, 9) && start(&mut world, 10) && start(&mut world, 11);
     let mut steps = Vec::new(alloc);
@@ -255,31 +260,34 @@ fn sent_alike(one: &Small<'_>, other: &Small<'_>, device: u8) -> bool {
     packets.len() == others.len()
 }
 
-/// Whether devices 9 to 11 are all done in turn 12 over perfect links; and where the link of 10 loses every packet, 9 and 11 are done
-/// by the same packets, and 10 is given up as it was, in turn 19.
-fn one_fails_alone(alloc: Global) -> Result<bool, Fail> {
-    let bytes = file(alloc)?;
-    let packages = [package(&bytes)?];
-    let (well, turns) = three(alloc, &packages, Trouble::Loses(0))?;
-    let done = turns == Some(12)
-        && is_done(&well, 9, State::Activate)
-        && is_done(&well, 10, State::Activate)
-        && is_done(&well, 11, State::Activate);
-    let (world, turns) = three(alloc, &packages, Trouble::LosesAll)?;
+/// Whether all three are done.
+fn all_done(world: &Small<'_>) -> bool {
+    is_done(world, 9, State::Activate)
+        && is_done(world, 10, State::Activate)
+        && is_done(world, 11, State::Activate)
+}
+
+/// Whether 10 is given up as it was, and 9 and 11 are done by the same packets as in a world where all is well.
+fn one_is_silent(world: &Small<'_>, well: &Small<'_>) -> bool {
     let silent = SessionState::Failed(Cause::Silent);
-    Ok(
-        done && turns == Some(19)
-            && is_done(&world, 9, State::Idle)
-            && is_done(&world, 11, State::Idle)
-            && sent_alike(&well, &world, 9)
-            && sent_alike(&well, &world, 11)
-            && stands(&world, 10, silent, State::Idle, 3)
-            && runs_first(&world, 10),
-    )
+    is_done(world, 9, State::Idle)
+        && is_done(world, 11, State::Idle)
+        && sent_alike(well, world, 9)
+        && sent_alike(well, world, 11)
+        && stands(world, 10, silent, State::Idle, 3)
+        && runs_first(world, 10)
+}
+
+/// Whether devices 9 to 11 are all done in turn 12 over perfect links; and where the link of 10 loses every packet, it alone fails, in
+/// turn 19.
+pub fn one_fails_alone<'a>(alloc: Global, packages: &'a [Package<'a>]) -> Result<bool, AllocError> {
+    let (well, turns) = three(alloc, packages, Trouble::Loses(0))?;
+    let done = turns == Some(12) && all_done(&well);
+    let (world, turns) = three(alloc, packages, Trouble::LosesAll)?;
+    Ok(done && turns == Some(19) && one_is_silent(&world, &well))
 }
 
 #[test]
-fn one_silent_device_of_three_fails_alone(rt: HostRuntime) -> Result<(), Fail> {
-    assert!(rt; one_fails_alone(rt.alloc())?);
-    Ok(())
+fn one_silent_device_of_three_fails_alone(rt: HostRuntime) {
+    assert!(rt; holds(rt.alloc(), Trial::OneFailsAlone));
 }

@@ -154,6 +154,17 @@ pub fn driven<L: Link>(
     drive(world, links, turns, steps)
 }
 
+/// Drives a world over its links, and lets the steps go.
+pub fn driven_over<L: Link>(
+    alloc: Global,
+    world: &mut Small<'_>,
+    links: &mut [L],
+    turns: u32,
+) -> Option<Driven> {
+    let mut steps = Vec::new(alloc);
+    driven(world, links, turns, &mut steps).ok()
+}
+
 /// Whether a device and its session stand so, and so many packets were sent between it and the agent.
 pub fn stands(
     world: &Small<'_>,

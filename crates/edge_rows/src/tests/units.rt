@@ -1,21 +1,21 @@
 //! Runs at each transmission unit.
 
-use crate::tests::packages::{file, package};
 use crate::tests::setup::{
-    DEVICE, Small, driven, is_updated, runs_first, stands, start, tells, world,
+    DEVICE, Small, driven_over, is_updated, runs_first, stands, start, tells, world,
 };
+use crate::tests::trials::{Trial, holds};
 use fd_core::State;
 use fw_edge::{Driven, MemLink};
+use fw_package::Package;
 use fw_world::SentPackets;
 use mctp_wire::Unit;
-use std::alloc::Global;
-use std::test::Fail;
+use std::alloc::{AllocError, Global};
 use ua_core::SessionState;
 
 /// The worked update over a perfect link: after how many turns and packets it is done, and the offsets and lengths of the pieces
 /// that the device asks for.
 #[derive(Clone, Copy)]
-struct Row {
+pub struct Row {
     unit: Unit,
     turns: u32,
     sent: usize,
@@ -23,7 +23,7 @@ struct Row {
 }
 
 /// A piece of the image of 241 bytes has at most 16 bytes fewer than four packets carry, and at least 32.
-const ROWS: [Row; 2] = [
+static ROWS: [Row; 2] = [
     Row {
         unit: Unit::U64,
         turns: 12,
@@ -96,22 +96,22 @@ fn is_updated_so(world: &Small<'_>, row: &Row) -> bool {
 }
 
 /// Whether the worked update goes as the row says.
-fn goes_so(alloc: Global, row: &Row) -> Result<bool, Fail> {
-    let bytes = file(alloc)?;
-    let packages = [package(&bytes)?];
-    let mut world = world(alloc, row.unit, &packages, 1, 0)?;
+pub fn goes_so<'a>(
+    alloc: Global,
+    packages: &'a [Package<'a>],
+    row: &Row,
+) -> Result<bool, AllocError> {
+    let mut world = world(alloc, row.unit, packages, 1, 0)?;
     let fresh = runs_first(&world, DEVICE) && start(&mut world, DEVICE);
-    let mut steps = Vec::new(alloc);
     let mut links = [MemLink::new(alloc)];
-    let driven = driven(&mut world, &mut links, 100, &mut steps);
+    let driven = driven_over(alloc, &mut world, &mut links, 100);
     let (turns, foreign) = (row.turns, 0);
-    Ok(fresh && driven == Ok(Driven { turns, foreign }) && is_updated_so(&world, row))
+    Ok(fresh && driven == Some(Driven { turns, foreign }) && is_updated_so(&world, row))
 }
 
 #[test]
-fn an_image_of_241_bytes_is_one_piece_at_128(rt: HostRuntime) -> Result<(), Fail> {
-    for row in ROWS {
-        assert!(rt; goes_so(rt.alloc(), &row)?, "{}", row.turns);
+fn an_image_of_241_bytes_is_one_piece_at_128(rt: HostRuntime) {
+    for row in &ROWS {
+        assert!(rt; holds(rt.alloc(), Trial::GoesAtUnit(row)), "{}", row.turns);
     }
-    Ok(())
 }
