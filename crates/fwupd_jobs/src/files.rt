@@ -91,6 +91,32 @@ impl<'a> SystemFiles<'a> {
         read_whole(alloc, &mut file, size)
     }
 
+    /// Whether a path names a file in this folder, or in one that lies there.
+    fn lies_in(&self, alloc: Global, path: &str, folder: FileIdentity) -> Result<bool, AllocError> {
+        let (own, _) = folder_and_name(path);
+        let Ok(above) = format!(in alloc; "{own}/..") else {
+            return Err(AllocError);
+        };
+        Ok(self.identity(own) == Some(folder) || self.identity(&above) == Some(folder))
+    }
+
+    /// Whether a path leads to a file in this folder, or in one that lies there. A link to no file may lead to any place.
+    fn leads_into(
+        &self,
+        alloc: Global,
+        path: &str,
+        folder: FileIdentity,
+    ) -> Result<bool, AllocError> {
+        if !self.is_link(path) {
+            return Ok(false);
+        }
+        match fs::canonicalize(self.rt, path) {
+            Ok(found) => self.lies_in(alloc, found.to_string_lossy(), folder),
+            Err(error) if error.kind() == ErrorKind::OutOfMemory => Err(AllocError),
+            Err(_) => Ok(true),
+        }
+    }
+
     /// The beginning of a file. One that says that it is longer isn't read further.
     fn read_beginning(&self, alloc: Global, path: &str) -> io::Result<Beginning>
         ensures { IfOk result (λ b. MayBegin any_file b.bytes.items b.file_length) }
@@ -203,11 +229,7 @@ impl<'a> Files for SystemFiles<'a> {
         let Some(root) = self.identity(folder) else {
             return Ok(false);
         };
-        let (own, _) = folder_and_name(path);
-        let Ok(above) = format!(in alloc; "{own}/..") else {
-            return Err(AllocError);
-        };
-        Ok(self.identity(own) == Some(root) || self.identity(&above) == Some(root))
+        Ok(self.lies_in(alloc, path, root)? || self.leads_into(alloc, path, root)?)
     }
 }
 
