@@ -10,21 +10,12 @@ import statistics
 import subprocess
 import sys
 import tempfile
-import time
 
+from commands import measured
 from memory import MIB, needs
 
 IMAGES = 4
 SIZE = 4 * MIB
-
-
-def measured(arguments):
-    """Processor and wall seconds of a command."""
-    begun = time.monotonic()
-    child = os.posix_spawnp(arguments[0], arguments, os.environ)
-    _, status, usage = os.wait4(child, 0)
-    assert status == 0, (arguments, status)
-    return usage.ru_utime + usage.ru_stime, time.monotonic() - begun
 
 
 def prepared(folder):
@@ -53,7 +44,7 @@ def main():
         more = needs(build) - needs([program, "build", str(folder / "empty"), str(folder / "package")])
         subprocess.run(build, check=True)
         assert (folder / "package").read_bytes()[-IMAGES * SIZE :] == (folder / "copied").read_bytes()
-    medians = {name: [statistics.median(run[k] for run in all_runs) for k in range(2)] for name, all_runs in took.items()}
+    medians = {name: [statistics.median(column) for column in ([run.processor for run in all_runs], [run.wall for run in all_runs])] for name, all_runs in took.items()}
     for name, (processor, wall) in medians.items():
         print(f"{name}: {1000 * processor:.1f} ms of a processor, {1000 * wall:.1f} ms of wall time")
     print(f"processor time: {medians['build'][0] / medians['cat'][0]:.2f} times that of cat")

@@ -3,27 +3,16 @@
 
 Both are run in turn, RUNS times (7 by default), on a run of 16 devices with three images of 1 MiB each, on one of a single device,
 and on ten million idle ticks of a schedule of 10,000 lines. What is printed are the medians of processor time and of peak memory,
-and their ratios to the earlier program's; a peak is at least that of Python, some 20 MB."""
+and their ratios to the earlier program's."""
 import os
 import statistics
 import sys
 import tempfile
 
+from commands import measured
 from worlds import config, package
 
 IMAGES = 3
-
-
-def measured(arguments):
-    """The processor seconds of a command, and its peak memory in MB."""
-    read, write = os.pipe()
-    child = os.posix_spawn(arguments[0], arguments, os.environ, file_actions=[(os.POSIX_SPAWN_DUP2, write, 1), (os.POSIX_SPAWN_CLOSE, read)])
-    os.close(write)
-    with os.fdopen(read, "rb") as out:
-        printed = out.read()
-    _, status, usage = os.wait4(child, 0)
-    assert status == 0, (arguments, status, printed)
-    return usage.ru_utime + usage.ru_stime, usage.ru_maxrss / 1000
 
 
 def written(path, content):
@@ -56,7 +45,8 @@ def main():
             taken = [[], []]
             for _ in range(runs):
                 for program, rows in zip(programs, taken):
-                    rows.append(measured([program, *words]))
+                    ran = measured([program, *words])
+                    rows.append((ran.processor, ran.peak))
             (spent, peak), (spent_before, peak_before) = ([statistics.median(column) for column in zip(*rows)] for rows in taken)
             print(f"{name:22} {spent:11.3f} {spent / spent_before:11.2f} {peak:8.1f} {peak / peak_before:11.2f}")
 

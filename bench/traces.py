@@ -9,18 +9,18 @@ import statistics
 import sys
 import tempfile
 
-from units import IMAGES, processor
-from worlds import config, measured, package
+from commands import measured
+from units import IMAGES
+from worlds import config, package
 
 FORMS = ("hex", "text", "pcap")
 
 
 def update(words, form, trace):
     """The processor and wall seconds of one run, and the size of its trace."""
-    before = processor()
-    report, seconds, _ = measured(words + (["--trace", trace, "--trace-format", form] if form else []))
+    report, spent, seconds, _ = measured(words + (["--trace", trace, "--trace-format", form] if form else []))
     assert report.count(" session Done ") == 1, report
-    return processor() - before, seconds, os.path.getsize(trace) if form else 0
+    return spent, seconds, os.path.getsize(trace) if form else 0
 
 
 def main():

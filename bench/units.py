@@ -8,24 +8,18 @@ import os
 import sys
 import tempfile
 
-from worlds import config, measured, package
+from commands import measured
+from worlds import config, package
 
 IMAGES = 3
 
 
-def processor():
-    """The processor seconds of all commands so far."""
-    spent = os.times()
-    return spent.children_user + spent.children_system
-
-
 def update(program, path, folder):
     """The processor and wall seconds of one run, the device's packets, and the peak memory in MB."""
-    before = processor()
-    report, seconds, peak = measured([program, "run", path, folder])
+    report, spent, seconds, peak = measured([program, "run", path, folder])
     assert report.count(" session Done ") == 1, report
     sent = [int(line.split()[-1]) for line in report.split("\n") if line.startswith("device ")]
-    return processor() - before, seconds, sum(sent), peak
+    return spent, seconds, sum(sent), peak
 
 
 def main():

@@ -7,8 +7,9 @@ import os
 import struct
 import sys
 import tempfile
-import time
 import zlib
+
+from commands import measured
 
 MIB = 1 << 20
 UUID = "00000000-0000-0000-0000-000000000000"
@@ -38,23 +39,6 @@ def config(devices, count, path):
     return "\n".join(lines + [f"package {path}"]) + "\n"
 
 
-def measured(arguments):
-    """The output of a command, its seconds and its peak memory in MB."""
-    read, write = os.pipe()
-    begun = time.monotonic()
-    child = os.fork()
-    if child == 0:
-        os.dup2(write, 1)
-        os.close(read)
-        os.execvp(arguments[0], arguments)
-    os.close(write)
-    with os.fdopen(read) as out:
-        text = out.read()
-    _, status, usage = os.wait4(child, 0)
-    assert status == 0, (arguments, status, text)
-    return text, time.monotonic() - begun, usage.ru_maxrss / 1000
-
-
 def updates(program, folder, largest):
     """Whole updates over sockets."""
     first = None
@@ -67,7 +51,7 @@ def updates(program, folder, largest):
             file.write(package(count))
         with open(paths[1], "w") as file:
             file.write(config(devices, count, paths[0]))
-        report, seconds, peak = measured([program, "run", paths[1], folder])
+        report, _, seconds, peak = measured([program, "run", paths[1], folder])
         sent = [int(line.split()[-1]) for line in report.split("\n") if line.startswith("device ")]
         assert report.count(" session Done ") == devices, report
         each = seconds / (devices * count)
@@ -88,7 +72,7 @@ def schedules(program, folder):
     ):
         with open(paths[1], "w") as file:
             file.write("\n".join(lines) + "\n")
-        _, seconds, peak = measured([program, "replay", *paths])
+        _, _, seconds, peak = measured([program, "replay", *paths])
         print(f"{name:24} {seconds:7.2f} {len(lines) / seconds:8.0f} {peak:8.0f}")
 
 
