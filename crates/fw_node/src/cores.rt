@@ -1,6 +1,6 @@
 //! What stands at the centre of a half: the agent's session with a device, or a device itself.
 
-ghost use Rattle.std.specs.Prelude.{◌≡◌, Bool, IfSome, false, not, option_map, true, ℕ};
+ghost use Rattle.std.specs.Prelude.{◌≡◌, Bool, IfSome, None, false, not, option_map, true, ℕ};
 ghost use Rattle.std.specs.Result.{result_map_both};
 ghost use Rattle.fd_core.specs.Banks.{Rose};
 ghost use Rattle.fd_core.specs.Wishes.{has_failed};
@@ -13,12 +13,12 @@ ghost use Rattle.fw_node.specs.Cores.{TimedDevice, device_core, session_core, ti
 ghost use Rattle.fw_node.specs.Halves.{CoreOf};
 ghost use Rattle.fw_node.specs.Nodes.{IsHeardAgain, MaySpeak};
 
-use fd_core::{Bank, Device, Progress};
+use fd_core::{Bank, Device, Progress, State};
 use fw_package::Package;
 use fwup_wire::{Answer, Command, Malformed, is_asked_of_agent};
 use pldm_base::Reply;
 use pldm_base::completion::ERROR;
-use ua_core::{Lent, Session};
+use ua_core::{Lent, Session, SessionState};
 
 /// A core: it wishes commands, answers others, and learns from answers. Its calls are given what it reads meanwhile: the
 /// agent's packages, or nothing.
@@ -40,6 +40,10 @@ pub(crate) trait Core<'p> {
     fn wish(&self, given: Self::Given) -> Option<Command<'p>>
         ensures wish { option_map command_of result ≡ (does given).wish (seen self.now) }
         ensures spoken { MaySpeak (does given) (seen self.now) };
+
+    /// Whether it may wish a command: where not, it wishes none. It is asked before `wish`, which makes room for a command.
+    fn may_wish(&self, given: Self::Given) -> bool
+        ensures { result ≡ false → (does given).wish (seen self.now) ≡ None };
 
     /// Whether commands of a code are its to answer.
     fn serves(&self, given: Self::Given, command: u8) -> bool
@@ -89,6 +93,19 @@ impl<'p> Core<'p> for Session {
 
     fn wish(&self, packages: &'p [Package<'p>]) -> Option<Command<'p>> {
         self.wish(&Lent::of(packages, self.package()))
+    }
+
+    fn may_wish(&self, _: &'p [Package<'p>]) -> bool {
+        !matches!(
+            self.state(),
+            SessionState::Idle
+                | SessionState::Download
+                | SessionState::Verify
+                | SessionState::Apply
+                | SessionState::AllApplied
+                | SessionState::Done
+                | SessionState::Failed(_)
+        )
     }
 
     fn serves(&self, _: &'p [Package<'p>], command: u8) -> bool {
@@ -144,6 +161,10 @@ impl<'p, B: Bank> Core<'p> for Device<B> {
 
     fn wish(&self, _: ()) -> Option<Command<'p>> {
         self.wish()
+    }
+
+    fn may_wish(&self, _: ()) -> bool {
+        matches!(self.state(), State::Download | State::Verify | State::Apply)
     }
 
     fn serves(&self, _: (), command: u8) -> bool {

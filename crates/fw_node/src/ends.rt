@@ -1,6 +1,6 @@
 //! Both directions of exchanges of a node with one peer.
 
-ghost use Rattle.std.specs.Prelude.{◌≡◌, ◌≤◌, length, option_map, true};
+ghost use Rattle.std.specs.Prelude.{◌≡◌, ◌≤◌, None, length, option_map, true};
 ghost use Rattle.mctp_wire.specs.Packet.{IsRead, spelling};
 ghost use Rattle.fwup_wire.specs.Commands.{IsWritable, command_bytes, command_code};
 ghost use Rattle.fwup_wire.specs.Lent.{command_of};
@@ -76,6 +76,16 @@ impl Ends {
         ensures { result ≡ is_quiet self.now.asking.caller }
     {
         self.asker.is_quiet()
+    }
+
+    /// Gives the open request up, if there is one.
+    #[tactic(auto, using(crate::proofs::OneATick::callers_stay))]
+    pub(crate) fn abandon(&mut self)
+        ensures { self.new ≡ record self.old { asking = record self.old.asking { caller = unwished_abandoned None self.old.asking.caller } } }
+    {
+        if self.asker.is_open() {
+            self.asker.abandon();
+        }
     }
 
     /// Gives the open request up, unless it is of this command.

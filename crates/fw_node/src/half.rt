@@ -64,6 +64,18 @@ impl<'p, C: Core<'p>> Half<C> {
         ensures settled { self.new ≡ record self.old { ends = record self.old.ends { asking = record self.old.ends.asking { caller = unwished_abandoned ((C.does given).wish (C.seen self.old.core)) self.old.ends.asking.caller } } } }
         ensures spoken { MaySpeak (C.does given) (C.seen self.old.core) }
     {
+        if self.core.may_wish(given) {
+            self.abandon_unwished(given);
+        } else {
+            self.ends.abandon();
+        }
+    }
+
+    /// Gives up what is open, unless it is what the core wishes.
+    fn abandon_unwished(&mut self, given: C::Given)
+        ensures abandoned { self.new ≡ record self.old { ends = record self.old.ends { asking = record self.old.ends.asking { caller = unwished_abandoned ((C.does given).wish (C.seen self.old.core)) self.old.ends.asking.caller } } } }
+        ensures spoken { MaySpeak (C.does given) (C.seen self.old.core) }
+    {
         let wish = self.core.wish(given);
         self.ends.abandon_unless(&wish);
     }
@@ -259,7 +271,11 @@ impl<'p, C: Core<'p>> Half<C> {
         ensures unit { self.new.ends.asking.unit ≡ self.old.ends.asking.unit }
     {
         self.core.tick(given);
-        self.ask(given, outbox);
+        if self.core.may_wish(given) {
+            self.ask(given, outbox);
+        } else {
+            self.ends.abandon();
+        }
     }
 
     /// Gives up what isn't wished, and begins what is.

@@ -62,66 +62,52 @@ fn letter(unit: Unit, assembly: &mut Assembly, step: Step) -> u8 {
     }
 }
 
+/// A step that two bytes spell.
+fn step_of(bytes: &[u8]) -> Step {
+    match bytes {
+        [flags, size] => (*flags, *size as usize),
+        _ => (0, 0),
+    }
+}
+
 /// Whether these letters come of the steps, one after the other.
-fn come(unit: Unit, steps: &[Step], letters: &[u8]) -> bool {
+fn come(unit: Unit, steps: &[u8], letters: &[u8]) -> bool {
     let mut assembly = Assembly::new(unit);
-    for (step, wanted) in steps.iter().zip(letters) {
-        if letter(unit, &mut assembly, *step) != *wanted {
+    for (step, wanted) in steps.chunks_exact(2).zip(letters) {
+        if letter(unit, &mut assembly, step_of(step)) != *wanted {
             return false;
         }
     }
-    steps.len() == letters.len()
+    steps.len() / 2 == letters.len()
 }
 
-/// A situation: its steps, and the letters that come of them. The packets of a message of 256 bytes are (0x8B, 64), (0x1B, 64),
-/// (0x2B, 64) and (0x7B, 64).
-type Row<'a> = (&'a str, &'a [Step], &'a [u8]);
+/// A situation: its steps, two bytes each, and the letters that come of them. The packets of a message of 256 bytes are 8B, 1B, 2B
+/// and 7B, each of 40, which is 64.
+type Row<'a> = (&'a str, &'a [u8], &'a [u8]);
 
-const ROWS: [Row<'static>; 16] = [
-    (
-        "in order",
-        &[(0x8B, 64), (0x1B, 64), (0x2B, 64), (0x7B, 64)],
-        b"OOOW",
-    ),
-    (
-        "one twice",
-        &[(0x8B, 64), (0x1B, 64), (0x1B, 64), (0x2B, 64)],
-        b"OOQN",
-    ),
-    ("one left out", &[(0x8B, 64), (0x2B, 64)], b"OQ"),
-    ("no first", &[(0x1B, 64)], b"N"),
+static ROWS: [Row<'static>; 16] = [
+    ("in order", b"\x8B\x40\x1B\x40\x2B\x40\x7B\x40", b"OOOW"),
+    ("one twice", b"\x8B\x40\x1B\x40\x1B\x40\x2B\x40", b"OOQN"),
+    ("one left out", b"\x8B\x40\x2B\x40", b"OQ"),
+    ("no first", b"\x1B\x40", b"N"),
     (
         "begun anew",
-        &[
-            (0x8B, 64),
-            (0x1B, 64),
-            (0x8B, 64),
-            (0x1B, 64),
-            (0x2B, 64),
-            (0x7B, 64),
-        ],
+        b"\x8B\x40\x1B\x40\x8B\x40\x1B\x40\x2B\x40\x7B\x40",
         b"OOOOOW",
     ),
-    ("no time", &[(0x8B, 64), (0, 0), (0x1B, 64)], b"O.O"),
-    ("eight ticks", &[(0x8B, 64), (8, 0), (0x1B, 64)], b"O.O"),
-    ("nine ticks", &[(0x8B, 64), (9, 0), (0x1B, 64)], b"O.N"),
-    ("twenty ticks", &[(0x8B, 64), (20, 0), (0x1B, 64)], b"O.N"),
-    ("a first packet numbered 1", &[(0x9B, 64)], b"S"),
-    ("the same, with EOM, of one byte", &[(0xDB, 1)], b"S"),
-    ("63 bytes without EOM", &[(0x8B, 63)], b"U"),
-    ("63 bytes with EOM", &[(0xCB, 63)], b"W"),
-    ("no start, and not a whole unit", &[(0x1B, 63)], b"N"),
-    ("a last packet without a start", &[(0x5B, 1)], b"N"),
+    ("no time", b"\x8B\x40\x00\x00\x1B\x40", b"O.O"),
+    ("eight ticks", b"\x8B\x40\x08\x00\x1B\x40", b"O.O"),
+    ("nine ticks", b"\x8B\x40\x09\x00\x1B\x40", b"O.N"),
+    ("twenty ticks", b"\x8B\x40\x14\x00\x1B\x40", b"O.N"),
+    ("a first packet numbered 1", b"\x9B\x40", b"S"),
+    ("the same, with EOM, of one byte", b"\xDB\x01", b"S"),
+    ("63 bytes without EOM", b"\x8B\x3F", b"U"),
+    ("63 bytes with EOM", b"\xCB\x3F", b"W"),
+    ("no start, and not a whole unit", b"\x1B\x3F", b"N"),
+    ("a last packet without a start", b"\x5B\x01", b"N"),
     (
         "a fifth packet",
-        &[
-            (0x8B, 64),
-            (0x1B, 64),
-            (0x2B, 64),
-            (0x3B, 64),
-            (0x0B, 63),
-            (0x1B, 64),
-        ],
+        b"\x8B\x40\x1B\x40\x2B\x40\x3B\x40\x0B\x3F\x1B\x40",
         b"OOOOFN",
     ),
 ];
