@@ -7,6 +7,7 @@ use Rattle.fw_script.specs.Schedules.{script_of}
 use Rattle.fw_world.specs.Headline.{Run}
 use Rattle.fw_world.specs.Worlds.{WorldOf}
 use Rattle.fw_world.specs.declared.step.Step.{Step}
+use Rattle.fwupd_watch.specs.Recordings.{IsRecorded, RecordingOf}
 
 -- no call of a bank failed in a run
 abbrev pub AllWork : (w : WorldOf) (ss : List Step) (v : WorldOf) → Run w ss v → Type 0

@@ -12,6 +12,7 @@ use Rattle.fw_world.specs.Headline.{new_world}
 use Rattle.fw_world.specs.Worlds.{WorldOf}
 use Rattle.fw_setup.specs.Nodes.{nodes_made}
 use Rattle.fw_setup.specs.Stocks.{AreStocked, IsUnopened, StoresOf}
+use Rattle.fwupd_watch.specs.Files.{FileOf, MayHold}
 use Rattle.fwupd_watch.specs.declared.faults.RunFault.{RunFault}
 use Rattle.fwupd_watch.specs.declared.faults.RunFault.TheVariants as faults
 use Rattle.fwupd_watch.specs.declared.files.FileFault.{FileFault}

@@ -15,6 +15,8 @@ use Rattle.fwupd_jobs.specs.Promises.{IsSafeSince}
 use Rattle.fwupd_watch.specs.Recordings.{IsRecorded}
 use Rattle.fwupd_jobs.specs.Sessions.{undone_in}
 use Rattle.fwupd_watch.specs.Files.{FileOf}
+use Rattle.fwupd_watch.specs.Running.{IsCaused, IsUpdated, ShowOf, StepsLead, StepsSeen, Updates, WatchOf, shown_of}
+use Rattle.fwupd_watch.specs.Apart.{IsApart, IsBarred}
 use Rattle.fwupd_jobs.specs.Setups.{IsSetup, LacksPackage, NumberedSetupFails, SourceOf, StoresFail}
 use Rattle.fwupd_watch.specs.declared.faults.RunFault.{RunFault}
 use Rattle.fwupd_watch.specs.declared.faults.RunFault.TheVariants as faults

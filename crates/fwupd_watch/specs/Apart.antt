@@ -2,6 +2,7 @@
 use Rattle.std.specs.Prelude.{ℕ, ◌⊎◌, Bool, List, Option, None, IfSome, IsSomeAnd}
 use Rattle.std.specs.List.{AllByRecursion}
 use Rattle.fwupd_watch.specs.Files.{FileOf, IsApartFrom, IsBelow, IsOutside, IsOver, IsOverOne}
+use Rattle.fwupd_watch.specs.Running.{IsUnwritten, MayRefuse, ShowOf, WatchOf}
 use Rattle.fwupd_watch.specs.declared.faults.RunFault.{RunFault}
 use Rattle.fwupd_watch.specs.declared.faults.RunFault.TheVariants as faults
 

@@ -7,7 +7,6 @@ use Rattle.fw_edge.specs.declared.driving.EdgeFault.TheVariants as edges
 use Rattle.fwupd_base.specs.declared.forms.Form.{Form}
 use Rattle.fw_world.specs.Headline.{Run, may_step}
 use Rattle.fw_world.specs.Worlds.{SiteOf, WorldOf}
-use Rattle.rand_pcg.specs.Lcg.{started}
 use Rattle.fw_world.specs.declared.step.StepFault.{StepFault}
 use Rattle.fw_world.specs.declared.step.StepFault.TheVariants as stops
 use Rattle.fw_world.specs.declared.step.Step.{Step}
