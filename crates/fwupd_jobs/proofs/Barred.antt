@@ -1,9 +1,10 @@
 -- What would be written over is told of more files too.
 use Rattle.std.proofs.Common.{ℕ, Bool, List, ◌∷◌, Option, None, Some, inl, inr}
-use Rattle.fwupd_jobs.specs.Running.{IsBarred, IsOverRead, IsOverUsed, ShowOf, WatchOf}
-use Rattle.fwupd_jobs.specs.Setups.{FileOf}
-use Rattle.fwupd_jobs.specs.declared.faults.RunFault.{RunFault}
-use Rattle.fwupd_jobs.specs.declared.faults.RunFault.TheVariants as faults
+use Rattle.fwupd_watch.specs.Apart.{IsBarred, IsOverRead, IsOverUsed}
+use Rattle.fwupd_watch.specs.Running.{ShowOf, WatchOf}
+use Rattle.fwupd_watch.specs.Files.{FileOf}
+use Rattle.fwupd_watch.specs.declared.faults.RunFault.{RunFault}
+use Rattle.fwupd_watch.specs.declared.faults.RunFault.TheVariants as faults
 
 over_used : (files : List ℕ → FileOf) (path first second : Option (List ℕ)) (q : List ℕ) (paths : List (List ℕ)) → IsOverUsed files path first second paths → IsOverUsed files path first second (q ∷ paths)
 over_used files None first second q paths h = h

@@ -10,9 +10,10 @@ use Rattle.fw_package.specs.Writing.{IsHeaderOf, header_bytes}
 use Rattle.fw_script.specs.PackageSpecs.{PackageSpecOf, SpecComponentOf, package_spec_of, spec_component_of}
 use Rattle.fw_script.specs.declared.package_spec.SpecComponent.{SpecComponent}
 use Rattle.fwupd_jobs.specs.Built.{AreImages, Builds, ImageFails, ImagesFail, IsBuilt, IsImage, asked_by, components_by}
-use Rattle.fwupd_jobs.specs.Setups.{FileOf, Says}
-use Rattle.fwupd_jobs.specs.declared.faults.RunFault.{RunFault}
-use Rattle.fwupd_jobs.specs.declared.faults.RunFault.TheVariants as faults
+use Rattle.fwupd_watch.specs.Files.{FileOf}
+use Rattle.fwupd_jobs.specs.Setups.{Says}
+use Rattle.fwupd_watch.specs.declared.faults.RunFault.{RunFault}
+use Rattle.fwupd_watch.specs.declared.faults.RunFault.TheVariants as faults
 
 -- what stands at a place of a list that was made of another one
 pub own_in : {A B : Type 0} (g : A → B) (xs : List A) (i : ℕ) (x : A) (y : B) → i < length xs → x ≡ get_or xs i x → Some y ≡ slice_get (map g xs) i → y ≡ g x

@@ -2,9 +2,11 @@
 use Rattle.std.proofs.Common.{◌≡◌, ◌∙◌, ℕ, List, None, false, true, sym}
 use Rattle.std.specs.Prelude.{Option}
 use Rattle.fwupd_jobs.specs.Checked.{ReportsChecked}
-use Rattle.fwupd_jobs.specs.Outputs.{OutputOf}
-use Rattle.fwupd_jobs.specs.Running.{ReportsUpdate, ShowOf, WatchOf}
-use Rattle.fwupd_jobs.specs.Setups.{FileOf, SourceOf}
+use Rattle.fwupd_watch.specs.Outputs.{OutputOf}
+use Rattle.fwupd_jobs.specs.Updated.{ReportsUpdate}
+use Rattle.fwupd_watch.specs.Running.{ShowOf, WatchOf}
+use Rattle.fwupd_watch.specs.Files.{FileOf}
+use Rattle.fwupd_jobs.specs.Setups.{SourceOf}
 use Rattle.fwupd_words.specs.declared.asked.Order.{Order}
 use Rattle.fwupd_jobs.specs.declared.sessions.Undone.{Undone}
 use Rattle.fwupd_jobs.proofs.Ended.{all_done}

@@ -7,10 +7,11 @@ use Rattle.fw_package.specs.declared.fault.PackageFault.{PackageFault}
 use Rattle.fwupd_jobs.specs.Inspected.{BreaksInspection, Inspects, told_as}
 use Rattle.fw_json.specs.Forms.{inspection_in}
 use Rattle.fwupd_base.specs.declared.forms.Form.{Form}
-use Rattle.fwupd_jobs.specs.Outputs.{FailsToPrint, OutputOf, Prints}
-use Rattle.fwupd_jobs.specs.Setups.{FileOf, IsNone, MayHold, PackageFails}
-use Rattle.fwupd_jobs.specs.declared.faults.RunFault.{RunFault}
-use Rattle.fwupd_jobs.specs.declared.faults.RunFault.TheVariants as faults
+use Rattle.fwupd_watch.specs.Outputs.{FailsToPrint, OutputOf, Prints}
+use Rattle.fwupd_watch.specs.Files.{FileOf, MayHold}
+use Rattle.fwupd_jobs.specs.Setups.{IsNone, PackageFails}
+use Rattle.fwupd_watch.specs.declared.faults.RunFault.{RunFault}
+use Rattle.fwupd_watch.specs.declared.faults.RunFault.TheVariants as faults
 use Rattle.fwupd_base.specs.declared.inspection.InspectFault.{InspectFault}
 use Rattle.fwupd_base.specs.declared.inspection.InspectFault.TheVariants as inspected
 

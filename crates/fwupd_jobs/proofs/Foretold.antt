@@ -10,11 +10,12 @@ use Rattle.fw_script.specs.declared.config.DeviceConfig.{DeviceConfig}
 use Rattle.ua_core.specs.Lent.{package_at}
 use Rattle.fw_json.specs.Forms.{plan_in}
 use Rattle.fwupd_base.specs.declared.forms.Form.{Form}
-use Rattle.fwupd_jobs.specs.Outputs.{FailsToPrint, OutputOf}
+use Rattle.fwupd_watch.specs.Outputs.{FailsToPrint, OutputOf}
 use Rattle.fwupd_jobs.specs.Planned.{Forecasts, PlanEnds}
-use Rattle.fwupd_jobs.specs.Setups.{ArePacked, FileOf, Says}
-use Rattle.fwupd_jobs.specs.declared.faults.RunFault.{RunFault}
-use Rattle.fwupd_jobs.specs.declared.faults.RunFault.TheVariants as faults
+use Rattle.fwupd_jobs.specs.Setups.{ArePacked, Says}
+use Rattle.fwupd_watch.specs.Files.{FileOf}
+use Rattle.fwupd_watch.specs.declared.faults.RunFault.{RunFault}
+use Rattle.fwupd_watch.specs.declared.faults.RunFault.TheVariants as faults
 use Rattle.fw_edge.proofs.Rising.{map_length}
 use Rattle.fwupd_jobs.proofs.Packed.{as_many, packages_so, through}
 

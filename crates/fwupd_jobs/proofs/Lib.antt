@@ -1,23 +1,14 @@
-pub mod AnyFiles
-mod Answering
 mod Barred
-mod Begun
 mod Builds
 mod Checks
 mod Ended
 mod Examined
 mod Foretold
-mod Happened
+mod Linked
 mod Named
 mod Names
-mod Noted
 mod Packed
-mod Refused
+mod Recorded
 mod Seen
-mod Shown
 mod Soakings
-mod Started
 mod Told
-mod Traced
-mod Turns
-mod WholeLines

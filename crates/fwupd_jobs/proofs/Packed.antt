@@ -1,5 +1,5 @@
 -- Files that are read one after the other.
-use Rattle.std.proofs.Common.{◌≡◌, ◌≢◌, ◌≤◌, ◌<◌, ◌+◌, ◌++◌, ◌⊎◌, ◌∙◌, ℕ, zero, suc, Bool, List, [], ◌∷◌, false, true, Some, None, Result, Ok, Err, IfOk, IsOk, inl, inr, length, map, take, get_or, Vec, String, Global, refl, sym, ap, subst, arith}
+use Rattle.std.proofs.Common.{◌≡◌, ◌≢◌, ◌≤◌, ◌<◌, ◌+◌, ◌++◌, ◌⊎◌, ◌∙◌, ℕ, suc, Bool, List, [], ◌∷◌, false, true, Some, None, Result, Ok, Err, IfOk, IsOk, inl, inr, length, map, take, get_or, Vec, String, Global, refl, sym, ap, subst, arith}
 use Rattle.std.specs.Prelude.{IsSomeAnd, Option, drop, option_map, string_bytes}
 use Rattle.std.proofs.Math.Seq.{split_at, take-suc}
 use Rattle.std.proofs.lemmas.List.{append-nil, drop_all, length-map, map-append, take_all}
@@ -18,12 +18,15 @@ use Rattle.fw_world.specs.Worlds.{WorldOf}
 use Rattle.fw_setup.specs.Nodes.{nodes_made}
 use Rattle.fw_setup.specs.Stocks.{AreStocked, IsUnopened, StoresOf}
 use Rattle.fw_setup.specs.declared.stores.Unopened.{Unopened}
-use Rattle.fwupd_jobs.specs.Running.{IsApart, IsBarred, IsNamed, IsWatched, LacksTrace, ShowOf, WatchOf}
-use Rattle.fwupd_jobs.specs.Setups.{AreDevices, ArePackages, ArePacked, FileOf, IsOver, IsOverOne, IsPacked, IsSetup, IsUnreadable, IsUnsaid, MayHold, NumberedSetupFails, PackageFails, PackagesFail, Says, SourceOf, StoresFail, TellsUnopened, TextFails, TextFault, misread_by, misread_told, unread_told}
-use Rattle.fwupd_jobs.specs.declared.faults.RunFault.{RunFault}
-use Rattle.fwupd_jobs.specs.declared.faults.RunFault.TheVariants as faults
-use Rattle.fwupd_jobs.specs.declared.files.FileFault.{FileFault}
-use Rattle.fwupd_jobs.specs.declared.files.FileFault.TheVariants as unread
+use Rattle.fwupd_watch.specs.Apart.{IsApart, IsBarred}
+use Rattle.fwupd_jobs.specs.Updated.{IsNamed, IsWatched, LacksTrace}
+use Rattle.fwupd_watch.specs.Running.{ShowOf, WatchOf}
+use Rattle.fwupd_jobs.specs.Setups.{AreDevices, ArePackages, ArePacked, IsPacked, IsSetup, IsUnreadable, IsUnsaid, NumberedSetupFails, PackageFails, PackagesFail, Says, SourceOf, StoresFail, TellsUnopened, TextFails, TextFault, misread_by, misread_told, unread_told}
+use Rattle.fwupd_watch.specs.Files.{FileOf, MayHold}
+use Rattle.fwupd_watch.specs.declared.faults.RunFault.{RunFault}
+use Rattle.fwupd_watch.specs.declared.faults.RunFault.TheVariants as faults
+use Rattle.fwupd_watch.specs.declared.files.FileFault.{FileFault}
+use Rattle.fwupd_watch.specs.declared.files.FileFault.TheVariants as unread
 
 -- the fault that is told of a text is its first
 pub unsaid_so : {A : Type 0} (read : List ℕ → Result A ScriptFault) (path text : List ℕ) (file : FileOf) (fault : ScriptFault) (told : RunFault)
@@ -182,13 +185,6 @@ numbered_fails files path number config slice told says is counted there (inr f)
 pub or_later : {A B C : Type 0} → A ⊎ B → A ⊎ (B ⊎ C)
 or_later (inl a) = inl a
 or_later (inr b) = inr (inl b)
-
--- what is written is over the file of a path among texts
-pub over_item : (files : List ℕ → FileOf) (written : List ℕ) (others : List (String Global)) (i : ℕ) (other : String Global) (name : List ℕ) → i < length others → other ≡ get_or others i other
-    → name ≡ string_bytes other → IsOver files written name → IsOverOne files written (map (λ p. string_bytes p) others)
-over_item files written [] i other name lt is called h = absurd (omega arith)
-over_item files written (x ∷ others) zero other name lt is called h = inl (subst (IsOver files written) (called ∙ ap (λ p. string_bytes p) is) h)
-over_item files written (x ∷ others) (suc i) other name lt is called h = inr (over_item files written others i other name (omega arith) is called h)
 
 -- the bytes of the files, as vectors
 pub through : (fs : List (Vec ℕ Global)) → map (λ f. package_of f.items) fs ≡ map package_of (map (λ f. f.items) fs)

@@ -13,11 +13,12 @@ use Rattle.fw_soak.specs.SummaryTexts.{summary_text}
 use Rattle.fw_soak.specs.declared.summary.Summary.{Summary}
 use Rattle.fw_world.specs.declared.step.Step.{Step}
 use Rattle.fwupd_words.specs.declared.asked.SoakOrder.{SoakOrder}
-use Rattle.fwupd_jobs.specs.Outputs.{FailsToPrint, OutputOf, Prints}
-use Rattle.fwupd_jobs.specs.Setups.{ArePacked, FileOf, IsApartFrom, Says}
+use Rattle.fwupd_watch.specs.Outputs.{FailsToPrint, OutputOf, Prints}
+use Rattle.fwupd_jobs.specs.Setups.{ArePacked, Says}
+use Rattle.fwupd_watch.specs.Files.{FileOf, IsApartFrom}
 use Rattle.fwupd_jobs.specs.Soaked.{IsJudged, SoakEnds, Soaks, SoaksClean, setup_said}
-use Rattle.fwupd_jobs.specs.declared.faults.RunFault.{RunFault}
-use Rattle.fwupd_jobs.specs.declared.faults.RunFault.TheVariants as faults
+use Rattle.fwupd_watch.specs.declared.faults.RunFault.{RunFault}
+use Rattle.fwupd_watch.specs.declared.faults.RunFault.TheVariants as faults
 use Rattle.fwupd_jobs.proofs.Packed.{packages_so, through}
 
 -- so many runs of what a configuration's file says

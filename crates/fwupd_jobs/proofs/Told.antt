@@ -10,16 +10,19 @@ use Rattle.fw_world.specs.Worlds.{WorldOf}
 use Rattle.fw_world.specs.declared.step.Step.{Step}
 use Rattle.fw_world.specs.declared.step.StepFault.{StepFault}
 use Rattle.fwupd_jobs.specs.Replayed.{IsReplayed, IsReport, Leaves, ReplayEnds, Reports, ReportsReplay}
-use Rattle.fwupd_jobs.specs.Histories.{AreKeptUpStill}
-use Rattle.fwupd_jobs.specs.Outputs.{FailsToPrint, OutputOf, Prints}
+use Rattle.fwupd_watch.specs.Histories.{AreKeptUpStill}
+use Rattle.fwupd_watch.specs.Outputs.{FailsToPrint, OutputOf, Prints}
 use Rattle.fwupd_jobs.specs.Promises.{IsSafeSince}
-use Rattle.fwupd_jobs.specs.Recordings.{IsRecorded}
-use Rattle.fwupd_jobs.specs.declared.running.WatchFault.{WatchFault}
-use Rattle.fwupd_jobs.specs.Running.{DrivingEnds, IsApart, IsBarred, IsBroken, IsUnlinked, IsWatched, LacksLink, LacksTrace, NamesLost, ShowOf, StepsLead, StepsSeen, UpdateEnds, WatchOf, shown_of, starts_of, told_by}
-use Rattle.fwupd_jobs.specs.Setups.{FileOf, IsSetup, LacksPackage, NumberedSetupFails, Says, SourceOf, StoresFail, TellsStore, TextFails}
+use Rattle.fwupd_watch.specs.Recordings.{IsRecorded}
+use Rattle.fwupd_watch.specs.declared.running.WatchFault.{WatchFault}
+use Rattle.fwupd_jobs.specs.Updated.{DrivingEnds, IsUnlinked, IsWatched, LacksLink, LacksTrace, NamesLost, UpdateEnds}
+use Rattle.fwupd_watch.specs.Apart.{IsApart, IsBarred}
+use Rattle.fwupd_watch.specs.Running.{IsBroken, ShowOf, StepsLead, StepsSeen, WatchOf, shown_of, starts_of, told_by}
+use Rattle.fwupd_watch.specs.Files.{FileOf}
+use Rattle.fwupd_jobs.specs.Setups.{IsSetup, LacksPackage, NumberedSetupFails, Says, SourceOf, StoresFail, TellsStore, TextFails}
 use Rattle.fw_edge.specs.declared.driving.EdgeFault.TheVariants as edges
-use Rattle.fwupd_jobs.specs.declared.faults.RunFault.{RunFault}
-use Rattle.fwupd_jobs.specs.declared.faults.RunFault.TheVariants as faults
+use Rattle.fwupd_watch.specs.declared.faults.RunFault.{RunFault}
+use Rattle.fwupd_watch.specs.declared.faults.RunFault.TheVariants as faults
 
 -- the world that steps lead to is safe
 pub safe_reached : (number : ℕ) (w v : WorldOf) → PacketsAreSafe → IsOpeningWorld w → StepsLead number w v → IsSafeSince w v

@@ -11,9 +11,10 @@ use Rattle.fw_script.specs.PackageSpecs.{PackageSpecOf, SpecComponentOf, SpecRec
 use Rattle.fw_script.specs.declared.faults.ScriptCause.{ScriptCause}
 use Rattle.fw_script.specs.declared.faults.ScriptCause.TheVariants as causes
 use Rattle.fw_script.specs.declared.faults.ScriptFault.{ScriptFault}
-use Rattle.fwupd_jobs.specs.Setups.{FileOf, IsApartFrom, IsOver, IsUnread, MayHold, Says, TextFails}
-use Rattle.fwupd_jobs.specs.declared.faults.RunFault.{RunFault}
-use Rattle.fwupd_jobs.specs.declared.faults.RunFault.TheVariants as faults
+use Rattle.fwupd_watch.specs.Files.{FileOf, IsApartFrom, IsOver, MayHold}
+use Rattle.fwupd_jobs.specs.Setups.{IsUnread, Says, TextFails}
+use Rattle.fwupd_watch.specs.declared.faults.RunFault.{RunFault}
+use Rattle.fwupd_watch.specs.declared.faults.RunFault.TheVariants as faults
 
 -- what is asked of a package by a text, with these images
 abbrev pub record_by : SpecRecordOf → AskedRecordOf

@@ -1,11 +1,13 @@
 -- What is written of a run over links, and how it ends where each session is to be Done.
 use Rattle.std.specs.Prelude.{ℕ, ◌≡◌, ◌⊎◌, Bool, true, List, Option, Some}
-use Rattle.fwupd_jobs.specs.Outputs.{OutputOf}
-use Rattle.fwupd_jobs.specs.Running.{ReportsUpdate, ShowOf, UpdateEnds, WatchOf}
+use Rattle.fwupd_watch.specs.Outputs.{OutputOf}
+use Rattle.fwupd_jobs.specs.Updated.{ReportsUpdate, UpdateEnds}
+use Rattle.fwupd_watch.specs.Running.{ShowOf, WatchOf}
 use Rattle.fwupd_jobs.specs.Sessions.{AllDone, TellsUndone}
-use Rattle.fwupd_jobs.specs.Setups.{FileOf, SourceOf}
+use Rattle.fwupd_watch.specs.Files.{FileOf}
+use Rattle.fwupd_jobs.specs.Setups.{SourceOf}
 use Rattle.fwupd_words.specs.declared.asked.Order.{Order}
-use Rattle.fwupd_jobs.specs.declared.faults.RunFault.{RunFault}
+use Rattle.fwupd_watch.specs.declared.faults.RunFault.{RunFault}
 use Rattle.fwupd_jobs.specs.declared.sessions.Undone.{Undone}
 
 -- The report is written, and where that is asked for, each session of the world that it is of is Done.

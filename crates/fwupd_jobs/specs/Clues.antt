@@ -5,8 +5,8 @@ use Rattle.fwupd_words.specs.declared.asked.Job.TheVariants as jobs
 use Rattle.fwupd_words.specs.declared.asked.Show.{Show}
 use Rattle.fwupd_jobs.specs.declared.clues.Clue.{Clue}
 use Rattle.fwupd_jobs.specs.declared.clues.Clue.TheVariants as clues
-use Rattle.fwupd_jobs.specs.declared.faults.RunFault.{RunFault}
-use Rattle.fwupd_jobs.specs.declared.faults.RunFault.TheVariants as faults
+use Rattle.fwupd_watch.specs.declared.faults.RunFault.{RunFault}
+use Rattle.fwupd_watch.specs.declared.faults.RunFault.TheVariants as faults
 
 -- A clue, by the paths that it names.
 pub data ClueOf : Type 0 where

@@ -1,20 +1,21 @@
 -- What each job does of those that the words of a command line ask for.
 use Rattle.std.specs.Prelude.{ℕ, ◌≡◌, ◌⊎◌, Bool, true, false, List, None, Option, option_map}
 use Rattle.fw_setup.specs.Stocks.{StoresOf}
-use Rattle.fwupd_jobs.specs.Answering.{AnswerEnds, Answers}
+use Rattle.fwupd_watch.specs.Answering.{AnswerEnds, Answers}
 use Rattle.fwupd_jobs.specs.Built.{BuildEnds, Builds}
 use Rattle.fwupd_jobs.specs.Checked.{CheckedEnds, ReportsChecked}
 use Rattle.fwupd_jobs.specs.Inspected.{InspectEnds, Inspects}
 use Rattle.fwupd_jobs.specs.Logs.{LogEnds, LogIsTold}
-use Rattle.fwupd_jobs.specs.Outputs.{OutputOf}
+use Rattle.fwupd_watch.specs.Outputs.{OutputOf}
 use Rattle.fwupd_jobs.specs.Planned.{PlanEnds, Plans}
 use Rattle.fwupd_jobs.specs.Replayed.{ReplayEnds, ReportsReplay}
-use Rattle.fwupd_jobs.specs.Running.{WatchOf, show_of}
-use Rattle.fwupd_jobs.specs.Setups.{FileOf, any_file, any_stores, source_of}
+use Rattle.fwupd_watch.specs.Running.{WatchOf, show_of}
+use Rattle.fwupd_watch.specs.Files.{FileOf, any_file}
+use Rattle.fwupd_jobs.specs.Setups.{any_stores, source_of}
 use Rattle.fwupd_jobs.specs.Soaked.{SoakEnds, SoaksClean}
 use Rattle.fwupd_words.specs.declared.asked.Job.{Job}
 use Rattle.fwupd_words.specs.declared.asked.Job.TheVariants as jobs
-use Rattle.fwupd_jobs.specs.declared.faults.RunFault.{RunFault}
+use Rattle.fwupd_watch.specs.declared.faults.RunFault.{RunFault}
 
 -- A job is done: what it was asked for is written.
 abbrev pub IsDone : Job → (files : List ℕ → FileOf) → (stores : (root : List ℕ) → StoresOf) → (read_before read_now : Option (List ℕ)) → WatchOf → (is_known : Bool) → (held : List ℕ → Option (List ℕ)) → (before now : OutputOf) → Type 0

@@ -5,10 +5,11 @@ use Rattle.fw_script.specs.Configs.{ConfigOf, config_of}
 use Rattle.ua_core.specs.Lent.{package_at}
 use Rattle.fw_json.specs.Forms.{plan_in}
 use Rattle.fwupd_base.specs.declared.forms.Form.{Form}
-use Rattle.fwupd_jobs.specs.Outputs.{FailsToPrint, OutputOf, Prints}
-use Rattle.fwupd_jobs.specs.Setups.{ArePackages, FileOf, LacksPackage, NumberedSetupFails, Says}
-use Rattle.fwupd_jobs.specs.declared.faults.RunFault.{RunFault}
-use Rattle.fwupd_jobs.specs.declared.faults.RunFault.TheVariants as faults
+use Rattle.fwupd_watch.specs.Outputs.{FailsToPrint, OutputOf, Prints}
+use Rattle.fwupd_jobs.specs.Setups.{ArePackages, LacksPackage, NumberedSetupFails, Says}
+use Rattle.fwupd_watch.specs.Files.{FileOf}
+use Rattle.fwupd_watch.specs.declared.faults.RunFault.{RunFault}
+use Rattle.fwupd_watch.specs.declared.faults.RunFault.TheVariants as faults
 
 -- A text says what comes of an update of the devices of the configuration in a file, with its package of this number, from 1 on.
 pub record Forecasts (files : List ℕ → FileOf) (path : List ℕ) (number : ℕ) (form : Form) (text : List ℕ) : Type 0 where

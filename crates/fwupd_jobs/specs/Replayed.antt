@@ -9,13 +9,15 @@ use Rattle.fw_world.specs.Replays.{Refuses}
 use Rattle.fw_world.specs.Worlds.{WorldOf}
 use Rattle.fw_world.specs.declared.step.Step.{Step}
 use Rattle.fw_world.specs.declared.step.StepFault.{StepFault}
-use Rattle.fwupd_jobs.specs.Outputs.{FailsToPrint, OutputOf, Prints}
+use Rattle.fwupd_watch.specs.Outputs.{FailsToPrint, OutputOf, Prints}
 use Rattle.fwupd_jobs.specs.Promises.{IsSafeSince}
-use Rattle.fwupd_jobs.specs.Running.{IsApart, IsBarred, ShowOf, WatchOf, shown_of, told_by}
-use Rattle.fwupd_jobs.specs.Setups.{FileOf, IsSetup, Says, SetupFails, SourceOf, StoresFail, TextFails}
-use Rattle.fwupd_jobs.specs.declared.running.WatchFault.{WatchFault}
-use Rattle.fwupd_jobs.specs.declared.faults.RunFault.{RunFault}
-use Rattle.fwupd_jobs.specs.declared.faults.RunFault.TheVariants as faults
+use Rattle.fwupd_watch.specs.Apart.{IsApart, IsBarred}
+use Rattle.fwupd_watch.specs.Running.{ShowOf, WatchOf, shown_of, told_by}
+use Rattle.fwupd_watch.specs.Files.{FileOf}
+use Rattle.fwupd_jobs.specs.Setups.{IsSetup, Says, SetupFails, SourceOf, StoresFail, TextFails}
+use Rattle.fwupd_watch.specs.declared.running.WatchFault.{WatchFault}
+use Rattle.fwupd_watch.specs.declared.faults.RunFault.{RunFault}
+use Rattle.fwupd_watch.specs.declared.faults.RunFault.TheVariants as faults
 
 -- all steps are taken; or those before the one that isn't, for this reason
 abbrev pub Leaves : WorldOf → List Step → Option (ℕ × StepFault) → WorldOf → Type 0

@@ -6,8 +6,8 @@ use Rattle.fw_script.specs.Reports.{cause_name, session_name, session_of}
 use Rattle.fw_world.specs.Worlds.{SiteOf, WorldOf}
 use Rattle.ua_core.specs.declared.state.SessionState.{SessionState}
 use Rattle.ua_core.specs.declared.state.SessionState.TheVariants as sessions
-use Rattle.fwupd_jobs.specs.declared.faults.RunFault.{RunFault}
-use Rattle.fwupd_jobs.specs.declared.faults.RunFault.TheVariants as faults
+use Rattle.fwupd_watch.specs.declared.faults.RunFault.{RunFault}
+use Rattle.fwupd_watch.specs.declared.faults.RunFault.TheVariants as faults
 use Rattle.fwupd_jobs.specs.declared.sessions.Undone.{Undone}
 
 -- each session of a world is Done

@@ -10,10 +10,11 @@ use Rattle.fw_soak.specs.Summaries.{IsSoaked}
 use Rattle.fw_soak.specs.SummaryTexts.{summary_text}
 use Rattle.fw_soak.specs.declared.summary.Summary.{Summary}
 use Rattle.fwupd_words.specs.declared.asked.SoakOrder.{SoakOrder}
-use Rattle.fwupd_jobs.specs.Outputs.{FailsToPrint, OutputOf, Prints}
-use Rattle.fwupd_jobs.specs.Setups.{ArePackages, FileOf, IsApartFrom, IsOverOne, LacksPackage, NumberedSetupFails, Says}
-use Rattle.fwupd_jobs.specs.declared.faults.RunFault.{RunFault}
-use Rattle.fwupd_jobs.specs.declared.faults.RunFault.TheVariants as faults
+use Rattle.fwupd_watch.specs.Outputs.{FailsToPrint, OutputOf, Prints}
+use Rattle.fwupd_jobs.specs.Setups.{ArePackages, LacksPackage, NumberedSetupFails, Says}
+use Rattle.fwupd_watch.specs.Files.{FileOf, IsApartFrom, IsOverOne}
+use Rattle.fwupd_watch.specs.declared.faults.RunFault.{RunFault}
+use Rattle.fwupd_watch.specs.declared.faults.RunFault.TheVariants as faults
 
 -- what runs begin with that a configuration says, with these packages
 abbrev pub setup_said : ConfigOf → List PackageText → SetupOf

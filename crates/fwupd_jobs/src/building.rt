@@ -10,8 +10,6 @@ ghost use Rattle.fw_script.specs.PackageSpecs.{package_spec_of, spec_component_o
 ghost use Rattle.fwupd_jobs.specs.Built.{AreImages, BuildEnds, Builds, BuildsApart, ImageFails, ImagesFail, IsApartFromImages, IsImage, IsOverImage, IsRefused, asked_by, component_by, components_by, record_by, refusal_told};
 ghost use Rattle.fwupd_jobs.specs.Setups.{Says, TextFails, TextFault};
 
-use crate::faults::RunFault;
-use crate::files::{Files, is_same_file};
 use crate::places::Places;
 use crate::setups::{read_fault, text_fault};
 use fw_package::{AskedComponent, AskedFault, AskedPackage, AskedRecord, Descriptor, Header};
@@ -20,6 +18,7 @@ use fw_script::{
     read_package_spec,
 };
 use fwupd_base::write_whole;
+use fwupd_watch::{Files, RunFault, is_same_file};
 use std::alloc::Global;
 use std::io::Write;
 

@@ -3,18 +3,15 @@
 ghost use Rattle.std.specs.Prelude.{◌≡◌, ◌⊎◌, IfErr, OnOk, option_map};
 ghost use Rattle.fw_setup.specs.Stocks.{stores_in};
 ghost use Rattle.fwupd_jobs.specs.Checked.{CheckedEnds, ReportsChecked};
-ghost use Rattle.fwupd_jobs.specs.Running.{IsUnwritten, show_of};
+ghost use Rattle.fwupd_watch.specs.Running.{IsUnwritten, show_of};
 ghost use Rattle.fwupd_jobs.specs.Setups.{TellsStore, source_of};
 
-use crate::faults::RunFault;
-use crate::files::Files;
-use crate::output::Output;
-use crate::running::Watch;
 use crate::sessions::undone_fault;
 use crate::updating::{Wires, update_files};
 use fw_edge::Link;
 use fw_setup::Stores;
 use fw_store::Folder;
+use fwupd_watch::{Files, Output, RunFault, Watch};
 use fwupd_words::{Order, Show};
 use std::alloc::Global;
 use std::io::Write;

@@ -3,7 +3,7 @@
 ghost use Rattle.std.specs.Prelude.{◌≡◌, option_map};
 ghost use Rattle.fwupd_jobs.specs.Clues.{clue_of, clue_seen, clue_to_shown};
 
-use crate::faults::RunFault;
+use fwupd_watch::RunFault;
 use fwupd_words::{Job, Show};
 
 /// What helps to find why a job failed.

@@ -4,10 +4,9 @@ ghost use Rattle.std.specs.Prelude.{◌≡◌, IfOk, IfSome, length};
 ghost use Rattle.fw_script.specs.Schedules.{script_of};
 
 use crate::clues::{Clue, clue_to};
-use crate::faults::RunFault;
-use crate::files::{Files, SystemFiles, folder_and_name};
 use fw_package::Package;
 use fw_script::{ScriptCause, read_schedule};
+use fwupd_watch::{Files, RunFault, SystemFiles, folder_and_name};
 use fwupd_words::Job;
 use std::alloc::Global;
 use std::fs::{self, OpenOptions};

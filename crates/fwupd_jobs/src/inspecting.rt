@@ -1,17 +1,24 @@
 //! Inspecting the package in a file, of which its header is read and no more.
 
-ghost use Rattle.std.specs.Prelude.{IfErr, OnOk};
-ghost use Rattle.fwupd_jobs.specs.Inspected.{InspectEnds, Inspects};
+ghost use Rattle.std.specs.Prelude.{◌≡◌, IfErr, OnOk};
+ghost use Rattle.fwupd_jobs.specs.Inspected.{InspectEnds, Inspects, told_as};
 
-use crate::beginnings::Beginning;
-use crate::faults::{RunFault, inspection_fault};
-use crate::files::Files;
-use crate::output::Output;
 use crate::setups::read_fault;
 use fw_json::inspect_beginning_in;
-use fwupd_base::Form;
+use fwupd_base::{Form, InspectFault};
+use fwupd_watch::{Beginning, Files, Output, RunFault};
 use std::alloc::Global;
 use std::io::Write;
+
+/// Why a package couldn't be inspected.
+pub fn inspection_fault(fault: InspectFault) -> RunFault
+    ensures { result ≡ told_as fault }
+{
+    match fault {
+        InspectFault::Memory => RunFault::Memory,
+        InspectFault::Package(fault) => RunFault::Package(fault),
+    }
+}
 
 /// Inspects the package in a file, and writes what it holds in a form.
 ///

@@ -3,25 +3,22 @@
 ghost use Rattle.std.specs.Prelude.{◌≡◌, ◌⊎◌, IfErr, OnOk};
 ghost use Rattle.fw_setup.specs.Stocks.{stores_in};
 ghost use Rattle.fwupd_jobs.specs.Jobs.{IsDone, JobEnds};
-ghost use Rattle.fwupd_jobs.specs.Running.{IsUnwritten};
+ghost use Rattle.fwupd_watch.specs.Running.{IsUnwritten};
 
 use crate::building::build_file;
 use crate::checking::update_checked;
-use crate::faults::RunFault;
-use crate::files::Files;
 use crate::inspecting::inspect_file;
-use crate::logging::sel_file;
-use crate::output::Output;
 use crate::places::Places;
 use crate::planning::plan_file;
 use crate::replaying::replay_files;
-use crate::running::Watch;
 use crate::soaking::soak_file;
+use crate::telling::sel_file;
 use crate::updating::Wires;
 use fw_edge::Link;
 use fw_setup::Stores;
 use fw_soak::Onlooker;
 use fw_store::Folder;
+use fwupd_watch::{Files, Output, RunFault, Watch};
 use fwupd_words::Job;
 use std::alloc::Global;
 use std::io::{Read, Write};

@@ -1,63 +1,45 @@
 //! The jobs of the program: answers, inspections, forecasts, replays and updates over links, and the words that ask for them.
 #![tactic(auto)]
 
-mod beginnings;
 mod building;
 mod checking;
 mod clues;
-mod durable;
 mod explaining;
-mod faults;
-mod files;
-mod history;
-mod history_opening;
 mod inspecting;
 mod jobs;
-mod logging;
 mod numbering;
-mod output;
 mod places;
 mod planning;
 mod program;
-mod progress;
 mod read_ahead;
-mod recording;
 mod recording_laws;
 mod replaying;
-mod running;
 mod sessions;
 mod setups;
 mod soak_progress;
 mod soaking;
 mod socket_names;
 mod sockets;
-mod tracing;
-mod tracing_laws;
+mod telling;
 mod updating;
-mod watching;
 mod words;
 mod write_behind;
 
-pub use beginnings::Beginning;
 pub use building::build_file;
 pub use checking::update_checked;
-pub use durable::Durable;
-pub use faults::{RunFault, inspection_fault};
-pub use files::{FileFault, FileIdentity, Files};
+pub use fwupd_watch::{
+    Beginning, Durable, FileFault, FileIdentity, Files, HistoryFile, Output, Recording, RunFault,
+    Watch, WatchFault, texts_are_lines,
+};
 pub use fwupd_words::{Job, Order, Show, SoakOrder, TraceForm, parse};
-pub use history::HistoryFile;
-pub use inspecting::inspect_file;
+pub use inspecting::{inspect_file, inspection_fault};
 pub use jobs::perform_job;
-pub use logging::{names_causes, sel_file};
-pub use output::Output;
 pub use places::Places;
 pub use planning::plan_file;
 pub use program::perform;
-pub use recording::Recording;
 pub use recording_laws::records_replay;
 pub use replaying::replay_files;
-pub use running::{Watch, WatchFault};
 pub use sessions::Undone;
 pub use soaking::soak_file;
-pub use tracing_laws::texts_are_lines;
+pub use telling::{names_causes, sel_file};
 pub use updating::{Wires, update_files};

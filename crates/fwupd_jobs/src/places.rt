@@ -2,7 +2,7 @@
 
 ghost use Rattle.std.specs.Prelude.{◌≡◌, ◌⊎◌, [], Bool, IfErr, IfOk, List, None, OnErr, OnOk, Option, Some, false, is_some, true, ℕ};
 
-use crate::faults::RunFault;
+use fwupd_watch::RunFault;
 use std::alloc::Global;
 use std::fs::{self, File};
 use std::io::Write;

@@ -3,15 +3,13 @@
 ghost use Rattle.std.specs.Prelude.{IfErr, OnOk};
 ghost use Rattle.fwupd_jobs.specs.Planned.{PlanEnds, Plans};
 
-use crate::faults::RunFault;
-use crate::files::Files;
 use crate::numbering::{is_numbered, numbered};
-use crate::output::Output;
 use crate::setups::{configuration, package_files, packages_in};
 use fw_json::plan_in;
 use fw_script::Config;
 use fw_setup::forecast;
 use fwupd_base::Form;
+use fwupd_watch::{Files, Output, RunFault};
 use std::alloc::Global;
 use std::io::Write;
 

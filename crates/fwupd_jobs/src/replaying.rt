@@ -11,15 +11,11 @@ ghost use Rattle.fw_world.specs.Worlds.{full_tick};
 ghost use Rattle.fw_setup.specs.Nodes.{nodes_made};
 ghost use Rattle.fw_setup.specs.Stocks.{stores_in};
 ghost use Rattle.fwupd_jobs.specs.Replayed.{IsReplayed, ReplayEnds, ReportsReplay, taken_of};
-ghost use Rattle.fwupd_jobs.specs.Running.{IsApart, IsBarred, IsUnwritten, show_of, shown_of};
+ghost use Rattle.fwupd_watch.specs.Apart.{IsApart, IsBarred};
+ghost use Rattle.fwupd_watch.specs.Running.{IsUnwritten, show_of, shown_of};
 ghost use Rattle.fwupd_jobs.specs.Setups.{source_of};
 
-use crate::faults::RunFault;
-use crate::files::{Files, is_one_path};
-use crate::output::Output;
-use crate::running::{Watch, WatchFault, watch_fault};
 use crate::setups::{configuration, package_files, packages_in, read_kept, schedule};
-use crate::updating::begin_apart;
 use fd_core::Bank;
 use fw_json::report_in;
 use fw_package::Package;
@@ -28,6 +24,9 @@ use fw_setup::{Stores, opening_world};
 use fw_store::Folder;
 use fw_world::{Missed, Step, StepFault, World, packets_are_safe};
 use fwupd_base::Form;
+use fwupd_watch::{
+    Files, Output, RunFault, Watch, WatchFault, begin_apart, is_one_path, watch_fault,
+};
 use fwupd_words::Show;
 use mctp_ctl::Endpoint;
 use mctp_wire::Unit;

@@ -1,14 +1,14 @@
 //! Which session of a world isn't Done.
 
 ghost use Rattle.std.specs.Prelude.{◌≡◌, None};
-ghost use Rattle.fwupd_jobs.specs.Running.{watch_of};
+ghost use Rattle.fwupd_watch.specs.Running.{watch_of};
 ghost use Rattle.fwupd_jobs.specs.Sessions.{TellsUndone, is_done, undone_in, undone_word};
 ghost use Rattle.fwupd_jobs.specs.Setups.{TellsStore};
 
-use crate::faults::RunFault;
 use fd_core::Bank;
 use fw_script::{cause_name, session_name, session_of};
 use fw_world::World;
+use fwupd_watch::RunFault;
 use ua_core::SessionState;
 
 /// A session that isn't Done.

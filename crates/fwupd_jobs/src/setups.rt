@@ -1,6 +1,6 @@
 //! What the jobs on worlds begin with: a configuration, the packages that it names, and what the stores of its devices keep.
 
-ghost use Rattle.std.specs.Prelude.{◌≡◌, ◌≤◌, ◌-◌, ◌^◌, ◌⊎◌, IfErr, IfOk, IsOk, IsSomeAnd, Ok, OnOk, length, map, option_map, string_bytes, ℕ};
+ghost use Rattle.std.specs.Prelude.{◌≡◌, ◌≢◌, ◌≤◌, ◌-◌, ◌^◌, ◌⊎◌, IfErr, IfOk, IsOk, IsSomeAnd, Ok, OnOk, length, map, option_map, string_bytes, ℕ};
 ghost use Rattle.std.specs.List.{AllByRecursion};
 ghost use Rattle.fw_package.specs.Reading.{package_of};
 ghost use Rattle.fw_script.specs.Configs.{config_of};
@@ -11,16 +11,27 @@ ghost use Rattle.fw_script.specs.Whole.{AreWhole};
 ghost use Rattle.fw_setup.specs.Stocks.{AreStocked, stores_in};
 ghost use Rattle.fwupd_jobs.specs.Setups.{AreDevices, ArePacked, IsPacked, IsUnreadable, PackageFails, PackagesFail, Says, TellsUnopened, TextFails, TextFault, misread_told, unread_told};
 
-use crate::faults::{RunFault, store_fault};
-use crate::files::{FileFault, Files};
 use fw_package::Package;
 use fw_script::{
     Config, DeviceConfig, ScheduleLine, ScriptCause, ScriptFault, read_config, read_lines,
     step_count,
 };
-use fw_setup::{StoreBanks, Stores, open_stores, read_stores};
-use fw_store::Folder;
+use fw_setup::{StoreBanks, Stores, Unopened, open_stores, read_stores};
+use fw_store::{Folder, OpenFault};
+use fwupd_watch::{FileFault, Files, RunFault};
 use std::alloc::{AllocError, Global};
+
+/// Why a device's store isn't opened.
+fn store_fault(unopened: Unopened) -> RunFault
+    ensures told { (result ≡ RunFault.Memory) ⊎ (result ≡ RunFault.Store unopened.device unopened.why) }
+    ensures memory { unopened.why ≡ OpenFault.Memory → result ≡ RunFault.Memory }
+    ensures other { unopened.why ≢ OpenFault.Memory → result ≡ RunFault.Store unopened.device unopened.why }
+{
+    match unopened.why {
+        OpenFault::Memory => RunFault::Memory,
+        why => RunFault::Store(unopened.device, why),
+    }
+}
 
 /// What is told of a file of this name that isn't read; without memory for its name, that.
 fn unread(name: Result<String, AllocError>, fault: FileFault) -> RunFault

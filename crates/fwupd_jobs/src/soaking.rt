@@ -4,16 +4,14 @@ ghost use Rattle.std.specs.Prelude.{◌≡◌, ◌≢◌, ◌⊎◌, IfErr, None
 ghost use Rattle.fw_script.specs.ScheduleTexts.{schedule_text};
 ghost use Rattle.fwupd_jobs.specs.Soaked.{IsJudged, SoakEnds, SoaksClean};
 
-use crate::faults::RunFault;
-use crate::files::{Files, is_over_read};
 use crate::numbering::is_numbered;
-use crate::output::Output;
 use crate::places::Places;
 use crate::setups::{configuration, package_files, packages_in};
 use fw_script::{Config, write_schedule};
 use fw_soak::{Onlooker, Setup, soak, summary_text};
 use fw_world::Step;
 use fwupd_base::write_whole;
+use fwupd_watch::{Files, Output, RunFault, is_over_read};
 use fwupd_words::SoakOrder;
 use std::alloc::Global;
 use std::io::Write;

@@ -3,12 +3,12 @@
 ghost use Rattle.std.specs.Prelude.{◌==◌, ◌≡◌, IfOk, true};
 ghost use Rattle.mctp_wire.specs.Units.{bytes_of};
 
-use crate::faults::RunFault;
 use crate::read_ahead::ReadAhead;
 use crate::socket_names::{SocketNames, SystemNames};
 use crate::updating::Wires;
 use crate::write_behind::WriteBehind;
 use fw_edge::StreamLink;
+use fwupd_watch::RunFault;
 use mctp_wire::Unit;
 use std::alloc::Global;
 use std::io::{self, IsTerminal};

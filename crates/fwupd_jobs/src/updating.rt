@@ -1,22 +1,19 @@
 //! Updating the devices of a configuration.
 
-ghost use Rattle.std.specs.Prelude.{◌≡◌, ◌∷◌, ◌⊎◌, Bool, false, IfErr, IfOk, IfSome, IsSomeAnd, List, None, OnOk, length, map, option_map, string_bytes, true, ℕ};
+ghost use Rattle.std.specs.Prelude.{◌≡◌, ◌⊎◌, Bool, IfErr, IfOk, IfSome, List, None, OnOk, length, map, option_map, string_bytes, true, ℕ};
 ghost use Rattle.std.specs.List.{AllByRecursion};
 ghost use Rattle.fw_json.specs.Forms.{report_in};
 ghost use Rattle.fw_setup.specs.Stocks.{stores_in};
 ghost use Rattle.fw_world.specs.Headline.{IsOpeningWorld};
-ghost use Rattle.fwupd_jobs.specs.Outputs.{FailsToPrint, Prints};
+ghost use Rattle.fwupd_watch.specs.Outputs.{FailsToPrint, Prints};
 ghost use Rattle.fwupd_jobs.specs.Sessions.{undone_in};
-ghost use Rattle.fwupd_jobs.specs.Setups.{IsApartFrom, IsOver, SourceOf, TellsStore, source_of};
-ghost use Rattle.fwupd_jobs.specs.Histories.{AreKeptUp, AreKeptUpStill, IsFresh};
-ghost use Rattle.fwupd_jobs.specs.Recordings.{IsNew, IsRecorded};
-ghost use Rattle.fwupd_jobs.specs.Running.{AreLinked, AreToldOf, DrivingEnds, IsApart, IsApartFromUsed, IsBarred, IsBroken, IsCaused, IsInStore, IsLost, IsNamed, IsOutOfStore, IsOverUsed, IsRough, IsUnlinked, IsUnwritten, IsUpdated, NamesLost, ReportsUpdate, StepsLead, StepsSeen, TellsLost, UpdateEnds, Updates, show_of, shown_of};
+ghost use Rattle.fwupd_jobs.specs.Setups.{SourceOf, TellsStore, source_of};
+ghost use Rattle.fwupd_watch.specs.Histories.{AreKeptUp, AreKeptUpStill};
+ghost use Rattle.fwupd_watch.specs.Recordings.{IsNew, IsRecorded};
+ghost use Rattle.fwupd_jobs.specs.Updated.{AreLinked, DrivingEnds, IsLost, IsNamed, IsRough, IsUnlinked, NamesLost, ReportsUpdate, TellsLost, UpdateEnds};
+ghost use Rattle.fwupd_watch.specs.Running.{AreToldOf, IsBroken, IsCaused, IsUnwritten, IsUpdated, StepsLead, StepsSeen, Updates, show_of};
 
-use crate::faults::RunFault;
-use crate::files::{Files, is_read, is_same_file};
 use crate::numbering::is_numbered;
-use crate::output::Output;
-use crate::running::{Watch, WatchFault, update_watched, watch_fault};
 use crate::sessions::{Undone, first_undone};
 use crate::setups::{configuration, open_kept, package_files, packages_in};
 use fd_core::Bank;
@@ -27,9 +24,10 @@ use fw_setup::{Stores, opening_world, opening_world_over};
 use fw_store::Folder;
 use fw_world::{World, packets_are_safe};
 use fwupd_base::Form;
+use fwupd_watch::{Files, Output, RunFault, Watch, begin_apart, update_watched};
 use fwupd_words::{Order, Show};
 use mctp_wire::Unit;
-use std::alloc::{AllocError, Global};
+use std::alloc::Global;
 use std::io::Write;
 
 /// Where links to devices are opened, in a folder. It is known before to which devices they may be lacking, and may be told of a link
@@ -97,136 +95,6 @@ fn write_report<B: Bank + Drop, W: Write + Drop>(
     match output.write(&text) {
         Ok(()) => Ok(()),
         Err(fault) => Err(fault),
-    }
-}
-
-/// Whether the file of a path is another that a run writes, if it writes that.
-fn is_written<F: Files>(files: &F, path: &str, other: Option<&str>) -> bool
-    ensures over { result ≡ true → IsSomeAnd (option_map (λ p. p.now) other.entry) (IsOver (F.holds files.now) path.now) }
-    ensures apart { result ≡ false → IfSome (option_map (λ p. p.now) other.entry) (IsApartFrom (F.holds files.now) path.now) }
-{
-    match other {
-        Some(other) => is_same_file(files, other, path),
-        None => false,
-    }
-}
-
-/// Whether a file that is to be written, if one is, is one of those that a run reads, or one of two others that it writes.
-fn is_over<F: Files>(
-    files: &F,
-    path: Option<&str>,
-    first: Option<&str>,
-    second: Option<&str>,
-    config: &str,
-    packages: &[String],
-) -> bool
-    ensures over { result ≡ true → IsOverUsed (F.holds files.now) (option_map (λ p. p.now) path.entry) (option_map (λ p. p.now) first.entry) (option_map (λ p. p.now) second.entry) (config.now ∷ map (λ p. string_bytes p) packages.now) }
-    ensures apart { result ≡ false → IsApartFromUsed (F.holds files.now) (option_map (λ p. p.now) path.entry) (option_map (λ p. p.now) first.entry) (option_map (λ p. p.now) second.entry) (config.now ∷ map (λ p. string_bytes p) packages.now) }
-{
-    let Some(path) = path else {
-        return false;
-    };
-    if is_read(files, path, config, packages) {
-        return true;
-    }
-    if is_written(files, path, first) {
-        return true;
-    }
-    is_written(files, path, second)
-}
-
-/// Whether a file that is to be written, if one is, lies in the folder of stores, if there is one, or in a store.
-fn is_in_store<F: Files>(
-    alloc: Global,
-    files: &F,
-    path: Option<&str>,
-    store: Option<&str>,
-) -> Result<bool, AllocError>
-    ensures below { IfOk result (λ b. b ≡ true → IsInStore (F.holds files.now) (option_map (λ p. p.now) path.entry) (option_map (λ p. p.now) store.entry)) }
-    ensures outside { IfOk result (λ b. b ≡ false → IsOutOfStore (F.holds files.now) (option_map (λ p. p.now) path.entry) (option_map (λ p. p.now) store.entry)) }
-{
-    match (path, store) {
-        (Some(path), Some(store)) => files.is_below(alloc, path, store),
-        _ => Ok(false),
-    }
-}
-
-/// Whether a file that is to be written, if one is, is one of those that a run reads, or one of two others that it writes, or lies in a
-/// store.
-fn is_barred<F: Files>(
-    alloc: Global,
-    files: &F,
-    path: Option<&str>,
-    first: Option<&str>,
-    second: Option<&str>,
-    config: &str,
-    packages: &[String],
-    store: Option<&str>,
-) -> Result<bool, AllocError>
-    ensures over { IfOk result (λ b. b ≡ true
-        → IsOverUsed (F.holds files.now) (option_map (λ p. p.now) path.entry) (option_map (λ p. p.now) first.entry) (option_map (λ p. p.now) second.entry) (config.now ∷ map (λ p. string_bytes p) packages.now)
-        ⊎ IsInStore (F.holds files.now) (option_map (λ p. p.now) path.entry) (option_map (λ p. p.now) store.entry)) }
-    ensures apart { IfOk result (λ b. b ≡ false
-        → IsApartFromUsed (F.holds files.now) (option_map (λ p. p.now) path.entry) (option_map (λ p. p.now) first.entry) (option_map (λ p. p.now) second.entry) (config.now ∷ map (λ p. string_bytes p) packages.now)
-        × IsOutOfStore (F.holds files.now) (option_map (λ p. p.now) path.entry) (option_map (λ p. p.now) store.entry)) }
-{
-    if is_over(files, path, first, second, config, packages) {
-        return Ok(true);
-    }
-    is_in_store(alloc, files, path, store)
-}
-
-/// Lets what looks on begin, where what it shows isn't written over a file that was read; nor the log's records over the packets, nor
-/// the steps over one of both; and nothing of it lies in a store.
-pub(crate) fn begin_apart<F: Files, V: Watch>(
-    alloc: Global,
-    files: &F,
-    config: &str,
-    packages: &[String],
-    show: Show<'_>,
-    watch: &mut V,
-) -> Result<(), RunFault>
-    ensures shows { OnOk result ((V.watched watch.new).shows ≡ shown_of (show_of show.entry)) }
-    ensures anew { OnOk result (((V.watched watch.new).seen ≡ 0) × ((V.watched watch.new).lost ≡ None)) }
-    ensures recording { OnOk result (IfSome (V.watched watch.new).recording IsNew) }
-    ensures history { OnOk result (IfSome (V.watched watch.new).history IsFresh) }
-    ensures apart { OnOk result (IsApart (F.holds files.now) (show_of show.entry) (config.now ∷ map (λ p. string_bytes p) packages.now)) }
-    ensures untouched { IfErr result (λ e. (watch.new ≡ watch.old) ⊎ IsUnwritten e (V.watched watch.new).fault) }
-    ensures fault { IfErr result (λ e. (e ≡ RunFault.Memory)
-        ⊎ IsBarred (F.holds files.now) (V.refuses watch.old) (show_of show.entry) (config.now ∷ map (λ p. string_bytes p) packages.now) e (V.watched watch.new)) }
-{
-    let store = show.store;
-    match is_barred(
-        alloc, files, show.trace, None, None, config, packages, store,
-    ) {
-        Ok(false) => {}
-        Ok(true) => return Err(RunFault::Trace),
-        Err(_) => return Err(RunFault::Memory),
-    }
-    match is_barred(
-        alloc, files, show.log, show.trace, None, config, packages, store,
-    ) {
-        Ok(false) => {}
-        Ok(true) => return Err(RunFault::Log),
-        Err(_) => return Err(RunFault::Memory),
-    }
-    match is_barred(
-        alloc,
-        files,
-        show.record,
-        show.trace,
-        show.log,
-        config,
-        packages,
-        store,
-    ) {
-        Ok(false) => {}
-        Ok(true) => return Err(RunFault::Record),
-        Err(_) => return Err(RunFault::Memory),
-    }
-    match watch.begin(show) {
-        Ok(()) => Ok(()),
-        Err(fault) => Err(watch_fault(fault)),
     }
 }
 

@@ -3,8 +3,8 @@
 ghost use Rattle.std.specs.Prelude.{◌≡◌, ◌≢◌, ◌⊎◌, IfErr};
 ghost use Rattle.std.specs.Process.{exit_status};
 
-use crate::faults::RunFault;
 use crate::program::{USAGE, failed};
+use fwupd_watch::RunFault;
 use std::io::ErrorKind;
 use std::process::ExitCode;
 

@@ -1,7 +1,7 @@
 //! Jobs over files in memory.
 
 ghost use Rattle.std.specs.Prelude.{◌≡◌, Err, IfErr, IfSome, None, OnOk, Some, is_some, true};
-ghost use Rattle.fwupd_jobs.specs.Setups.{any_file};
+ghost use Rattle.fwupd_watch.specs.Files.{any_file};
 
 use fd_core::Bank;
 use fw_edge::{Link, MemLink, Roughness, StreamLink};
@@ -61,12 +61,12 @@ impl<'a> Files for MemFiles<'a> {
         false
     }
 
-    #[tactic(auto, using(fwupd_jobs::proofs::AnyFiles::any_place))]
+    #[tactic(auto, using(fwupd_watch::proofs::AnyFiles::any_place))]
     fn is_one_place(&self, one: &str, other: &str) -> bool {
         one == other
     }
 
-    #[tactic(auto, using(fwupd_jobs::proofs::AnyFiles::any_below))]
+    #[tactic(auto, using(fwupd_watch::proofs::AnyFiles::any_below))]
     fn is_below(&self, _alloc: Global, path: &str, folder: &str) -> Result<bool, AllocError> {
         match path.strip_prefix(folder) {
             Some(name) => Ok(name.starts_with('/')),

@@ -1,4 +1,4 @@
-use Rattle.fwupd_jobs.proofs.Noted.{records_replay}
+use Rattle.fwupd_jobs.proofs.Recorded.{records_replay}
 use Rattle.fwupd_jobs.proofs.recording_laws.records_replay.Goals as goal
 
 pub returns : goal.returns

@@ -1,6 +1,6 @@
 use Rattle.std.proofs.Common.{◌∷◌, inl, inr, map}
 use Rattle.std.specs.Prelude.{string_bytes}
-use Rattle.fwupd_jobs.specs.Running.{show_of}
+use Rattle.fwupd_watch.specs.Running.{show_of}
 use Rattle.fwupd_jobs.proofs.Barred.{barred_more}
 use Rattle.fwupd_jobs.proofs.replaying.begin_replay.Goals as goal
 

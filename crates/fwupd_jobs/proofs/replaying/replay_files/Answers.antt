@@ -5,7 +5,7 @@ use Rattle.fw_script.specs.Seen.{config_seen, device_of}
 use Rattle.fw_world.specs.Headline.{new_world}
 use Rattle.fw_setup.specs.Nodes.{nodes_made}
 use Rattle.fw_setup.specs.Stocks.{stores_in}
-use Rattle.fwupd_jobs.specs.Running.{show_of}
+use Rattle.fwupd_watch.specs.Running.{show_of}
 use Rattle.fwupd_jobs.specs.Setups.{source_of}
 use Rattle.fwupd_jobs.proofs.Packed.{named_there, packed_slice, set_up, stores_fail}
 use Rattle.fwupd_jobs.proofs.Told.{breaks_off, place_within, replay_reports, report_there, schedule_ends, seen_ends, step_ends, stores_end_replay, unkept_ends, unseen_ends}

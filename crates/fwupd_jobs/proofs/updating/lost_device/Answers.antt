@@ -1,5 +1,5 @@
 use Rattle.std.proofs.Common.{arith, sym}
-use Rattle.fwupd_jobs.proofs.Started.{lost_at, none_more}
+use Rattle.fwupd_jobs.proofs.Linked.{lost_at, none_more}
 use Rattle.fwupd_jobs.proofs.updating.lost_device.Goals as goal
 
 pub returns-in-Some-clause-lost : goal.returns-in-Some-clause-lost

@@ -1,7 +1,7 @@
 use Rattle.std.proofs.Common.{◌≡◌, ◌⊎◌, ◌∙◌, arith, rules, subst, sym, true}
-use Rattle.fwupd_jobs.specs.declared.faults.RunFault.TheVariants as faults
-use Rattle.fwupd_jobs.specs.Running.{IsRough}
-use Rattle.fwupd_jobs.proofs.Started.{linked_all, linked_next, unlinked_at}
+use Rattle.fwupd_watch.specs.declared.faults.RunFault.TheVariants as faults
+use Rattle.fwupd_jobs.specs.Updated.{IsRough}
+use Rattle.fwupd_jobs.proofs.Linked.{linked_all, linked_next, unlinked_at}
 use Rattle.fwupd_jobs.proofs.updating.open_all.Goals as goal
 
 pub returns-in-Err-clause-fault : goal.returns-in-Err-clause-fault

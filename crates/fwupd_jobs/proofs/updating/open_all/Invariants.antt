@@ -1,5 +1,5 @@
 use Rattle.std.proofs.Common.{◌≡◌, length, take, true}
-use Rattle.fwupd_jobs.specs.Running.{AreLinked, IsRough}
+use Rattle.fwupd_jobs.specs.Updated.{AreLinked, IsRough}
 use Rattle.fwupd_jobs.proofs.updating.open_all.Given as goal
 
 -- a link for each device so far

@@ -5,7 +5,7 @@ use Rattle.fw_script.specs.Whole.{AreWhole}
 use Rattle.fw_setup.specs.Stocks.{AreStocked, stores_in}
 use Rattle.fwupd_jobs.proofs.Packed.{named_with, none_stocked, named_there, numbered_fails, or_later, packed_slice, some_stocked, some_unopened, stores_fail}
 use Rattle.fwupd_jobs.proofs.Told.{stores_end}
-use Rattle.fwupd_jobs.specs.Running.{show_of}
+use Rattle.fwupd_watch.specs.Running.{show_of}
 use Rattle.fwupd_jobs.specs.Setups.{source_of}
 use Rattle.fwupd_jobs.proofs.updating.update_files.Goals as goal
 

@@ -1,6 +1,6 @@
 use Rattle.std.proofs.Common.{inl, inr, subst, sym}
-use Rattle.fwupd_jobs.specs.Running.{StepsSeen}
-use Rattle.fwupd_jobs.proofs.Started.{begun_none, begun_seen, caused_unwritten}
+use Rattle.fwupd_watch.specs.Running.{StepsSeen}
+use Rattle.fwupd_watch.proofs.Started.{begun_none, begun_seen, caused_unwritten}
 use Rattle.fwupd_jobs.proofs.updating.update_over.Goals as goal
 
 pub returns-in-Err-clause-sees : goal.returns-in-Err-clause-sees

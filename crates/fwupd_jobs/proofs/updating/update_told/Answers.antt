@@ -1,9 +1,9 @@
 use Rattle.std.proofs.Common.{inl, inr, subst, sym, ◌∙◌}
 use Rattle.std.specs.Prelude.{IfSome}
-use Rattle.fwupd_jobs.specs.Histories.{AreKeptUpStill}
-use Rattle.fwupd_jobs.specs.Recordings.{IsRecorded}
-use Rattle.fwupd_jobs.specs.Running.{StepsSeen}
-use Rattle.fwupd_jobs.proofs.Started.{caused_still, lost_told}
+use Rattle.fwupd_watch.specs.Histories.{AreKeptUpStill}
+use Rattle.fwupd_watch.specs.Recordings.{IsRecorded}
+use Rattle.fwupd_watch.specs.Running.{StepsSeen}
+use Rattle.fwupd_jobs.proofs.Linked.{caused_still, lost_told}
 use Rattle.fwupd_jobs.proofs.updating.update_told.Goals as goal
 
 pub returns-in-Err-clause-lost : goal.returns-in-Err-clause-lost

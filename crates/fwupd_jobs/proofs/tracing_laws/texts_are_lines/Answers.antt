@@ -1,5 +1,0 @@
-use Rattle.fwupd_jobs.proofs.Turns.{texts_are_lines}
-use Rattle.fwupd_jobs.proofs.tracing_laws.texts_are_lines.Goals as goal
-
-pub returns : goal.returns
-returns c = texts_are_lines

@@ -1,0 +1,12 @@
+pub mod AnyFiles
+pub mod Happened
+pub mod Started
+mod Answering
+mod Begun
+mod Noted
+mod Overs
+mod Refused
+mod Shown
+mod Traced
+mod Turns
+mod WholeLines

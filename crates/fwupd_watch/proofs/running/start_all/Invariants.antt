@@ -1,0 +1,13 @@
+use Rattle.std.proofs.Common.{◌≡◌, ◌≤◌, ◌+◌, ◌-◌, length, take}
+use Rattle.std.specs.Vec.{vec_capacity, vec_len}
+use Rattle.fwupd_watch.specs.Running.{starts_of}
+use Rattle.fwupd_watch.proofs.Started.{Begun}
+use Rattle.fwupd_watch.proofs.running.start_all.Given as goal
+
+-- so many updates are started, and listed
+abbrev pub invariant-loop-place : goal.invariant-loop-place
+invariant-loop-place g l = record {
+  begun : Begun l.number l.fn.world l.place l.world;
+  listed : l.steps.items ≡ starts_of l.number (take l.place l.fn.world.sites);
+  room : vec_len l.steps + (length l.fn.world.sites - l.place) ≤ vec_capacity l.steps;
+}

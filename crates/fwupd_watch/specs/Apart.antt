@@ -1,0 +1,43 @@
+-- That what is shown of a run is written over no file that it reads, over nothing else that is shown, and into no store.
+use Rattle.std.specs.Prelude.{ℕ, ◌⊎◌, Bool, List, Option, None, IfSome, IsSomeAnd}
+use Rattle.std.specs.List.{AllByRecursion}
+use Rattle.fwupd_watch.specs.Files.{FileOf, IsApartFrom, IsBelow, IsOutside, IsOver, IsOverOne}
+use Rattle.fwupd_watch.specs.Running.{IsUnwritten, MayRefuse, ShowOf, WatchOf}
+use Rattle.fwupd_watch.specs.declared.faults.RunFault.{RunFault}
+use Rattle.fwupd_watch.specs.declared.faults.RunFault.TheVariants as faults
+
+-- A file that is written, if one is, is over one of these, or over one of two others that are written; and it is over none.
+abbrev pub IsOverUsed : (files : List ℕ → FileOf) (path first second : Option (List ℕ)) (paths : List (List ℕ)) → Type 0
+IsOverUsed files path first second paths =
+    IsSomeAnd path (λ p. IsOverOne files p paths ⊎ (IsSomeAnd first (IsOver files p) ⊎ IsSomeAnd second (IsOver files p)))
+
+abbrev pub IsApartFromUsed : (files : List ℕ → FileOf) (path first second : Option (List ℕ)) (paths : List (List ℕ)) → Type 0
+IsApartFromUsed files path first second paths =
+    IfSome path (λ p. AllByRecursion (IsApartFrom files p) paths × (IfSome first (IsApartFrom files p) × IfSome second (IsApartFrom files p)))
+
+-- A file that is written, if one is, lies in the folder of stores, if there is one, or in a store; or outside of them.
+abbrev pub IsInStore : (files : List ℕ → FileOf) (path store : Option (List ℕ)) → Type 0
+IsInStore files path store = IsSomeAnd path (λ p. IsSomeAnd store (λ s. IsBelow (files p) (files s)))
+
+abbrev pub IsOutOfStore : (files : List ℕ → FileOf) (path store : Option (List ℕ)) → Type 0
+IsOutOfStore files path store = IfSome path (λ p. IfSome store (λ s. IsOutside (files p) (files s)))
+
+-- Nothing is written over the files of these paths; the log's records not over the packets, and the steps over neither. Nothing of it
+-- lies in a store.
+abbrev pub IsApart : (files : List ℕ → FileOf) → ShowOf → List (List ℕ) → Type 0
+IsApart files show paths =
+    (IsApartFromUsed files show.trace None None paths × IsOutOfStore files show.trace show.store)
+    × ((IsApartFromUsed files show.log show.trace None paths × IsOutOfStore files show.log show.store)
+    × (IsApartFromUsed files show.record_path show.trace show.log paths × IsOutOfStore files show.record_path show.store))
+
+-- The file that what looks on can't write, where that is told, would be written over one of these; or the log's records over the
+-- packets, or the steps over one of both; or it lies in a store.
+abbrev pub IsOverRead : (files : List ℕ → FileOf) → ShowOf → List (List ℕ) → RunFault → Type 0
+IsOverRead files show paths faults.Trace = IsOverUsed files show.trace None None paths ⊎ IsInStore files show.trace show.store
+IsOverRead files show paths faults.Log = IsOverUsed files show.log show.trace None paths ⊎ IsInStore files show.log show.store
+IsOverRead files show paths faults.Record = IsOverUsed files show.record_path show.trace show.log paths ⊎ IsInStore files show.record_path show.store
+IsOverRead files show paths told = ⊥
+
+-- What looks on doesn't begin, and tells so.
+abbrev pub IsBarred : (files : List ℕ → FileOf) (refuses : List ℕ → Bool) (show : ShowOf) (paths : List (List ℕ)) (told : RunFault) (watched : WatchOf) → Type 0
+IsBarred files refuses show paths told watched = IsOverRead files show paths told ⊎ (IsUnwritten told watched.fault × MayRefuse refuses show told)

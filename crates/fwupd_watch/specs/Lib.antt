@@ -1,0 +1,10 @@
+pub mod Answering
+pub mod Apart
+pub mod Files
+pub mod Histories
+pub mod Outputs
+pub mod Progress
+pub mod Recordings
+pub mod Running
+pub mod Traces
+pub mod Watching

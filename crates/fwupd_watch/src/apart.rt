@@ -1,0 +1,144 @@
+//! What is shown of a run is written over no file that it reads, over nothing else that is shown, and into no store.
+
+ghost use Rattle.std.specs.Prelude.{◌≡◌, ◌∷◌, ◌⊎◌, false, IfErr, IfOk, IfSome, IsSomeAnd, None, OnOk, map, option_map, string_bytes, true};
+ghost use Rattle.fwupd_watch.specs.Files.{IsApartFrom, IsOver};
+ghost use Rattle.fwupd_watch.specs.Histories.{IsFresh};
+ghost use Rattle.fwupd_watch.specs.Recordings.{IsNew};
+ghost use Rattle.fwupd_watch.specs.Running.{IsUnwritten, show_of, shown_of};
+ghost use Rattle.fwupd_watch.specs.Apart.{IsApart, IsApartFromUsed, IsBarred, IsInStore, IsOutOfStore, IsOverUsed};
+
+use crate::faults::RunFault;
+use crate::files::{Files, is_read, is_same_file};
+use crate::running::{Watch, watch_fault};
+use fwupd_words::Show;
+use std::alloc::{AllocError, Global};
+
+/// Whether the file of a path is another that a run writes, if it writes that.
+fn is_written<F: Files>(files: &F, path: &str, other: Option<&str>) -> bool
+    ensures over { result ≡ true → IsSomeAnd (option_map (λ p. p.now) other.entry) (IsOver (F.holds files.now) path.now) }
+    ensures apart { result ≡ false → IfSome (option_map (λ p. p.now) other.entry) (IsApartFrom (F.holds files.now) path.now) }
+{
+    match other {
+        Some(other) => is_same_file(files, other, path),
+        None => false,
+    }
+}
+
+/// Whether a file that is to be written, if one is, is one of those that a run reads, or one of two others that it writes.
+fn is_over<F: Files>(
+    files: &F,
+    path: Option<&str>,
+    first: Option<&str>,
+    second: Option<&str>,
+    config: &str,
+    packages: &[String],
+) -> bool
+    ensures over { result ≡ true → IsOverUsed (F.holds files.now) (option_map (λ p. p.now) path.entry) (option_map (λ p. p.now) first.entry) (option_map (λ p. p.now) second.entry) (config.now ∷ map (λ p. string_bytes p) packages.now) }
+    ensures apart { result ≡ false → IsApartFromUsed (F.holds files.now) (option_map (λ p. p.now) path.entry) (option_map (λ p. p.now) first.entry) (option_map (λ p. p.now) second.entry) (config.now ∷ map (λ p. string_bytes p) packages.now) }
+{
+    let Some(path) = path else {
+        return false;
+    };
+    if is_read(files, path, config, packages) {
+        return true;
+    }
+    if is_written(files, path, first) {
+        return true;
+    }
+    is_written(files, path, second)
+}
+
+/// Whether a file that is to be written, if one is, lies in the folder of stores, if there is one, or in a store.
+fn is_in_store<F: Files>(
+    alloc: Global,
+    files: &F,
+    path: Option<&str>,
+    store: Option<&str>,
+) -> Result<bool, AllocError>
+    ensures below { IfOk result (λ b. b ≡ true → IsInStore (F.holds files.now) (option_map (λ p. p.now) path.entry) (option_map (λ p. p.now) store.entry)) }
+    ensures outside { IfOk result (λ b. b ≡ false → IsOutOfStore (F.holds files.now) (option_map (λ p. p.now) path.entry) (option_map (λ p. p.now) store.entry)) }
+{
+    match (path, store) {
+        (Some(path), Some(store)) => files.is_below(alloc, path, store),
+        _ => Ok(false),
+    }
+}
+
+/// Whether a file that is to be written, if one is, is one of those that a run reads, or one of two others that it writes, or lies in a
+/// store.
+fn is_barred<F: Files>(
+    alloc: Global,
+    files: &F,
+    path: Option<&str>,
+    first: Option<&str>,
+    second: Option<&str>,
+    config: &str,
+    packages: &[String],
+    store: Option<&str>,
+) -> Result<bool, AllocError>
+    ensures over { IfOk result (λ b. b ≡ true
+        → IsOverUsed (F.holds files.now) (option_map (λ p. p.now) path.entry) (option_map (λ p. p.now) first.entry) (option_map (λ p. p.now) second.entry) (config.now ∷ map (λ p. string_bytes p) packages.now)
+        ⊎ IsInStore (F.holds files.now) (option_map (λ p. p.now) path.entry) (option_map (λ p. p.now) store.entry)) }
+    ensures apart { IfOk result (λ b. b ≡ false
+        → IsApartFromUsed (F.holds files.now) (option_map (λ p. p.now) path.entry) (option_map (λ p. p.now) first.entry) (option_map (λ p. p.now) second.entry) (config.now ∷ map (λ p. string_bytes p) packages.now)
+        × IsOutOfStore (F.holds files.now) (option_map (λ p. p.now) path.entry) (option_map (λ p. p.now) store.entry)) }
+{
+    if is_over(files, path, first, second, config, packages) {
+        return Ok(true);
+    }
+    is_in_store(alloc, files, path, store)
+}
+
+/// Lets what looks on begin, where what it shows isn't written over a file that was read; nor the log's records over the packets, nor
+/// the steps over one of both; and nothing of it lies in a store.
+pub fn begin_apart<F: Files, V: Watch>(
+    alloc: Global,
+    files: &F,
+    config: &str,
+    packages: &[String],
+    show: Show<'_>,
+    watch: &mut V,
+) -> Result<(), RunFault>
+    ensures shows { OnOk result ((V.watched watch.new).shows ≡ shown_of (show_of show.entry)) }
+    ensures anew { OnOk result (((V.watched watch.new).seen ≡ 0) × ((V.watched watch.new).lost ≡ None)) }
+    ensures recording { OnOk result (IfSome (V.watched watch.new).recording IsNew) }
+    ensures history { OnOk result (IfSome (V.watched watch.new).history IsFresh) }
+    ensures apart { OnOk result (IsApart (F.holds files.now) (show_of show.entry) (config.now ∷ map (λ p. string_bytes p) packages.now)) }
+    ensures untouched { IfErr result (λ e. (watch.new ≡ watch.old) ⊎ IsUnwritten e (V.watched watch.new).fault) }
+    ensures fault { IfErr result (λ e. (e ≡ RunFault.Memory)
+        ⊎ IsBarred (F.holds files.now) (V.refuses watch.old) (show_of show.entry) (config.now ∷ map (λ p. string_bytes p) packages.now) e (V.watched watch.new)) }
+{
+    let store = show.store;
+    match is_barred(
+        alloc, files, show.trace, None, None, config, packages, store,
+    ) {
+        Ok(false) => {}
+        Ok(true) => return Err(RunFault::Trace),
+        Err(_) => return Err(RunFault::Memory),
+    }
+    match is_barred(
+        alloc, files, show.log, show.trace, None, config, packages, store,
+    ) {
+        Ok(false) => {}
+        Ok(true) => return Err(RunFault::Log),
+        Err(_) => return Err(RunFault::Memory),
+    }
+    match is_barred(
+        alloc,
+        files,
+        show.record,
+        show.trace,
+        show.log,
+        config,
+        packages,
+        store,
+    ) {
+        Ok(false) => {}
+        Ok(true) => return Err(RunFault::Record),
+        Err(_) => return Err(RunFault::Memory),
+    }
+    match watch.begin(show) {
+        Ok(()) => Ok(()),
+        Err(fault) => Err(watch_fault(fault)),
+    }
+}

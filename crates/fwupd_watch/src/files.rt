@@ -1,0 +1,310 @@
+//! The files that a job reads.
+
+ghost use Rattle.std.specs.Io.KnownBytes.{IsAtEnd};
+ghost use Rattle.std.specs.Prelude.{◌≡◌, ◌≢◌, ◌∷◌, IfErr, IfOk, IfSome, IsSomeAnd, List, OnOk, option_map, false, map, string_bytes, true, ℕ};
+ghost use Rattle.std.specs.List.{AllByRecursion};
+ghost use Rattle.fwupd_watch.specs.Files.{AreTwoPlaces, FileOf, IsApartFrom, IsBelow, IsOnePlace, IsOutside, IsOver, IsOverOne, MayBe, MayBegin, MayHold, MayLink, any_file};
+
+use crate::beginnings::{BEGINNING, Beginning, read_first};
+use fwupd_base::read_some;
+use std::alloc::{AllocError, Global};
+use std::fs::{self, File};
+use std::io::{self, ErrorKind, Read};
+use std::os::unix::fs::MetadataExt;
+
+/// Why the bytes of a file aren't there.
+#[derive(Clone, Copy, PartialEq, Eq)]
+pub enum FileFault {
+    /// The file can't be read.
+    Unreadable,
+    /// Memory was refused.
+    Memory,
+}
+
+/// Which file a path names, as the system numbers it (POSIX `st_dev` and `st_ino`): all paths of one file have the same.
+#[derive(Clone, Copy, PartialEq, Eq)]
+pub struct FileIdentity {
+    /// The number of the device that it lies on.
+    pub device: u64,
+    /// Its own number there.
+    pub number: u64,
+}
+
+/// Where files are read from.
+pub trait Files {
+    ghost holds: { Self → List ℕ → FileOf };
+
+    /// The bytes of the file of a path.
+    ///
+    /// # Errors
+    /// The file can't be read, or memory for its bytes is refused.
+    fn contents(&self, alloc: Global, path: &str) -> Result<Vec<u8>, FileFault>
+        ensures held { IfOk result (λ bytes. MayHold (holds self.now path.now) bytes.items) }
+        ensures fails { IfErr result (λ e. e ≡ FileFault.Unreadable → (holds self.now path.now).may_fail ≡ true) };
+
+    /// The first 65,535 bytes of the file of a path, or all where it has fewer, and how many it has.
+    ///
+    /// # Errors
+    /// The file can't be read, or memory for these bytes is refused.
+    fn beginning(&self, alloc: Global, path: &str) -> Result<Beginning, FileFault>
+        ensures held { IfOk result (λ b. MayBegin (holds self.now path.now) b.bytes.items b.file_length) }
+        ensures fails { IfErr result (λ e. e ≡ FileFault.Unreadable → (holds self.now path.now).may_fail ≡ true) };
+
+    /// Which file a path names, if one is found there.
+    fn identity(&self, path: &str) -> Option<FileIdentity>
+        ensures { MayBe (holds self.now path.now) result };
+
+    /// Whether a path names a symbolic link.
+    fn is_link(&self, path: &str) -> bool
+        ensures { MayLink (holds self.now path.now) result };
+
+    /// Whether two paths name one place, whether or not a file lies there: the same name in the same folder.
+    fn is_one_place(&self, one: &str, other: &str) -> bool
+        ensures same { result ≡ true → IsOnePlace (holds self.now one.now) (holds self.now other.now) }
+        ensures apart { result ≡ false → AreTwoPlaces (holds self.now one.now) (holds self.now other.now) };
+
+    /// Whether the file of a path lies in a folder, or would, or in a folder that lies there.
+    ///
+    /// # Errors
+    /// Memory is refused.
+    fn is_below(&self, alloc: Global, path: &str, folder: &str) -> Result<bool, AllocError>
+        ensures below { IfOk result (λ b. b ≡ true → IsBelow (holds self.now path.now) (holds self.now folder.now)) }
+        ensures outside { IfOk result (λ b. b ≡ false → IsOutside (holds self.now path.now) (holds self.now folder.now)) };
+}
+
+/// The files of the system, of which nothing is known before they are read.
+#[derive(Clone, Copy)]
+pub struct SystemFiles<'a> {
+    rt: &'a HostRuntime,
+}
+
+impl<'a> SystemFiles<'a> {
+    /// The files that a runtime reaches.
+    pub fn new(rt: &'a HostRuntime) -> SystemFiles<'a> {
+        SystemFiles { rt }
+    }
+
+    /// The bytes of a file, read once, into room of its size where it says one.
+    pub fn read(&self, alloc: Global, path: &str) -> io::Result<Vec<u8>> {
+        let mut file = File::open(self.rt, path)?;
+        let size = size_of(&file);
+        read_whole(alloc, &mut file, size)
+    }
+
+    /// Whether a path names a file in this folder, or in one that lies there.
+    fn lies_in(&self, alloc: Global, path: &str, folder: FileIdentity) -> Result<bool, AllocError> {
+        let (own, _) = folder_and_name(path);
+        let Ok(above) = format!(in alloc; "{own}/..") else {
+            return Err(AllocError);
+        };
+        Ok(self.identity(own) == Some(folder) || self.identity(&above) == Some(folder))
+    }
+
+    /// Whether a path leads to a file in this folder, or in one that lies there. A link to no file may lead to any place.
+    fn leads_into(
+        &self,
+        alloc: Global,
+        path: &str,
+        folder: FileIdentity,
+    ) -> Result<bool, AllocError> {
+        if !self.is_link(path) {
+            return Ok(false);
+        }
+        match fs::canonicalize(self.rt, path) {
+            Ok(found) => self.lies_in(alloc, found.to_string_lossy(), folder),
+            Err(error) if error.kind() == ErrorKind::OutOfMemory => Err(AllocError),
+            Err(_) => Ok(true),
+        }
+    }
+
+    /// The beginning of a file. One that says that it is longer isn't read further.
+    fn read_beginning(&self, alloc: Global, path: &str) -> io::Result<Beginning>
+        ensures { IfOk result (λ b. MayBegin any_file b.bytes.items b.file_length) }
+    {
+        let mut file = File::open(self.rt, path)?;
+        let size = size_of(&file);
+        if size <= BEGINNING {
+            let bytes = read_whole(alloc, &mut file, size)?;
+            return Ok(Beginning::of(bytes));
+        }
+        let bytes = read_first(alloc, &mut file, BEGINNING)?;
+        Ok(Beginning::said(bytes, size))
+    }
+}
+
+/// How many bytes a file says that it has, or 0 where it says nothing.
+fn size_of(file: &File) -> usize {
+    match file.metadata() {
+        Ok(found) => usize::try_from(found.len()).unwrap_or(0),
+        Err(_) => 0,
+    }
+}
+
+/// The most bytes that are read at once.
+pub(crate) const PIECE: usize = 16_384;
+
+/// All bytes that a reader gives up to its end, into room for so many at first.
+///
+/// # Errors
+/// Why the reader failed, which isn't that it was interrupted, or memory is refused.
+fn read_whole<R: Read>(alloc: Global, reader: &mut R, size: usize) -> io::Result<Vec<u8>>
+    ensures bytes { IfOk result (λ bytes. IfSome (R.remaining reader.old) (λ given. bytes.items ≡ given)) }
+    ensures end { OnOk result (IsAtEnd (R.remaining reader.new)) }
+{
+    let mut bytes = Vec::new(alloc);
+    match bytes.reserve(size) {
+        Ok(()) => {}
+        Err(error) => return Err(io::Error::from(error)),
+    }
+    let mut piece = [0; PIECE];
+    for _ in 0..u64::MAX {
+        let count = match read_some(reader, &mut piece, PIECE) {
+            Ok(0) => return Ok(bytes),
+            Ok(count) => count,
+            Err(error) => return Err(error),
+        };
+        match bytes.extend_from_slice(&piece[..count]) {
+            Ok(()) => {}
+            Err(error) => return Err(io::Error::from(error)),
+        }
+    }
+    Err(io::Error::from(ErrorKind::TimedOut))
+}
+
+/// Why the bytes of a file aren't there, by why its reading failed.
+fn file_fault(kind: ErrorKind) -> FileFault
+    ensures memory { kind ≡ ErrorKind.OutOfMemory → result ≡ FileFault.Memory }
+    ensures other { kind ≢ ErrorKind.OutOfMemory → result ≡ FileFault.Unreadable }
+{
+    match kind {
+        ErrorKind::OutOfMemory => FileFault::Memory,
+        _ => FileFault::Unreadable,
+    }
+}
+
+impl<'a> Files for SystemFiles<'a> {
+    ghost holds = { λ f path. any_file };
+
+    fn contents(&self, alloc: Global, path: &str) -> Result<Vec<u8>, FileFault> {
+        match self.read(alloc, path) {
+            Ok(bytes) => Ok(bytes),
+            Err(error) => Err(file_fault(error.kind())),
+        }
+    }
+
+    fn beginning(&self, alloc: Global, path: &str) -> Result<Beginning, FileFault> {
+        match self.read_beginning(alloc, path) {
+            Ok(beginning) => Ok(beginning),
+            Err(error) => Err(file_fault(error.kind())),
+        }
+    }
+
+    fn identity(&self, path: &str) -> Option<FileIdentity> {
+        match fs::metadata(self.rt, path) {
+            Ok(found) => Some(FileIdentity {
+                device: found.dev(),
+                number: found.ino(),
+            }),
+            Err(_) => None,
+        }
+    }
+
+    fn is_link(&self, path: &str) -> bool {
+        match fs::symlink_metadata(self.rt, path) {
+            Ok(found) => found.is_symlink(),
+            Err(_) => false,
+        }
+    }
+
+    #[tactic(auto, using(crate::proofs::AnyFiles::any_place))]
+    fn is_one_place(&self, one: &str, other: &str) -> bool {
+        let (one_folder, one_name) = folder_and_name(one);
+        let (other_folder, other_name) = folder_and_name(other);
+        let folder = self.identity(one_folder);
+        folder.is_some() && folder == self.identity(other_folder) && one_name == other_name
+    }
+
+    #[tactic(auto, using(crate::proofs::AnyFiles::any_below))]
+    fn is_below(&self, alloc: Global, path: &str, folder: &str) -> Result<bool, AllocError> {
+        let Some(root) = self.identity(folder) else {
+            return Ok(false);
+        };
+        Ok(self.lies_in(alloc, path, root)? || self.leads_into(alloc, path, root)?)
+    }
+}
+
+/// The folder of a path's file, and its name there.
+pub fn folder_and_name(path: &str) -> (&str, &str) {
+    match path.rsplit_once('/') {
+        Some(("", name)) => ("/", name),
+        Some((folder, name)) => (folder, name),
+        None => (".", path),
+    }
+}
+
+/// Whether two paths are of one file: they are spelled alike, or both name the same, or one place where there is none yet; or may be,
+/// since one of them is a link to none.
+pub fn is_same_file<F: Files>(files: &F, one: &str, other: &str) -> bool
+    ensures same { result ≡ true → IsOver (F.holds files.now) other.now one.now }
+    ensures apart { result ≡ false → IsApartFrom (F.holds files.now) other.now one.now }
+{
+    if one == other {
+        return true;
+    }
+    match (files.identity(one), files.identity(other)) {
+        (Some(first), Some(second)) => first == second,
+        // A link to no file may lead to any place.
+        (None, None) => {
+            files.is_link(one) || files.is_link(other) || files.is_one_place(one, other)
+        }
+        _ => false,
+    }
+}
+
+/// Whether a file to be written, if there is one, is that of a path.
+pub fn is_one_path<F: Files>(files: &F, path: Option<&str>, other: &str) -> bool
+    ensures over { result ≡ true → IsSomeAnd (option_map (λ p. p.now) path.entry) (λ p. IsOver (F.holds files.now) p other.now) }
+    ensures apart { result ≡ false → IfSome (option_map (λ p. p.now) path.entry) (λ p. IsApartFrom (F.holds files.now) p other.now) }
+{
+    match path {
+        Some(path) => is_same_file(files, other, path),
+        None => false,
+    }
+}
+
+/// Whether the file of a path is one of these.
+pub fn is_one_of<F: Files>(files: &F, path: &str, others: &[String]) -> bool
+    ensures over { result ≡ true → IsOverOne (F.holds files.now) path.now (map (λ p. string_bytes p) others.now) }
+    ensures apart { result ≡ false → AllByRecursion (IsApartFrom (F.holds files.now) path.now) (map (λ p. string_bytes p) others.now) }
+{
+    for other in others {
+        if is_same_file(files, other, path) {
+            return true;
+        }
+    }
+    false
+}
+
+/// Whether the file of a path is one of those that a run reads: its configuration, or one of its packages.
+pub fn is_read<F: Files>(files: &F, path: &str, config: &str, packages: &[String]) -> bool
+    ensures over { result ≡ true → IsOverOne (F.holds files.now) path.now (config.now ∷ map (λ p. string_bytes p) packages.now) }
+    ensures apart { result ≡ false → AllByRecursion (IsApartFrom (F.holds files.now) path.now) (config.now ∷ map (λ p. string_bytes p) packages.now) }
+{
+    is_same_file(files, config, path) || is_one_of(files, path, packages)
+}
+
+/// Whether the file of a path that is to be written, if one is, is one of those that a run reads.
+pub fn is_over_read<F: Files>(
+    files: &F,
+    path: Option<&str>,
+    config: &str,
+    packages: &[String],
+) -> bool
+    ensures over { result ≡ true → IsSomeAnd (option_map (λ p. p.now) path.entry) (λ p. IsOverOne (F.holds files.now) p (config.now ∷ map (λ p. string_bytes p) packages.now)) }
+    ensures apart { result ≡ false → IfSome (option_map (λ p. p.now) path.entry) (λ p. AllByRecursion (IsApartFrom (F.holds files.now) p) (config.now ∷ map (λ p. string_bytes p) packages.now)) }
+{
+    match path {
+        Some(path) => is_read(files, path, config, packages),
+        None => false,
+    }
+}

@@ -1,0 +1,33 @@
+//! What looks on at a run over links, the run that it looks on at, turn by turn, and the files and the output of a job.
+#![tactic(auto)]
+
+mod apart;
+mod beginnings;
+mod durable;
+mod faults;
+mod files;
+mod history;
+mod history_opening;
+mod logging;
+mod output;
+mod progress;
+mod recording;
+mod running;
+mod tracing;
+mod tracing_laws;
+mod watching;
+
+pub use apart::begin_apart;
+pub use beginnings::Beginning;
+pub use durable::Durable;
+pub use faults::RunFault;
+pub use files::{
+    FileFault, FileIdentity, Files, SystemFiles, folder_and_name, is_one_path, is_over_read,
+    is_same_file,
+};
+pub use history::HistoryFile;
+pub use output::Output;
+pub use recording::Recording;
+pub use running::{Watch, WatchFault, update_watched, watch_fault};
+pub use tracing_laws::texts_are_lines;
+pub use watching::Onlookers;

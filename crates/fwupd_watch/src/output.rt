@@ -1,0 +1,111 @@
+//! Where the report of a run is written.
+
+ghost use Rattle.std.specs.Prelude.{◌≡◌, IfErr, IfOk, OnErr, OnOk, false};
+ghost use Rattle.fwupd_watch.specs.Answering.{AnswerEnds, Answers};
+ghost use Rattle.fwupd_watch.specs.Outputs.{FailsToPrint, Prints};
+
+use crate::faults::RunFault;
+use fwupd_base::{AnswerFault, answer_stream, write_whole};
+use mctp_ctl::Endpoint;
+use std::alloc::Global;
+use std::io::{BufWriter, Read, Write};
+use std::marker::Model;
+
+/// A writer, and whether a write to it failed: then it takes no more.
+#[derive(Drop)]
+pub struct Output<W: Write + Drop> {
+    /// What takes the bytes. It holds answers back until more input is awaited.
+    writer: BufWriter<W>,
+    is_broken: bool,
+}
+
+impl<W: Write + Drop> Model for Output<W> {
+    ghost use Rattle.std.specs.Prelude.{◌≡◌, [], false};
+    ghost use Rattle.std.specs.Io.Buffered.{writer_buffer, writer_inner};
+    ghost use Rattle.fwupd_watch.specs.Outputs.{OutputOf};
+
+    ghost Value = { OutputOf };
+
+    ghost view = { λ o. record { is_broken = o.is_broken; written = W.contents (writer_inner o.writer) } };
+
+    ghost invariant = { λ o. o.is_broken ≡ false → writer_buffer o.writer ≡ [] };
+}
+
+impl<W: Write + Drop> Output<W> {
+    /// An output to which no write has failed.
+    ///
+    /// # Errors
+    /// `Memory`.
+    pub fn new(alloc: Global, writer: W) -> Result<Output<W>, RunFault>
+        ensures whole { IfOk result (λ o. o.is_broken ≡ false) }
+        ensures written { IfOk result (λ o. o.written ≡ W.contents writer) }
+        ensures fault { IfErr result (λ e. e ≡ RunFault.Memory) }
+    {
+        let Ok(writer) = BufWriter::new(alloc, writer) else {
+            return Err(RunFault::Memory);
+        };
+        Ok(Output {
+            writer,
+            is_broken: false,
+        })
+    }
+
+    /// What took the bytes.
+    pub fn into_writer(self) -> W
+        ensures { W.contents result ≡ self.written }
+    {
+        let (writer, _) = self.writer.into_parts();
+        writer
+    }
+
+    /// Writes all these bytes.
+    ///
+    /// # Errors
+    /// `Output` where they aren't written whole; a beginning of them may be, and nothing where a write failed before.
+    pub fn write(&mut self, bytes: &[u8]) -> Result<(), RunFault>
+        ensures ok { OnOk result (Prints self.old self.new bytes.now) }
+        ensures fault { IfErr result (λ e. e ≡ RunFault.Output) }
+        ensures failed { OnErr result (FailsToPrint self.old self.new bytes.now) }
+    {
+        if self.is_broken {
+            return Err(RunFault::Output);
+        }
+        match write_whole(self.writer.get_mut(), bytes) {
+            Ok(()) => Ok(()),
+            Err(_) => {
+                self.is_broken = true;
+                Err(RunFault::Output)
+            }
+        }
+    }
+
+    /// Answers the packets that a reader gives, line by line, as an endpoint without a device.
+    ///
+    /// # Errors
+    /// `Answer`, with why the reader or the writer gives up, or memory is refused.
+    pub fn answer<R: Read>(
+        &mut self,
+        alloc: Global,
+        reader: &mut R,
+        endpoint: &Endpoint,
+    ) -> Result<(), RunFault>
+        ensures ok { OnOk result (Answers endpoint.now (R.remaining reader.old) (R.remaining reader.new) self.old self.new) }
+        ensures fault { IfErr result (λ e. AnswerEnds endpoint.now (R.remaining reader.old) (R.remaining reader.new) e self.old self.new) }
+    {
+        if self.is_broken {
+            return Err(RunFault::Answer(AnswerFault::Write));
+        }
+        let end = answer_stream(alloc, reader, &mut self.writer, endpoint.eid, endpoint.uuid);
+        if self.writer.flush().is_err() {
+            self.is_broken = true;
+            return Err(RunFault::Answer(AnswerFault::Write));
+        }
+        match end {
+            Ok(()) => Ok(()),
+            Err(fault) => {
+                self.is_broken = fault == AnswerFault::Write;
+                Err(RunFault::Answer(fault))
+            }
+        }
+    }
+}

@@ -1,0 +1,135 @@
+//! The steps of a run, written as a schedule while they are taken.
+
+ghost use Rattle.std.specs.Prelude.{◌≡◌, ◌⊎◌, ◌<◌, ◌^◌, [], IfErr, IfOk, List, OnOk, Option, false, true, ℕ};
+ghost use Rattle.exch_lane.specs.Lanes.{IsEid};
+ghost use Rattle.std.specs.Io.Buffered.{writer_buffer, writer_contents, writer_inner};
+ghost use Rattle.fw_script.specs.ScheduleTexts.{AreSayable, IsSayable};
+ghost use Rattle.fwupd_watch.specs.Recordings.{AreRecordable, Ends, IsRecordable, Writes, recording_of};
+
+use crate::running::WatchFault;
+use fw_script::ScheduleText;
+use fw_world::Step;
+use std::alloc::Global;
+use std::io::{BufWriter, Write};
+
+/// Writes each step of a run as it is taken, a line each, as a schedule that a replay reads. Ticks that nobody misses and that stand
+/// next to each other are one line.
+#[derive(Drop)]
+pub struct Recording<W: Write + Drop> {
+    alloc: Global,
+    writer: BufWriter<W>,
+    text: ScheduleText,
+}
+
+/// Whether a byte is the identifier of a node.
+fn is_eid(eid: u8) -> bool
+    ensures is { result ≡ true → IsEid eid }
+    ensures not { result ≡ false → ¬ IsEid eid }
+{
+    8 <= eid && eid <= 254
+}
+
+/// Whether a number is one of 64 bits, as each of the code is.
+fn is_counted(number: usize) -> bool
+    ensures is { number < 2 ^ 64 }
+    ensures always { result ≡ true }
+{
+    number <= usize::MAX
+}
+
+/// Whether a step is one that a run takes and a schedule can say: the update of a device starts, a packet comes, a tick passes
+/// that nobody misses, a device has its verdict or activates.
+fn is_said(step: &Step) -> bool
+    ensures said { result ≡ true → IsSayable step.now }
+    ensures taken { IsRecordable step.now → result ≡ true }
+{
+    match step {
+        Step::Deliver(pair, number, node) => {
+            is_eid(*pair) && is_counted(*number) && is_eid(*node)
+        }
+        Step::Tick(missed) => missed.is_empty(),
+        Step::Start(device, number) => is_eid(*device) && is_counted(*number),
+        Step::Activate(device) => is_eid(*device),
+        Step::Verdict(device, _) => is_eid(*device),
+        _ => false,
+    }
+}
+
+/// Whether each of these steps is.
+fn are_said(steps: &[Step]) -> bool
+    ensures said { result ≡ true → AreSayable steps.now }
+    ensures taken { AreRecordable steps.now → result ≡ true }
+{
+    for step in steps {
+        if !is_said(step) {
+            return false;
+        }
+    }
+    true
+}
+
+impl<W: Write + Drop> Recording<W> {
+    /// A recording of which nothing is written.
+    ///
+    /// # Errors
+    /// `Memory`.
+    pub fn new(alloc: Global, writer: W) -> Result<Recording<W>, WatchFault>
+        ensures contents { IfOk result (λ r. W.contents (writer_inner r.writer) ≡ W.contents writer) }
+        ensures none { IfOk result (λ r. writer_buffer r.writer ≡ []) }
+        ensures idle { IfOk result (λ r. r.text ≡ 0) }
+        ensures fault { IfErr result (λ e. e ≡ WatchFault.Memory) }
+    {
+        let Ok(writer) = BufWriter::new(alloc, writer) else {
+            return Err(WatchFault::Memory);
+        };
+        Ok(Recording {
+            alloc,
+            writer,
+            text: ScheduleText::new(),
+        })
+    }
+
+    /// Writes steps behind those that are written. Ticks may be held back.
+    ///
+    /// # Errors
+    /// They can't be written, or a schedule can't say one of them, or memory for their lines is refused.
+    pub fn note(&mut self, steps: &[Step]) -> Result<(), WatchFault>
+        ensures fault { IfErr result (λ e. (e ≡ WatchFault.Memory) ⊎ (e ≡ WatchFault.Unrecorded)) }
+        ensures noted { (begun : Option (List ℕ)) → OnOk result (Writes (recording_of begun (writer_contents W.contents self.old.writer) self.old.text) (recording_of begun (writer_contents W.contents self.new.writer) self.new.text) steps.now) }
+    {
+        if !are_said(steps) {
+            return Err(WatchFault::Unrecorded);
+        }
+        let mut text = Vec::new(self.alloc);
+        let Ok(()) = self.text.push_all(self.alloc, &mut text, steps) else {
+            return Err(WatchFault::Memory);
+        };
+        match self.writer.write_all(&text) {
+            Ok(()) => Ok(()),
+            Err(_) => Err(WatchFault::Unrecorded),
+        }
+    }
+
+    /// Writes what is held back.
+    ///
+    /// # Errors
+    /// It can't be written, or memory is refused.
+    pub fn end(&mut self) -> Result<(), WatchFault>
+        ensures fault { IfErr result (λ e. (e ≡ WatchFault.Memory) ⊎ (e ≡ WatchFault.Unrecorded)) }
+        ensures ended { (begun : Option (List ℕ)) → OnOk result (Ends (recording_of begun (writer_contents W.contents self.old.writer) self.old.text) (recording_of begun (writer_contents W.contents self.new.writer) self.new.text)) }
+        ensures all { OnOk result (writer_buffer self.new.writer ≡ []) }
+    {
+        let mut text = Vec::new(self.alloc);
+        let Ok(()) = self.text.end(self.alloc, &mut text) else {
+            return Err(WatchFault::Memory);
+        };
+        match self.writer.write_all(&text) {
+            Ok(()) => {}
+            Err(_) => return Err(WatchFault::Unrecorded),
+        }
+        match self.writer.flush() {
+            Ok(()) => Ok(()),
+            Err(_) => Err(WatchFault::Unrecorded),
+        }
+    }
+}

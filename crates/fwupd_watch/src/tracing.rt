@@ -1,0 +1,315 @@
+//! The packets of a run, written as they go out.
+
+ghost use Rattle.std.specs.Prelude.{◌≡◌, ◌<◌, ◌≤◌, ◌⊎◌, ◌+◌, ◌^◌, ◌∷◌, [], List, Option, Some, IfErr, IfOk, IfSome, OnOk, length, slice_get, ℕ};
+ghost use Rattle.std.specs.Io.Buffered.{writer_buffer, writer_contents};
+ghost use Rattle.std.specs.Io.KnownBytes.{Appends, Keeps};
+ghost use Rattle.fw_edge.specs.Ledgers.{packet_counts};
+ghost use Rattle.fw_text.specs.Printing.{Adds};
+ghost use Rattle.fw_world.specs.Packets.{sent_of};
+ghost use Rattle.fw_world.specs.Worlds.{WorldOf};
+ghost use Rattle.fwupd_watch.specs.Traces.{GoesOnFrom, HasRead, HasTraced, ReadOn, head_of, is_to_agent, packet_text, pair_text, pairs_text, reader_next, reader_of_pair, reader_past, readers_for, trace_line, trace_text, way_of, written_at as written_of};
+
+use crate::running::WatchFault;
+use arrayvec::ArrayVec;
+use fd_core::Bank;
+use fw_text::{push_number, push_words};
+use fw_trace::{PacketReader, capture_header, push_capture};
+use fw_world::{SentPacket, SentPackets, World};
+use fwupd_words::TraceForm;
+use std::alloc::{AllocError, Global};
+use std::io::{BufWriter, Write};
+
+/// Writes each packet of a run or a replay as it goes out, in a form.
+#[derive(Drop)]
+pub struct Trace<W: Write + Drop> {
+    alloc: Global,
+    form: TraceForm,
+    writer: BufWriter<W>,
+    /// How many packets of each pair are written, in configured order.
+    written: ArrayVec<usize, 16>,
+    /// What has read them, a reader for each pair.
+    readers: Vec<PacketReader>,
+}
+
+/// Whether a packet goes to the agent, as its third byte says.
+fn is_to_agent(device: u8, bytes: &[u8]) -> bool
+    ensures { result ≡ is_to_agent device bytes.now }
+{
+    match bytes {
+        [_, _, source, ..] => *source == device,
+        _ => false,
+    }
+}
+
+/// Which way a packet goes.
+fn way(device: u8, bytes: &[u8]) -> &'static str
+    ensures { result.now ≡ way_of device bytes.now }
+{
+    if is_to_agent(device, bytes) {
+        " to-agent "
+    } else {
+        " to-device "
+    }
+}
+
+/// Appends a packet's line: the turn, the device of the pair, `to-device` or `to-agent`, and the packet in upper-case digits.
+#[tactic(auto, unfolding(crate::specs::Traces::trace_line))]
+fn push_line(
+    alloc: Global,
+    text: &mut Vec<u8>,
+    device: u8,
+    packet: &SentPacket<'_>,
+) -> Result<(), AllocError>
+    ensures { OnOk result (Adds text.old.items text.new.items (trace_line device (sent_of packet.now))) }
+{
+    push_number(alloc, text, "", packet.date as usize)?;
+    push_number(alloc, text, " ", usize::from(device))?;
+    push_words(text, way(device, packet.bytes))?;
+    push_words(text, &hex::encode_upper(alloc, packet.bytes)?)?;
+    push_words(text, "\n")?;
+    Ok(())
+}
+
+/// Appends what is written of a packet in a form, with its number, from 1 on; its reader has read those before it, and goes on.
+fn push_packet(
+    alloc: Global,
+    form: TraceForm,
+    reader: &mut PacketReader,
+    text: &mut Vec<u8>,
+    device: u8,
+    number: usize,
+    packet: &SentPacket<'_>,
+) -> Result<(), AllocError>
+    ensures text { OnOk result (Adds text.old.items text.new.items (packet_text form reader.old device number (sent_of packet.now))) }
+    ensures after { OnOk result (reader.new ≡ reader_next form reader.old (sent_of packet.now)) }
+{
+    match form {
+        TraceForm::Hex => push_line(alloc, text, device, packet),
+        TraceForm::Text => reader.push_line(alloc, text, packet.date, number, packet.bytes),
+        TraceForm::Capture => {
+            let is_sent = !is_to_agent(device, packet.bytes);
+            push_capture(text, packet.date, is_sent, packet.bytes)
+        }
+    }
+}
+
+/// What a trace begins with.
+fn head(form: TraceForm) -> &'static [u8]
+    ensures { result.now ≡ head_of form }
+{
+    match form {
+        TraceForm::Hex | TraceForm::Text => &[],
+        TraceForm::Capture => capture_header(),
+    }
+}
+
+/// What is written of these packets, behind so many of their pair.
+fn lines(
+    alloc: Global,
+    form: TraceForm,
+    reader: &mut PacketReader,
+    device: u8,
+    written: usize,
+    packets: &SentPackets<'_>,
+) -> Result<Vec<u8>, AllocError>
+    requires { written + length packets.now < 2 ^ 64 }
+    ensures text { IfOk result (λ text. text.items ≡ trace_text form reader.old device (written + 1) packets.now) }
+    ensures after { OnOk result (reader.new ≡ reader_past form reader.old packets.now) }
+{
+    let mut text = Vec::new(alloc);
+    for place in 0..packets.len() {
+        let Some(packet) = packets.get(place) else {
+            unreachable!()
+        };
+        push_packet(
+            alloc,
+            form,
+            reader,
+            &mut text,
+            device,
+            written + place + 1,
+            &packet,
+        )?;
+    }
+    Ok(text)
+}
+
+/// Writes the packets of the pair at a place behind so many, and gives how many packets it has.
+fn write_pair<B: Bank + Drop, W: Write>(
+    alloc: Global,
+    form: TraceForm,
+    world: &World<'_, B>,
+    place: usize,
+    written: usize,
+    reader: &mut PacketReader,
+    writer: &mut W,
+) -> Result<usize, WatchFault>
+    ensures lines { OnOk result (Appends (W.contents writer.old) (W.contents writer.new) (pair_text form (Some reader.old) (slice_get world.now.sites place) written)) }
+    ensures read { OnOk result (reader.new ≡ reader_of_pair form reader.old (slice_get world.now.sites place) written) }
+    ensures count { IfOk result (λ n. IfSome (slice_get world.now.sites place) (λ x. n ≡ length x.packets)) }
+    ensures fault { IfErr result (λ e. (e ≡ WatchFault.Memory) ⊎ (e ≡ WatchFault.Unwritten)) }
+    ensures unwritten { IfErr result (λ e. e ≡ WatchFault.Unwritten → reader.new ≡ reader_of_pair form reader.old (slice_get world.now.sites place) written) }
+{
+    let (Some(node), Some(packets)) = (world.device_at(place), world.packets_at(place)) else {
+        return Ok(0);
+    };
+    if packets.len() <= written {
+        return Ok(packets.len());
+    }
+    let Ok(text) = lines(
+        alloc,
+        form,
+        reader,
+        node.eid(),
+        written,
+        &packets.behind(written),
+    ) else {
+        return Err(WatchFault::Memory);
+    };
+    match writer.write_all(&text) {
+        Ok(()) => Ok(packets.len()),
+        Err(_) => Err(WatchFault::Unwritten),
+    }
+}
+
+/// How many packets of the pair at a place are written.
+fn written_at(written: &[usize], place: usize) -> usize
+    ensures { result ≡ written_of written.now place }
+{
+    match written.get(place) {
+        Some(count) => *count,
+        None => 0,
+    }
+}
+
+/// Writes the packets of each pair behind those that are written, and gives how many there are of each. Each reader reads its pair's.
+#[tactic(auto, using(crate::proofs::Turns::reading))]
+fn write_pairs<B: Bank + Drop, W: Write>(
+    alloc: Global,
+    form: TraceForm,
+    world: &World<'_, B>,
+    written: &[usize],
+    readers: &mut [PacketReader],
+    writer: &mut W,
+) -> Result<ArrayVec<usize, 16>, WatchFault>
+    requires { length world.now.sites ≤ length readers.old }
+    ensures lines { OnOk result (Appends (W.contents writer.old) (W.contents writer.new) (pairs_text form readers.old written.now world.now.sites (length world.now.sites))) }
+    ensures counts { IfOk result (λ counts. counts.items ≡ packet_counts world.now.sites) }
+    ensures read { OnOk result (ReadOn form written.now world.now.sites (length world.now.sites) readers.old readers.new) }
+    ensures fault { IfErr result (λ e. (e ≡ WatchFault.Memory) ⊎ (e ≡ WatchFault.Unwritten)) }
+{
+    let mut counts = ArrayVec::new();
+    for place in 0..world.device_count() {
+        let reader = &mut readers[place];
+        match write_pair(
+            alloc,
+            form,
+            world,
+            place,
+            written_at(written, place),
+            reader,
+            writer,
+        ) {
+            Ok(count) => counts.push(count),
+            Err(fault) => return Err(fault),
+        }
+    }
+    Ok(counts)
+}
+
+/// Adds a reader for each pair that has none.
+fn add_readers<B: Bank + Drop>(
+    world: &World<'_, B>,
+    readers: &mut Vec<PacketReader>,
+) -> Result<(), AllocError>
+    ensures { OnOk result (readers.new.items ≡ readers_for readers.old.items world.now) }
+{
+    for place in readers.len()..world.device_count() {
+        let Some(node) = world.device_at(place) else {
+            unreachable!()
+        };
+        readers.push(PacketReader::new(node.unit(), world.agent().eid(), node.eid()))?;
+    }
+    Ok(())
+}
+
+impl<W: Write + Drop> Trace<W> {
+    /// A trace of which the head alone is written.
+    ///
+    /// # Errors
+    /// The head can't be written, or `Memory`.
+    pub fn new(alloc: Global, form: TraceForm, writer: W) -> Result<Trace<W>, WatchFault>
+        ensures written { IfOk result (λ t. t.written.items ≡ []) }
+        ensures unread { IfOk result (λ t. t.readers.items ≡ []) }
+        ensures form { IfOk result (λ t. t.form ≡ form) }
+        ensures head { IfOk result (λ t. Appends (W.contents writer) (writer_contents W.contents t.writer) (head_of form)) }
+        ensures traced { IfOk result (λ t. HasTraced form [] t.written.items t.readers.items (W.contents writer) (writer_contents W.contents t.writer)) }
+        ensures fault { IfErr result (λ e. (e ≡ WatchFault.Memory) ⊎ (e ≡ WatchFault.Unwritten)) }
+    {
+        let Ok(mut writer) = BufWriter::new(alloc, writer) else {
+            return Err(WatchFault::Memory);
+        };
+        match writer.write_all(head(form)) {
+            Ok(()) => {}
+            Err(_) => return Err(WatchFault::Unwritten),
+        }
+        Ok(Trace {
+            alloc,
+            form,
+            writer,
+            written: ArrayVec::new(),
+            readers: Vec::new(alloc),
+        })
+    }
+
+    /// Writes the packets that a turn sent: those of each pair that aren't written yet. What is written then is the lines of the
+    /// packets that were sent so far, if each world that it is given goes on from the one before.
+    ///
+    /// # Errors
+    /// They can't be written, or memory for their lines is refused.
+    pub fn see<B: Bank + Drop>(&mut self, world: &World<'_, B>) -> Result<(), WatchFault>
+        ensures lines { OnOk result (Appends (writer_contents W.contents self.old.writer) (writer_contents W.contents self.new.writer)
+            (pairs_text self.old.form (readers_for self.old.readers.items world.now) self.old.written.items world.now.sites (length world.now.sites))) }
+        ensures counts { OnOk result (self.new.written.items ≡ packet_counts world.now.sites) }
+        ensures read { OnOk result ((seen : List WorldOf) → HasRead self.old.form seen self.old.written.items self.old.readers.items → GoesOnFrom seen world.now
+            → HasRead self.old.form (world.now ∷ seen) self.new.written.items self.new.readers.items) }
+        ensures traced { OnOk result ((seen : List WorldOf) (before : Option (List ℕ))
+            → HasTraced self.old.form seen self.old.written.items self.old.readers.items before (writer_contents W.contents self.old.writer) → GoesOnFrom seen world.now
+            → HasTraced self.old.form (world.now ∷ seen) self.new.written.items self.new.readers.items before (writer_contents W.contents self.new.writer)) }
+        ensures form { self.new.form ≡ self.old.form }
+        ensures fault { IfErr result (λ e. (e ≡ WatchFault.Memory) ⊎ (e ≡ WatchFault.Unwritten)) }
+    {
+        if add_readers(world, &mut self.readers).is_err() {
+            return Err(WatchFault::Memory);
+        }
+        let counts = match write_pairs(
+            self.alloc,
+            self.form,
+            world,
+            self.written.as_slice(),
+            self.readers.as_mut_slice(),
+            &mut self.writer,
+        ) {
+            Ok(counts) => counts,
+            Err(fault) => return Err(fault),
+        };
+        self.written = counts;
+        Ok(())
+    }
+
+    /// Writes what is held back.
+    ///
+    /// # Errors
+    /// It can't be written.
+    pub fn end(&mut self) -> Result<(), WatchFault>
+        ensures fault { IfErr result (λ e. e ≡ WatchFault.Unwritten) }
+        ensures all { OnOk result (writer_buffer self.new.writer ≡ []) }
+        ensures form { self.new.form ≡ self.old.form }
+        ensures kept { Keeps (writer_contents W.contents self.old.writer) (writer_contents W.contents self.new.writer) }
+    {
+        match self.writer.flush() {
+            Ok(()) => Ok(()),
+            Err(_) => Err(WatchFault::Unwritten),
+        }
+    }
+}
