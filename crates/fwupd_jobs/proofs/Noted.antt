@@ -9,9 +9,9 @@ use Rattle.fw_edge.specs.Links.{LinksOf}
 use Rattle.fw_edge.specs.Turns.{Drove, Turns}
 use Rattle.fw_json.specs.Forms.{report_in}
 use Rattle.fw_script.specs.ScheduleTexts.{AreSayable, PortionsAreTheWhole, SchedulesReadBack, idle_at, schedule_text, text_of_steps, ticks_text}
-use Rattle.fw_world.specs.Headline.{Leads, Run, world_after}
-use Rattle.fw_world.specs.Worlds.{WorldOf}
-use Rattle.fw_world.specs.declared.step.Step.{Step}
+use Rattle.fw_steps.specs.Headline.{Leads, Run, world_after}
+use Rattle.fw_steps.specs.Worlds.{WorldOf}
+use Rattle.fw_steps.specs.declared.step.Step.{Step}
 use Rattle.fwupd_jobs.specs.Recordings.{AllWork, Closes, Ends, IsNew, IsRecorded, Notes, NotesRun, RecordingOf, RecordsReplay, Writes, recording_of}
 use Rattle.fwupd_jobs.specs.declared.running.WatchFault.{WatchFault}
 

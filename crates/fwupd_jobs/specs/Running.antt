@@ -8,15 +8,15 @@ use Rattle.fw_edge.specs.declared.driving.EdgeFault.TheVariants as edges
 use Rattle.fw_edge.specs.declared.fates.Roughness.{Roughness}
 use Rattle.fw_json.specs.Forms.{report_in}
 use Rattle.fwupd_base.specs.declared.forms.Form.{Form}
-use Rattle.fw_world.specs.Headline.{Run, may_step}
-use Rattle.fw_world.specs.Worlds.{SiteOf, WorldOf}
+use Rattle.fw_steps.specs.Headline.{Run, may_step}
+use Rattle.fw_steps.specs.Worlds.{SiteOf, WorldOf}
 use Rattle.mctp_wire.specs.declared.unit.Unit.{«Unit»}
 use Rattle.rand_pcg.specs.Lcg.{Lcg, increment_of, started}
 use Rattle.rand_pcg.specs.Pcg.{multiplier_64}
-use Rattle.fw_world.specs.declared.step.StepFault.{StepFault}
-use Rattle.fw_world.specs.declared.step.StepFault.TheVariants as stops
-use Rattle.fw_world.specs.declared.step.Step.{Step}
-use Rattle.fw_world.specs.declared.step.Step.TheVariants as steps
+use Rattle.fw_steps.specs.declared.step.StepFault.{StepFault}
+use Rattle.fw_steps.specs.declared.step.StepFault.TheVariants as stops
+use Rattle.fw_steps.specs.declared.step.Step.{Step}
+use Rattle.fw_steps.specs.declared.step.Step.TheVariants as steps
 use Rattle.fwupd_jobs.specs.Histories.{AreKeptUp, AreKeptUpStill, HistoryOf}
 use Rattle.fwupd_jobs.specs.Outputs.{FailsToPrint, OutputOf, Prints}
 use Rattle.fwupd_jobs.specs.Promises.{IsSafeSince}
