@@ -3,12 +3,12 @@ use Rattle.std.proofs.Common.{◌≡◌, ◌≤◌, ◌+◌, ◌&&◌, ℕ, List
 use Rattle.std.specs.Prelude.{IsSomeAnd}
 use Rattle.std.proofs.lemmas.Bool.{ltb-false}
 use Rattle.exch_lane.specs.Lanes.{Sent, numbered}
-use Rattle.fw_world.specs.Headline.{Run, is_device, is_node, may_step, packet_fault, where_known}
-use Rattle.fw_world.specs.Worlds.{WorldOf, packets_of}
-use Rattle.fw_world.specs.declared.step.Step.{Step}
-use Rattle.fw_world.specs.declared.step.Step.TheVariants as steps
-use Rattle.fw_world.specs.declared.step.StepFault.{StepFault}
-use Rattle.fw_world.specs.declared.step.StepFault.TheVariants as faults
+use Rattle.fw_steps.specs.Headline.{Run, is_device, is_node, may_step, packet_fault, where_known}
+use Rattle.fw_steps.specs.Worlds.{WorldOf, packets_of}
+use Rattle.fw_steps.specs.declared.step.Step.{Step}
+use Rattle.fw_steps.specs.declared.step.Step.TheVariants as steps
+use Rattle.fw_steps.specs.declared.step.StepFault.{StepFault}
+use Rattle.fw_steps.specs.declared.step.StepFault.TheVariants as faults
 use Rattle.fw_edge.specs.Drives.{AreLiving, Drives, DrivesLiving, NamesLiving}
 
 by_test : (limit now : ℕ) (b : Bool) → nat_lt limit now ≡ b → (if◌then◌else◌ {A = Option StepFault} b (Some faults.Dead) None) ≡ None → now ≤ limit

@@ -8,15 +8,15 @@ use Rattle.fd_core.specs.declared.states.Verdict.{Verdict}
 use Rattle.fw_node.specs.Agents.{activates, half_at, half_for, place_of as half_place, ready_for, ready_in}
 use Rattle.fw_node.specs.Halves.{HalfOf}
 use Rattle.ua_core.specs.Session.{SessionOf, TimedOf}
-use Rattle.fw_world.specs.Headline.{AreDifferent, Leads, Run}
-use Rattle.fw_world.specs.Worlds.{SiteOf, WorldOf, activates_on, eids_of, place_of, site_for}
-use Rattle.fw_world.specs.declared.step.Step.{Step}
-use Rattle.fw_world.specs.declared.step.Step.TheVariants as steps
-use Rattle.fw_world.proofs.LinksAreLanes.AgentTicks.{half_put}
-use Rattle.fw_world.proofs.LinksAreLanes.Places.{one_key}
-use Rattle.fw_world.proofs.LinksAreLanes.Posting.{site_put}
-use Rattle.fw_world.proofs.LinksAreLanes.Projection.{becomes_put, judged_site, judges_put}
-use Rattle.fw_world.proofs.Reaching.{run_eids}
+use Rattle.fw_steps.specs.Headline.{AreDifferent, Leads, Run}
+use Rattle.fw_steps.specs.Worlds.{SiteOf, WorldOf, activates_on, eids_of, place_of, site_for}
+use Rattle.fw_steps.specs.declared.step.Step.{Step}
+use Rattle.fw_steps.specs.declared.step.Step.TheVariants as steps
+use Rattle.fw_steps.proofs.LinksAreLanes.AgentTicks.{half_put}
+use Rattle.fw_steps.proofs.LinksAreLanes.Places.{one_key}
+use Rattle.fw_steps.proofs.LinksAreLanes.Posting.{site_put}
+use Rattle.fw_steps.proofs.LinksAreLanes.Projection.{becomes_put, judged_site, judges_put}
+use Rattle.fw_steps.proofs.Reaching.{run_eids}
 use Rattle.fw_edge.specs.Drives.{DrivesCounted, ticks_in}
 use Rattle.fw_edge.specs.Outcomes.{StepRefused, StepsStopped}
 use Rattle.fw_edge.specs.Turns.{TakesAll, TakesIf, TakesSome, activation_for, all_due, awaited_in, due_at, verdict_for}

@@ -10,10 +10,10 @@ use Rattle.fw_node.specs.Halves.{half_ticks}
 use Rattle.fw_node.specs.Nodes.{device_hears, device_judges, device_restarts}
 use Rattle.fw_node.specs.Packets.{all_packets}
 use Rattle.ua_core.specs.Session.{SessionOf}
-use Rattle.fw_world.specs.Headline.{Leads, Run, world_after}
-use Rattle.fw_world.specs.Worlds.{SiteOf, WorldOf, activates_on, agent_pass_sends, asks_log, at_agent, at_device, counts, delivers, judges, node_becomes, packets_of, place_for, place_of, post, post_at, posts, restarts, sent_now, site_at, site_for, site_goes_on, site_passes, site_restarts, ticks}
-use Rattle.fw_world.specs.declared.step.Step.{Step}
-use Rattle.fw_world.specs.declared.step.Step.TheVariants as steps
+use Rattle.fw_steps.specs.Headline.{Leads, Run, world_after}
+use Rattle.fw_steps.specs.Worlds.{SiteOf, WorldOf, activates_on, agent_pass_sends, asks_log, at_agent, at_device, counts, delivers, judges, node_becomes, packets_of, place_for, place_of, post, post_at, posts, restarts, sent_now, site_at, site_for, site_goes_on, site_passes, site_restarts, ticks}
+use Rattle.fw_steps.specs.declared.step.Step.{Step}
+use Rattle.fw_steps.specs.declared.step.Step.TheVariants as steps
 use Rattle.fw_edge.specs.Drives.{Drives}
 use Rattle.fw_edge.specs.Ledgers.{NoneFell, packet_counts}
 use Rattle.fw_edge.proofs.Rising.{map_length}

@@ -4,7 +4,7 @@ use Rattle.std.specs.Prelude.{IsSomeAnd}
 use Rattle.std.proofs.lemmas.Bool.{lt-ltb}
 use Rattle.std.proofs.lemmas.Bool.Decides.{eqb_tells}
 use Rattle.exch_lane.specs.Lanes.{Sent, numbered}
-use Rattle.fw_world.specs.Dead.{AreDead}
+use Rattle.fw_steps.specs.Dead.{AreDead}
 use Rattle.fw_edge.specs.Hearing.{IsLastLiving, IsLiving, LivesWith}
 
 -- no packet behind a number lives

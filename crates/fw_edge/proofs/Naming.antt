@@ -1,8 +1,8 @@
 -- Devices keep their places and identifiers.
 use Rattle.std.proofs.Common.{◌≡◌, ◌<◌, ℕ, zero, suc, List, ◌∷◌, [], Some, length, slice_get, refl, arith}
-use Rattle.fw_world.specs.Worlds.{SiteOf, WorldOf, eids_of}
-use Rattle.fw_world.specs.declared.step.Step.{Step}
-use Rattle.fw_world.proofs.Reaching.{run_eids}
+use Rattle.fw_steps.specs.Worlds.{SiteOf, WorldOf, eids_of}
+use Rattle.fw_steps.specs.declared.step.Step.{Step}
+use Rattle.fw_steps.proofs.Reaching.{run_eids}
 use Rattle.fw_edge.specs.Drives.{Drives}
 use Rattle.fw_edge.specs.Turns.{eid_in}
 

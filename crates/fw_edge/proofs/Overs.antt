@@ -3,8 +3,8 @@ use Rattle.std.proofs.Common.{◌≡◌, ◌+◌, ◌∙◌, ℕ, zero, suc, Lis
 use Rattle.std.specs.Prelude.{option_map}
 use Rattle.fw_node.specs.Agents.{AgentOf, half_for}
 use Rattle.fw_node.specs.Nodes.{DeviceNodeOf}
-use Rattle.fw_world.specs.Worlds.{SiteOf, WorldOf}
-use Rattle.fw_world.specs.declared.step.Step.{Step}
+use Rattle.fw_steps.specs.Worlds.{SiteOf, WorldOf}
+use Rattle.fw_steps.specs.declared.step.Step.{Step}
 use Rattle.fw_edge.specs.Drives.{all_over, are_over, is_over}
 
 -- at a place, and behind it

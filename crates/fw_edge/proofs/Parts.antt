@@ -1,7 +1,7 @@
 -- Parts of a turn, one after the other.
 use Rattle.std.proofs.Common.{◌≡◌, ◌≢◌, ◌≤◌, ◌+◌, ◌-◌, ◌*◌, ◌∙◌, ◌^◌, ℕ, List, inl, inr, length, map, refl, sym, subst, arith}
-use Rattle.fw_world.specs.Worlds.{WorldOf, eids_of}
-use Rattle.fw_world.specs.declared.step.Step.{Step}
+use Rattle.fw_steps.specs.Worlds.{WorldOf, eids_of}
+use Rattle.fw_steps.specs.declared.step.Step.{Step}
 use Rattle.fw_edge.specs.Drives.{DrivesCounted, delivers_in, ticks_in}
 use Rattle.fw_edge.specs.Ledgers.{AreToldOf, packet_counts}
 use Rattle.fw_edge.specs.Outcomes.{LinksDriven, LinksExchanged, LinksRead, LinksRefused, LinksWrote, PartStopped, RoundStopped}

@@ -1,7 +1,7 @@
 -- What links take of the packets of their pairs.
 use Rattle.std.proofs.Common.{◌≡◌, ◌≤◌, ◌<◌, ◌+◌, ◌-◌, ◌^◌, ◌∙◌, ℕ, zero, suc, List, [], ◌∷◌, get_or, length, map, slice_get, slice_set, refl, sym, ap, subst, subst₂, arith}
 use Rattle.std.proofs.lemmas.List.{map-set}
-use Rattle.fw_world.specs.Worlds.{SiteOf, packets_at}
+use Rattle.fw_steps.specs.Worlds.{SiteOf, packets_at}
 use Rattle.fw_edge.specs.Ledgers.{AllSent, NoneFell, packet_counts}
 use Rattle.fw_edge.proofs.Rising.{map_get, map_length}
 

@@ -3,8 +3,8 @@ use Rattle.std.proofs.Common.{◌≡◌, ◌≢◌, ◌<◌, ◌+◌, ◌++◌, 
 use Rattle.std.proofs.lemmas.List.{map-append}
 use Rattle.fw_message.specs.declared.side.Side.{Side}
 use Rattle.fw_message.specs.declared.side.Side.TheVariants as sides
-use Rattle.fw_world.specs.Worlds.{WorldOf, eids_of}
-use Rattle.fw_world.specs.declared.step.Step.{Step}
+use Rattle.fw_steps.specs.Worlds.{WorldOf, eids_of}
+use Rattle.fw_steps.specs.declared.step.Step.{Step}
 use Rattle.fw_edge.specs.Drives.{Drives, ticks_in}
 use Rattle.fw_edge.specs.Links.{Asks, EndsOf, Fails, LinksOf, Rises}
 use Rattle.fw_edge.specs.Ledgers.{Refuses, Writes}

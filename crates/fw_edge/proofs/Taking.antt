@@ -4,7 +4,7 @@ use Rattle.std.specs.Prelude.{option_map}
 use Rattle.std.proofs.lemmas.List.{map-set, take_all}
 use Rattle.exch_lane.specs.Lanes.{Sent}
 use Rattle.fw_node.specs.Nodes.{DeviceNodeOf}
-use Rattle.fw_world.specs.Worlds.{SiteOf}
+use Rattle.fw_steps.specs.Worlds.{SiteOf}
 use Rattle.fw_edge.specs.Frames.{frames_of}
 use Rattle.fw_edge.specs.Links.{EndsOf, GrowsAt, end_of}
 use Rattle.fw_edge.specs.Outgoing.{TookAll, TookAt, TookEach}

@@ -1,8 +1,8 @@
 -- Steps of a turn, one after the other.
 use Rattle.std.proofs.Common.{◌≡◌, ◌≤◌, ◌<◌, ◌+◌, ◌++◌, ◌∙◌, ℕ, zero, suc, Bool, false, List, [], ◌∷◌, Some, None, get_or, length, map, slice_get, slice_set, take, refl, sym, ap, subst, arith}
 use Rattle.fw_message.specs.declared.side.Side.{Side}
-use Rattle.fw_world.specs.Worlds.{WorldOf, eids_of}
-use Rattle.fw_world.specs.declared.step.Step.{Step}
+use Rattle.fw_steps.specs.Worlds.{WorldOf, eids_of}
+use Rattle.fw_steps.specs.declared.step.Step.{Step}
 use Rattle.std.proofs.lemmas.List.{map-append, map-set}
 use Rattle.fw_edge.specs.Drives.{Drives, all_over, delivers_in}
 use Rattle.fw_edge.specs.Frames.{frames_of}

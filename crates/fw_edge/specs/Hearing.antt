@@ -1,7 +1,7 @@
 -- Which packet of a pair comes where a frame comes.
 use Rattle.std.specs.Prelude.{ℕ, ◌≡◌, ◌≤◌, IsSomeAnd, List, Option, None, Some}
 use Rattle.exch_lane.specs.Lanes.{Lives, Sent, numbered}
-use Rattle.fw_world.specs.Worlds.{WorldOf, packets_of}
+use Rattle.fw_steps.specs.Worlds.{WorldOf, packets_of}
 
 -- a packet may still come, and has these bytes
 abbrev pub LivesWith : (now : ℕ) → List ℕ → Sent → Type 0

@@ -4,7 +4,7 @@ use Rattle.fw_edge.specs.declared.driving.EdgeFault.{EdgeFault}
 use Rattle.fw_edge.specs.declared.driving.EdgeFault.TheVariants as faults
 use Rattle.fw_edge.specs.Links.{Rises}
 use Rattle.fw_edge.specs.declared.tally.Tally.{Tally}
-use Rattle.fw_world.specs.Worlds.{SiteOf}
+use Rattle.fw_steps.specs.Worlds.{SiteOf}
 
 -- one of these counts of failures rose by one, or stands at its last value, and no other changed
 abbrev pub OneFailed : List ℕ → List ℕ → Type 0

@@ -2,9 +2,9 @@
 -- they count, took and gave.
 use Rattle.std.specs.Prelude.{ℕ, ◌≡◌, ◌≢◌, ◌≤◌, ◌<◌, ◌+◌, ◌-◌, ◌*◌, ◌^◌, ◌⊎◌, true, List, [], length, map}
 use Rattle.fw_message.specs.declared.side.Side.{Side}
-use Rattle.fw_world.specs.Replays.{needs_memory}
-use Rattle.fw_world.specs.Worlds.{WorldOf, eids_of}
-use Rattle.fw_world.specs.declared.step.Step.{Step}
+use Rattle.fw_steps.specs.Replays.{needs_memory}
+use Rattle.fw_steps.specs.Worlds.{WorldOf, eids_of}
+use Rattle.fw_steps.specs.declared.step.Step.{Step}
 use Rattle.fw_edge.specs.Drives.{Drives, DrivesCounted, all_over, delivers_in, ticks_in}
 use Rattle.fw_edge.specs.Ledgers.{AllRose, AllSent, AreGiven, AreToldOf, IsToldOf, Reads, Refuses, RoseTogether, StopsAt, Writes, packet_counts}
 use Rattle.fw_edge.specs.Links.{EndsOf, LinksOf, links_at}

@@ -1,6 +1,6 @@
 -- Which bytes links take of the packets of their pairs.
 use Rattle.std.specs.Prelude.{ℕ, zero, suc, ◌≡◌, List, [], ◌∷◌, drop, length, map, Option, None, Some}
-use Rattle.fw_world.specs.Worlds.{SiteOf, WorldOf}
+use Rattle.fw_steps.specs.Worlds.{SiteOf, WorldOf}
 use Rattle.fw_edge.specs.Frames.{frames_of}
 use Rattle.fw_edge.specs.Ledgers.{packet_counts}
 use Rattle.fw_edge.specs.Links.{EndsOf, GrowsAt, LinksOf, end_of}

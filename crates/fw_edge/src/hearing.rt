@@ -1,7 +1,7 @@
 //! Finds the sent packet that a received frame carries.
 
 ghost use Rattle.std.specs.Prelude.{◌≡◌, IsSomeAnd, false, slice_get, true};
-ghost use Rattle.fw_world.specs.Dead.{AreDead};
+ghost use Rattle.fw_steps.specs.Dead.{AreDead};
 ghost use Rattle.fw_edge.specs.Hearing.{IsHeard, IsLastLiving, LivesWith};
 
 use fd_core::Bank;

@@ -5,7 +5,7 @@ ghost use Rattle.fw_edge.specs.Ledgers.{NoneFell, packet_counts};
 ghost use Rattle.fw_edge.specs.Links.{end_of, links_at};
 ghost use Rattle.fw_edge.specs.Outcomes.{LinkRefused, LinkWrote, LinksRefused, LinksWrote};
 ghost use Rattle.fw_edge.specs.Outgoing.{TookAll, TookAt, WritesOut};
-ghost use Rattle.fw_world.specs.Worlds.{packets_at};
+ghost use Rattle.fw_steps.specs.Worlds.{packets_at};
 
 use crate::driving::EdgeFault;
 use crate::link::Link;

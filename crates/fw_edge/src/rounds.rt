@@ -7,9 +7,9 @@ ghost use Rattle.fw_edge.specs.Drives.{Drives, DrivesCounted};
 ghost use Rattle.fw_edge.specs.Hearing.{IsHeard, IsKnown};
 ghost use Rattle.fw_edge.specs.Ledgers.{NoneFell, packet_counts};
 ghost use Rattle.fw_edge.specs.Outcomes.{EndsRead, LinkStopped, PartDone, PartStopped, RoundRead, RoundStopped, StepRefused};
-ghost use Rattle.fw_world.specs.Headline.{may_step};
-ghost use Rattle.fw_world.specs.Worlds.{eids_of};
-ghost use Rattle.fw_world.specs.declared.step.Step.{Step};
+ghost use Rattle.fw_steps.specs.Headline.{may_step};
+ghost use Rattle.fw_steps.specs.Worlds.{eids_of};
+ghost use Rattle.fw_steps.specs.declared.step.Step.{Step};
 
 use crate::driving::EdgeFault;
 use crate::hearing::heard;

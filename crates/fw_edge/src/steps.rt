@@ -6,9 +6,9 @@ ghost use Rattle.fw_edge.specs.Ledgers.{packet_counts};
 ghost use Rattle.fw_edge.specs.Outcomes.{LacksMemory, SentNone, StepRefused, StepsStopped};
 ghost use Rattle.fw_edge.specs.Turns.{TakesAll, TakesIf, activation_for, all_due, awaited_in, due_at, verdict_for};
 ghost use Rattle.fw_node.specs.Agents.{half_for, ready_for};
-ghost use Rattle.fw_world.specs.Headline.{Leads, may_step};
-ghost use Rattle.fw_world.specs.Worlds.{eids_of, full_tick, site_for};
-ghost use Rattle.fw_world.specs.declared.step.Step.{Step};
+ghost use Rattle.fw_steps.specs.Headline.{Leads, may_step};
+ghost use Rattle.fw_steps.specs.Worlds.{eids_of, full_tick, site_for};
+ghost use Rattle.fw_steps.specs.declared.step.Step.{Step};
 
 use crate::driving::EdgeFault;
 use fd_core::{Bank, Verdict};

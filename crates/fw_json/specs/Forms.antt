@@ -4,7 +4,7 @@ use Rattle.fw_package.specs.Package.{PackageText}
 use Rattle.fw_script.specs.Configs.{DeviceConfigOf}
 use Rattle.fw_script.specs.Reports.{report_of}
 use Rattle.fw_setup.specs.Forecasts.{forecast_of}
-use Rattle.fw_world.specs.Worlds.{WorldOf}
+use Rattle.fw_steps.specs.Worlds.{WorldOf}
 use Rattle.fwupd_base.specs.Inspection.{inspect_of}
 use Rattle.fw_json.specs.Inspections.{inspection_value}
 use Rattle.fw_json.specs.Plans.{plan_value}

@@ -3,8 +3,8 @@ use Rattle.std.proofs.Common.{◌≡◌, ◌≢◌, ◌≤◌, ◌∙◌, ◌<�
 use Rattle.std.proofs.lemmas.List.{append-nil, length-append, take-append-drop, take_all, take_more}
 use Rattle.std.specs.List.{flat_map, repeat}
 use Rattle.std.proofs.lemmas.Grind.{flat_map-append}
-use Rattle.fw_world.specs.Worlds.{full_tick}
-use Rattle.fw_world.specs.declared.step.Step.{Step}
+use Rattle.fw_steps.specs.Worlds.{full_tick}
+use Rattle.fw_steps.specs.declared.step.Step.{Step}
 use Rattle.fw_script.specs.ScheduleLines.{all_steps, line_steps}
 use Rattle.fw_script.specs.declared.schedule_lines.ScheduleLine.{ScheduleLine}
 use Rattle.fw_script.specs.declared.schedule_lines.ScheduleLine.TheVariants as lines

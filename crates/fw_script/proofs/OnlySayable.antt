@@ -9,10 +9,10 @@ use Rattle.hex.proofs.HexLemmas.{decode_of-ok}
 use Rattle.hex.specs.Hex.{IsBytes, decode_of}
 use Rattle.hex.specs.declared.error.FromHexError.{FromHexError}
 use Rattle.exch_lane.specs.Lanes.{IsEid}
-use Rattle.fw_world.specs.Headline.{AreDifferent}
-use Rattle.fw_world.specs.Worlds.{full_tick}
-use Rattle.fw_world.specs.declared.step.Step.{Step}
-use Rattle.fw_world.specs.declared.step.Step.TheVariants as steps
+use Rattle.fw_steps.specs.Headline.{AreDifferent}
+use Rattle.fw_steps.specs.Worlds.{full_tick}
+use Rattle.fw_steps.specs.declared.step.Step.{Step}
+use Rattle.fw_steps.specs.declared.step.Step.TheVariants as steps
 use Rattle.fw_script.specs.Faults.{both}
 use Rattle.fw_script.specs.Lines.{fields_in, is_skipped, lines_of, words_of}
 use Rattle.fw_script.specs.ScheduleTexts.{AreSayable, IsSayable, OnlySayableIsRead}

@@ -4,9 +4,9 @@ use Rattle.std.specs.List.{repeat}
 use Rattle.std.proofs.lemmas.Bool.{cases_Bool, eq-eqb, eqb-true, ne_eqb}
 use Rattle.std.proofs.lemmas.Bool.Decides.{eqb_tells}
 use Rattle.std.proofs.lemmas.List.{nil_from_length}
-use Rattle.fw_world.specs.Worlds.{full_tick}
-use Rattle.fw_world.specs.declared.step.Step.{Step}
-use Rattle.fw_world.specs.declared.step.Step.TheVariants as steps
+use Rattle.fw_steps.specs.Worlds.{full_tick}
+use Rattle.fw_steps.specs.declared.step.Step.{Step}
+use Rattle.fw_steps.specs.declared.step.Step.TheVariants as steps
 use Rattle.fw_script.specs.Lines.{lines_of}
 use Rattle.fw_script.specs.ScheduleTexts.{AreSayable, IsSayable, PortionsAreTheWhole, SchedulesReadBack, idle_after, idle_at, is_idle, line_of, schedule_text, spaced, step_text, text_of_steps, text_with, ticks_text, words_for, words_for_ticks}
 use Rattle.fw_script.specs.Schedules.{before, script_from, script_of, steps_of, then_lines}

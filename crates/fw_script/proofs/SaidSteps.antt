@@ -16,10 +16,10 @@ use Rattle.exch_lane.specs.Lanes.{IsEid}
 use Rattle.fd_core.specs.declared.states.Verdict.{Verdict}
 use Rattle.fd_core.specs.declared.states.Verdict.TheVariants as verdicts
 use Rattle.fw_text.specs.Printing.{data_text}
-use Rattle.fw_world.specs.Headline.{AreDifferent}
-use Rattle.fw_world.specs.Worlds.{full_tick}
-use Rattle.fw_world.specs.declared.step.Step.{Step}
-use Rattle.fw_world.specs.declared.step.Step.TheVariants as steps
+use Rattle.fw_steps.specs.Headline.{AreDifferent}
+use Rattle.fw_steps.specs.Worlds.{full_tick}
+use Rattle.fw_steps.specs.declared.step.Step.{Step}
+use Rattle.fw_steps.specs.declared.step.Step.TheVariants as steps
 use Rattle.fw_script.specs.Faults.{both}
 use Rattle.fw_script.specs.ScheduleTexts.{AreMissing, IsDelivery, IsRequest, IsSayable, IsStart, is_idle, spaced, verdict_word, words_for, words_for_ticks}
 use Rattle.fw_script.specs.Lines.{is_nothing, is_skipped}

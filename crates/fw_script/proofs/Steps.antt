@@ -3,7 +3,7 @@ use Rattle.std.proofs.Common.{◌≡◌, ℕ, ◌+◌, List, [], ◌∷◌, ◌+
 use Rattle.std.specs.List.{repeat}
 use Rattle.fw_script.specs.declared.faults.ScriptCause.{ScriptCause}
 use Rattle.fw_script.specs.declared.faults.ScriptFault.{ScriptFault}
-use Rattle.fw_world.specs.declared.step.Step.{Step}
+use Rattle.fw_steps.specs.declared.step.Step.{Step}
 use Rattle.fw_script.specs.Schedules.{before, then_lines, with_line}
 
 -- one more of a step

@@ -1,8 +1,8 @@
 -- What the lines of a schedule say, as they are written.
 use Rattle.std.specs.Prelude.{◌++◌, ◌∷◌, [], List, None, Option, Some}
 use Rattle.std.specs.List.{flat_map, repeat}
-use Rattle.fw_world.specs.Worlds.{full_tick}
-use Rattle.fw_world.specs.declared.step.Step.{Step}
+use Rattle.fw_steps.specs.Worlds.{full_tick}
+use Rattle.fw_steps.specs.declared.step.Step.{Step}
 use Rattle.fw_script.specs.declared.schedule_lines.ScheduleLine.{ScheduleLine}
 use Rattle.fw_script.specs.declared.schedule_lines.ScheduleLine.TheVariants as lines
 use Rattle.fw_script.specs.declared.schedule_lines.NextStep.{NextStep}

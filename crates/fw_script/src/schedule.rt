@@ -7,7 +7,7 @@ ghost use Rattle.fw_script.specs.ScheduleLines.{all_steps, line_steps, steps_if_
 ghost use Rattle.fw_script.specs.Schedules.{delivery as delivery_of, directive_of as directive_named, eids_from, has_twice as stands_twice, only_eid_of, place_of as place_in, script_of, step_of, steps_named, steps_of, steps_said, ticks_of, verdict_of, with_eid as with_eid_of, with_line};
 ghost use Rattle.fw_script.specs.Lines.{fields_in, words_from};
 ghost use Rattle.fw_script.specs.Seen.{seen_eids};
-ghost use Rattle.fw_world.specs.Worlds.{full_tick};
+ghost use Rattle.fw_steps.specs.Worlds.{full_tick};
 
 use crate::faults::{ScriptCause, ScriptFault, both};
 use crate::lines::{MAX_FIELDS, fields_after, first_line, first_word, is_skipped};

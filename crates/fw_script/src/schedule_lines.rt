@@ -3,7 +3,7 @@
 ghost use Rattle.std.specs.Prelude.{◌≡◌, ◌++◌, ◌∷◌, ◌^◌, ◌≤◌, [], IfNone, IfOk, IfSome, OnOk, length};
 ghost use Rattle.std.specs.List.{repeat};
 ghost use Rattle.fw_script.specs.ScheduleLines.{all_steps, line_steps};
-ghost use Rattle.fw_world.specs.Worlds.{full_tick};
+ghost use Rattle.fw_steps.specs.Worlds.{full_tick};
 
 use fw_world::{Missed, Step};
 use std::alloc::{AllocError, Global};
@@ -105,8 +105,8 @@ pub struct LineSteps<'a> {
 impl<'a> Model for LineSteps<'a> {
     ghost use Rattle.std.specs.Prelude.{◌++◌, ◌∷◌, [], List};
     ghost use Rattle.std.specs.List.{repeat};
-    ghost use Rattle.fw_world.specs.Worlds.{full_tick};
-    ghost use Rattle.fw_world.specs.declared.step.Step.{Step};
+    ghost use Rattle.fw_steps.specs.Worlds.{full_tick};
+    ghost use Rattle.fw_steps.specs.declared.step.Step.{Step};
     ghost use Rattle.fw_script.specs.ScheduleLines.{all_steps};
 
     ghost Value = { List Step };

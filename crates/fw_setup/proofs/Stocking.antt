@@ -14,7 +14,7 @@ use Rattle.fw_script.specs.declared.config.ComponentConfig.{ComponentConfig}
 use Rattle.fw_script.specs.declared.config.DeviceConfig.{DeviceConfig}
 use Rattle.fw_store.specs.Kept.{KeptOf, all_running, image_for}
 use Rattle.fw_store.specs.declared.faults.OpenFault.TheVariants as reasons
-use Rattle.fw_world.specs.Headline.{AreDifferent}
+use Rattle.fw_steps.specs.Headline.{AreDifferent}
 use Rattle.fw_setup.specs.Nodes.{row_made}
 use Rattle.fw_setup.specs.Stocks.{AreStocked, CanOpen, IsFaulty, IsStocked, IsUnopened, StoresOf, image_configured, images_configured, stocked, stocked_by, stocked_device}
 use Rattle.fw_setup.specs.declared.stores.Unopened.{Unopened}

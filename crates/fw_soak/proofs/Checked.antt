@@ -13,7 +13,7 @@ use Rattle.fw_node.specs.Nodes.{DeviceNodeOf}
 use Rattle.fw_message.specs.History.{EntryOf, same_put}
 use Rattle.fw_message.specs.Worlds.{NotedOf, noted_of}
 use Rattle.fw_script.specs.Configs.{ComponentConfigOf, DeviceConfigOf}
-use Rattle.fw_world.specs.Worlds.{SiteOf, WorldOf, site_for}
+use Rattle.fw_steps.specs.Worlds.{SiteOf, WorldOf, site_for}
 use Rattle.fw_soak.specs.Checking.{applies, are_right, has_applied, is_clean, is_named_for, is_right, is_running, runs_it, runs_them, runs_what_it_may}
 use Rattle.fw_soak.specs.Checks.{AreRight, HasApplied, IsClean, IsNamed, IsNamedFor, IsRight, RunsIt, RunsThem, RunsWhatItMay, device_for, recorded_image, runs_after}
 use Rattle.fw_soak.specs.Naming.{is_image, is_named}

@@ -6,8 +6,8 @@ use Rattle.std.specs.List.{sum_by}
 use Rattle.std.specs.Prelude.{option_map}
 use Rattle.exch_lane.specs.Lanes.{Sent}
 use Rattle.fw_node.specs.Nodes.{DeviceNodeOf}
-use Rattle.fw_world.specs.Worlds.{SiteOf}
-use Rattle.fw_world.specs.declared.step.Step.{Step}
+use Rattle.fw_steps.specs.Worlds.{SiteOf}
+use Rattle.fw_steps.specs.declared.step.Step.{Step}
 use Rattle.fw_soak.specs.Counts.{counted, greater, greatest, longest_at, lost_at, marked_along, no_update, update_along}
 
 -- a mark past the last changes nothing

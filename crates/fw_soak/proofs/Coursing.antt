@@ -1,8 +1,8 @@
 -- A run goes on.
 use Rattle.std.proofs.Common.{◌≡◌, ◌++◌, List, [], ◌∷◌, refl, subst, sym}
-use Rattle.fw_world.specs.Headline.{Leads, Run}
-use Rattle.fw_world.specs.Worlds.{WorldOf}
-use Rattle.fw_world.specs.declared.step.Step.{Step}
+use Rattle.fw_steps.specs.Headline.{Leads, Run}
+use Rattle.fw_steps.specs.Worlds.{WorldOf}
+use Rattle.fw_steps.specs.declared.step.Step.{Step}
 use Rattle.fw_edge.proofs.Going.{run_append}
 use Rattle.fw_soak.specs.Courses.{CourseOf, GoesOn, IsCourse, SetupOf, opening_of}
 

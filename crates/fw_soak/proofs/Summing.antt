@@ -3,7 +3,7 @@ use Rattle.std.proofs.Common.{◌≡◌, ◌∙◌, ◌+◌, ◌++◌, ℕ, Bool
 use Rattle.std.proofs.lemmas.List.{map-append}
 use Rattle.std.proofs.lemmas.List.Sums.{sum_by-append}
 use Rattle.std.specs.List.{AllByRecursion, sum_by}
-use Rattle.fw_world.specs.declared.step.Step.{Step}
+use Rattle.fw_steps.specs.declared.step.Step.{Step}
 use Rattle.fw_soak.specs.Counts.{activations_in, counted, greater, greatest, longest_in, losses_in, restarts_in}
 use Rattle.fw_soak.specs.Courses.{CourseOf, IsCourse, SetupOf}
 use Rattle.fw_soak.specs.Summaries.{AreSummed, IsSoaked, ends_clean, first_violation, kept_with, no_runs, violates, with_run}

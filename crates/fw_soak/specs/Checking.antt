@@ -7,7 +7,7 @@ use Rattle.fd_core.specs.Images.{ImageOf, Put, RowOf, active_of, row_of}
 use Rattle.ua_core.specs.Lent.{told_descriptor}
 use Rattle.fw_message.specs.History.{EntryOf, same_put}
 use Rattle.fw_message.specs.Worlds.{NotedOf}
-use Rattle.fw_world.specs.Worlds.{SiteOf, WorldOf, site_for}
+use Rattle.fw_steps.specs.Worlds.{SiteOf, WorldOf, site_for}
 use Rattle.fw_script.specs.Configs.{ComponentConfigOf, DeviceConfigOf}
 use Rattle.fw_soak.specs.Checks.{device_for, recorded_image, runs_after}
 use Rattle.fw_soak.specs.Naming.{is_named}

@@ -10,7 +10,7 @@ use Rattle.ua_core.specs.Lent.{key_of, package_at, told_descriptor}
 use Rattle.ua_core.specs.declared.planned.Recorded.{Recorded}
 use Rattle.fw_message.specs.History.{EntryOf}
 use Rattle.fw_message.specs.Worlds.{NotedOf, noted_of}
-use Rattle.fw_world.specs.Worlds.{SiteOf, WorldOf, site_for}
+use Rattle.fw_steps.specs.Worlds.{SiteOf, WorldOf, site_for}
 use Rattle.fw_script.specs.Configs.{ComponentConfigOf, DeviceConfigOf}
 
 -- the device of this identifier, as it is configured

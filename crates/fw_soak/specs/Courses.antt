@@ -5,9 +5,9 @@ use Rattle.mctp_wire.specs.declared.unit.Unit.{«Unit»}
 use Rattle.fw_package.specs.Package.{PackageText}
 use Rattle.fw_script.specs.Configs.{DeviceConfigOf}
 use Rattle.fw_setup.specs.Nodes.{nodes_made}
-use Rattle.fw_world.specs.Headline.{Run, new_world}
-use Rattle.fw_world.specs.Worlds.{WorldOf}
-use Rattle.fw_world.specs.declared.step.Step.{Step}
+use Rattle.fw_steps.specs.Headline.{Run, new_world}
+use Rattle.fw_steps.specs.Worlds.{WorldOf}
+use Rattle.fw_steps.specs.declared.step.Step.{Step}
 
 -- what runs begin with: the agent, the transmission unit of its network, its devices as they are configured, and the packages
 pub record SetupOf : Type 0 where

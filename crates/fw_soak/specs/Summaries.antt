@@ -1,7 +1,7 @@
 -- What is said of many runs.
 use Rattle.std.specs.Prelude.{ℕ, ◌≡◌, ◌+◌, Bool, if◌then◌else◌, List, [], ◌∷◌, Option, Some, None, length, map}
 use Rattle.std.specs.List.{AllByRecursion, sum_by}
-use Rattle.fw_world.specs.declared.step.Step.{Step}
+use Rattle.fw_steps.specs.declared.step.Step.{Step}
 use Rattle.fw_soak.specs.Checking.{is_clean}
 use Rattle.fw_soak.specs.Counts.{activations_in, counted, greater, greatest, longest_in, losses_in, restarts_in}
 use Rattle.fw_soak.specs.Courses.{CourseOf, IsCourse, SetupOf}

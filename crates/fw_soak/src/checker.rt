@@ -4,7 +4,7 @@ ghost use Rattle.std.specs.Prelude.{[], ◌≡◌, ◌==◌, ◌&&◌, IfOk, map
 ghost use Rattle.std.specs.List.{list_all};
 ghost use Rattle.fw_message.specs.Entries.{entry_of, event_of, put_of};
 ghost use Rattle.fw_script.specs.Seen.{component_of, device_of};
-ghost use Rattle.fw_world.specs.Worlds.{site_for};
+ghost use Rattle.fw_steps.specs.Worlds.{site_for};
 ghost use Rattle.fw_soak.specs.Checking.{applies, are_right, has_applied, is_clean, is_named_for, is_right, is_running, runs_it, runs_them, runs_what_it_may};
 ghost use Rattle.fw_soak.specs.Checks.{AreRight, IsClean, device_for, recorded_image, runs_after};
 

@@ -1,11 +1,11 @@
 -- A replay keeps time over the steps that it took.
 use Rattle.std.proofs.Common.{◌≡◌, ◌<◌, ℕ, true, length, List, slice_get, take, IfErr, IfSome, OnOk, Result, Ok, Err}
-use Rattle.fw_world.specs.Clocks.{KeepsTime, RunsKeepTime}
-use Rattle.fw_world.specs.Headline.{IsReached, Run, is_node}
-use Rattle.fw_world.specs.Replays.{Refuses}
-use Rattle.fw_world.specs.Worlds.{WorldOf}
-use Rattle.fw_world.specs.declared.step.Step.{Step}
-use Rattle.fw_world.specs.declared.step.StepFault.{StepFault}
+use Rattle.fw_steps.specs.Clocks.{KeepsTime, RunsKeepTime}
+use Rattle.fw_steps.specs.Headline.{IsReached, Run, is_node}
+use Rattle.fw_steps.specs.Replays.{Refuses}
+use Rattle.fw_steps.specs.Worlds.{WorldOf}
+use Rattle.fw_steps.specs.declared.step.Step.{Step}
+use Rattle.fw_steps.specs.declared.step.StepFault.{StepFault}
 
 pub keeps_when : {A E : Type 0} (r : Result A E) (w v : WorldOf) (ss : List Step) → IsReached w → RunsKeepTime → OnOk r (Run w ss v) → OnOk r ((eid : ℕ) → is_node w eid ≡ true → KeepsTime eid ss)
 keeps_when (Ok a) w v ss k law run = λ eid known. law k.opening w v k.before ss k.opens k.run run eid known

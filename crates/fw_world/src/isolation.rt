@@ -1,32 +1,13 @@
 //! Two replays side by side: what is between the agent and a device depends on no other device.
 
 ghost use Rattle.std.specs.Prelude.{◌≡◌, ◌<◌, IfErr, IfSome, IsOk, OnOk, length, slice_get, take};
-ghost use Rattle.fw_world.specs.Cases.{AgreementSeesThePair};
-ghost use Rattle.fw_world.specs.Headline.{Run};
-ghost use Rattle.fw_world.specs.Isolation.{AgreeIn, DevicesAreIsolated, IsUnfailed, steps_of};
-ghost use Rattle.fw_world.specs.Replays.{Refuses};
+ghost use Rattle.fw_steps.specs.Headline.{Run};
+ghost use Rattle.fw_steps.specs.Isolation.{AgreeIn, IsUnfailed, steps_of};
+ghost use Rattle.fw_steps.specs.Replays.{Refuses};
 
-use crate::links::{links_are_lanes, links_are_messages};
 use crate::replays::replay;
-use crate::step::{Step, StepFault};
-use crate::world::World;
 use fd_core::Bank;
-
-/// Where steps led to two worlds that agree in a device, and more steps of each lead on, of which the same concern that device:
-/// the worlds then agree in it, if no call of its bank failed.
-pub fn devices_are_isolated()
-    ensures law { DevicesAreIsolated }
-{
-    exch_lane::lane_is_a_cell();
-    links_are_lanes();
-    links_are_messages();
-}
-
-/// What worlds that agree in a device can't differ in: the packets between it and the agent, either of their nodes, what happened to
-/// it, both clocks, the time, and the packages.
-pub fn agreement_sees_the_pair()
-    ensures law { AgreementSeesThePair }
-{}
+use fw_steps::{Step, StepFault, World, devices_are_isolated};
 
 /// Takes these steps in the first world, then those in the second, each as `replay` does, and gives both results. One silent or
 /// broken device changes nothing between the agent and another: where the worlds agree in a device, the same steps concern it in

@@ -1,30 +1,16 @@
-//! The world of an update agent and its devices (DSP0267 1.0): what they do, step by step, and what is then true of every
-//! image that a device activates and of every component that the agent records as applied.
+//! Replays of the packet world: what a list of steps makes of an update agent and its devices (DSP0267 1.0), and what is then
+//! true of every image that a device activates and of every component that the agent records as applied.
 #![tactic(auto)]
 
-mod dead;
-mod fault;
-mod headline;
 mod isolation;
-mod links;
-mod packets;
-mod recorded;
 mod replays;
-mod site;
-mod sites;
-mod state;
-mod step;
-mod ticks;
-mod world;
 
-pub use fw_message::{
-    Entry, Event, Held, Image, MessageStep, MessageStepFault, MessageWorld, Side, Way,
-    message_replay, messages_are_safe, runs_stay_tied, worlds_are_safe,
+pub use fw_steps::{
+    Entry, Event, Held, Image, LogRequest, MessageStep, MessageStepFault, MessageWorld, Missed,
+    Refusal, SentPacket, SentPackets, Side, Step, StepFault, Way, World, agreement_sees_the_pair,
+    clocks_keep_time, devices_are_isolated, links_are_lanes, links_are_messages, message_replay,
+    messages_are_safe, moments_are_tied, packets_are_messages, packets_are_safe, runs_stay_tied,
+    worlds_are_safe,
 };
-pub use headline::{clocks_keep_time, moments_are_tied, packets_are_messages, packets_are_safe};
-pub use isolation::{agreement_sees_the_pair, devices_are_isolated, replay_two};
-pub use links::{links_are_lanes, links_are_messages};
-pub use packets::{SentPacket, SentPackets};
+pub use isolation::replay_two;
 pub use replays::replay;
-pub use step::{LogRequest, Missed, Refusal, Step, StepFault};
-pub use world::World;

@@ -1,17 +1,15 @@
 //! Replays of steps of the packet world.
 
 ghost use Rattle.std.specs.Prelude.{◌≡◌, ◌<◌, IfErr, IfSome, List, OnOk, length, slice_get, take, true, ℕ};
-ghost use Rattle.fw_world.specs.Clocks.{KeepsTime};
-ghost use Rattle.fw_world.specs.Headline.{IsLed, IsOpeningWorld, IsPromised, IsSafeWorld, Run, is_node};
-ghost use Rattle.fw_world.specs.Moments.{IsGrown, IsTiedBetween};
-ghost use Rattle.fw_world.specs.Replays.{Refuses};
-ghost use Rattle.fw_world.specs.Worlds.{WorldOf};
-ghost use Rattle.fw_world.specs.declared.step.Step.{Step};
+ghost use Rattle.fw_steps.specs.Clocks.{KeepsTime};
+ghost use Rattle.fw_steps.specs.Headline.{IsLed, IsOpeningWorld, IsPromised, IsSafeWorld, Run, is_node};
+ghost use Rattle.fw_steps.specs.Moments.{IsGrown, IsTiedBetween};
+ghost use Rattle.fw_steps.specs.Replays.{Refuses};
+ghost use Rattle.fw_steps.specs.Worlds.{WorldOf};
+ghost use Rattle.fw_steps.specs.declared.step.Step.{Step};
 
-use crate::headline::{clocks_keep_time, moments_are_tied, packets_are_safe};
-use crate::step::{Step, StepFault};
-use crate::world::World;
 use fd_core::Bank;
+use fw_steps::{Step, StepFault, World, clocks_keep_time, moments_are_tied, packets_are_safe};
 
 /// Takes these steps one after another: deliveries of packets in any order, any number of times or never, ticks, the operator's
 /// calls, verdicts, restarts and requests of the event log. The history of each device is then safe: the images that a device

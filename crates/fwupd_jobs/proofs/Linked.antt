@@ -7,7 +7,7 @@ use Rattle.std.proofs.lemmas.Option.{slice_get-get_or, slice_get-map}
 use Rattle.fw_edge.specs.Ledgers.{OneFailed}
 use Rattle.fw_edge.specs.Links.{Rises}
 use Rattle.fw_node.specs.Nodes.{DeviceNodeOf}
-use Rattle.fw_world.specs.Worlds.{SiteOf, WorldOf}
+use Rattle.fw_steps.specs.Worlds.{SiteOf, WorldOf}
 use Rattle.mctp_wire.specs.declared.unit.Unit.{«Unit»}
 use Rattle.fwupd_jobs.specs.Updated.{AreLinked, IsLost, IsUnlinked, NamesLost, TellsLost}
 use Rattle.fwupd_watch.proofs.Started.{node_there, take_next}

@@ -13,8 +13,8 @@ use Rattle.fw_script.specs.declared.config.Config.{Config}
 use Rattle.fw_script.specs.declared.faults.ScriptCause.{ScriptCause}
 use Rattle.fw_script.specs.declared.faults.ScriptCause.TheVariants as causes
 use Rattle.fw_script.specs.declared.faults.ScriptFault.{ScriptFault}
-use Rattle.fw_world.specs.Headline.{new_world}
-use Rattle.fw_world.specs.Worlds.{WorldOf}
+use Rattle.fw_steps.specs.Headline.{new_world}
+use Rattle.fw_steps.specs.Worlds.{WorldOf}
 use Rattle.fw_setup.specs.Nodes.{nodes_made}
 use Rattle.fw_setup.specs.Stocks.{AreStocked, IsUnopened, StoresOf}
 use Rattle.fw_setup.specs.declared.stores.Unopened.{Unopened}

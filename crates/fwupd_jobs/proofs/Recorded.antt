@@ -1,9 +1,9 @@
 -- Two runs of the same steps that work lead to one world.
 use Rattle.std.proofs.Common.{◌≡◌, ◌∙◌, List, [], ◌∷◌, Ok, ap, subst, sym, true}
 use Rattle.fw_json.specs.Forms.{report_in}
-use Rattle.fw_world.specs.Headline.{Leads, Run, world_after}
-use Rattle.fw_world.specs.Worlds.{WorldOf}
-use Rattle.fw_world.specs.declared.step.Step.{Step}
+use Rattle.fw_steps.specs.Headline.{Leads, Run, world_after}
+use Rattle.fw_steps.specs.Worlds.{WorldOf}
+use Rattle.fw_steps.specs.declared.step.Step.{Step}
 use Rattle.fwupd_jobs.specs.Recorded.{AllWork, RecordsReplay}
 
 -- steps that work lead to one world

@@ -5,11 +5,11 @@ use Rattle.std.proofs.lemmas.List.{length-drop, take_all, take_more}
 use Rattle.std.proofs.lemmas.Option.{slice_get_read}
 use Rattle.fw_edge.proofs.Going.{run_append}
 use Rattle.fw_edge.specs.Links.{Rises}
-use Rattle.fw_world.specs.Headline.{Leads, Run}
-use Rattle.fw_world.specs.Worlds.{WorldOf}
-use Rattle.fw_world.specs.Replays.{Refuses}
-use Rattle.fw_world.specs.declared.step.Step.{Step}
-use Rattle.fw_world.specs.declared.step.StepFault.{StepFault}
+use Rattle.fw_steps.specs.Headline.{Leads, Run}
+use Rattle.fw_steps.specs.Worlds.{WorldOf}
+use Rattle.fw_steps.specs.Replays.{Refuses}
+use Rattle.fw_steps.specs.declared.step.Step.{Step}
+use Rattle.fw_steps.specs.declared.step.StepFault.{StepFault}
 use Rattle.std.specs.List.{slice_get}
 
 -- a count that rises from one that isn't its last value

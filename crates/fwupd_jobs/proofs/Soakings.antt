@@ -11,7 +11,7 @@ use Rattle.fw_script.specs.declared.config.DeviceConfig.{DeviceConfig}
 use Rattle.fw_soak.specs.Summaries.{IsSoaked}
 use Rattle.fw_soak.specs.SummaryTexts.{summary_text}
 use Rattle.fw_soak.specs.declared.summary.Summary.{Summary}
-use Rattle.fw_world.specs.declared.step.Step.{Step}
+use Rattle.fw_steps.specs.declared.step.Step.{Step}
 use Rattle.fwupd_words.specs.declared.asked.SoakOrder.{SoakOrder}
 use Rattle.fwupd_watch.specs.Outputs.{FailsToPrint, OutputOf, Prints}
 use Rattle.fwupd_jobs.specs.Setups.{ArePacked, Says}

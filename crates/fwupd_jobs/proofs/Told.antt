@@ -5,10 +5,10 @@ use Rattle.fw_json.specs.Forms.{report_in}
 use Rattle.fwupd_base.specs.declared.forms.Form.{Form}
 use Rattle.fw_script.specs.Configs.{ConfigOf, config_of}
 use Rattle.fw_script.specs.Schedules.{script_of}
-use Rattle.fw_world.specs.Headline.{IsOpeningWorld, IsSafeWorld, PacketsAreSafe}
-use Rattle.fw_world.specs.Worlds.{WorldOf}
-use Rattle.fw_world.specs.declared.step.Step.{Step}
-use Rattle.fw_world.specs.declared.step.StepFault.{StepFault}
+use Rattle.fw_steps.specs.Headline.{IsOpeningWorld, IsSafeWorld, PacketsAreSafe}
+use Rattle.fw_steps.specs.Worlds.{WorldOf}
+use Rattle.fw_steps.specs.declared.step.Step.{Step}
+use Rattle.fw_steps.specs.declared.step.StepFault.{StepFault}
 use Rattle.fwupd_jobs.specs.Replayed.{IsReplayed, IsReport, Leaves, ReplayEnds, Reports, ReportsReplay}
 use Rattle.fwupd_watch.specs.Histories.{AreKeptUpStill}
 use Rattle.fwupd_watch.specs.Outputs.{FailsToPrint, OutputOf, Prints}

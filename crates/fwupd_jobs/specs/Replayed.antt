@@ -4,11 +4,11 @@ use Rattle.fw_script.specs.Configs.{ConfigOf, config_of}
 use Rattle.fw_script.specs.Schedules.{script_of}
 use Rattle.fw_json.specs.Forms.{report_in}
 use Rattle.fwupd_base.specs.declared.forms.Form.{Form}
-use Rattle.fw_world.specs.Headline.{Run}
-use Rattle.fw_world.specs.Replays.{Refuses}
-use Rattle.fw_world.specs.Worlds.{WorldOf}
-use Rattle.fw_world.specs.declared.step.Step.{Step}
-use Rattle.fw_world.specs.declared.step.StepFault.{StepFault}
+use Rattle.fw_steps.specs.Headline.{Run}
+use Rattle.fw_steps.specs.Replays.{Refuses}
+use Rattle.fw_steps.specs.Worlds.{WorldOf}
+use Rattle.fw_steps.specs.declared.step.Step.{Step}
+use Rattle.fw_steps.specs.declared.step.StepFault.{StepFault}
 use Rattle.fwupd_watch.specs.Outputs.{FailsToPrint, OutputOf, Prints}
 use Rattle.fwupd_jobs.specs.Promises.{IsSafeSince}
 use Rattle.fwupd_watch.specs.Apart.{IsApart, IsBarred}

@@ -3,7 +3,7 @@ use Rattle.std.specs.Prelude.{◌≡◌, Bool, false, true, if◌then◌else◌,
 use Rattle.std.specs.List.{AllByRecursion}
 use Rattle.fw_node.specs.Agents.{AgentOf}
 use Rattle.fw_script.specs.Reports.{cause_name, session_name, session_of}
-use Rattle.fw_world.specs.Worlds.{SiteOf, WorldOf}
+use Rattle.fw_steps.specs.Worlds.{SiteOf, WorldOf}
 use Rattle.ua_core.specs.declared.state.SessionState.{SessionState}
 use Rattle.ua_core.specs.declared.state.SessionState.TheVariants as sessions
 use Rattle.fwupd_watch.specs.declared.faults.RunFault.{RunFault}

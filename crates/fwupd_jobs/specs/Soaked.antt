@@ -4,7 +4,7 @@ use Rattle.std.specs.List.{AllByRecursion}
 use Rattle.fw_package.specs.Package.{PackageText}
 use Rattle.fw_script.specs.Configs.{ConfigOf, config_of}
 use Rattle.fw_script.specs.ScheduleTexts.{schedule_text}
-use Rattle.fw_world.specs.declared.step.Step.{Step}
+use Rattle.fw_steps.specs.declared.step.Step.{Step}
 use Rattle.fw_soak.specs.Courses.{SetupOf}
 use Rattle.fw_soak.specs.Summaries.{IsSoaked}
 use Rattle.fw_soak.specs.SummaryTexts.{summary_text}

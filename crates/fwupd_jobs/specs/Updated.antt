@@ -5,7 +5,7 @@ use Rattle.fw_edge.specs.declared.driving.EdgeFault.TheVariants as edges
 use Rattle.fw_edge.specs.declared.fates.Roughness.{Roughness}
 use Rattle.fw_json.specs.Forms.{report_in}
 use Rattle.fwupd_base.specs.declared.forms.Form.{Form}
-use Rattle.fw_world.specs.Worlds.{SiteOf, WorldOf}
+use Rattle.fw_steps.specs.Worlds.{SiteOf, WorldOf}
 use Rattle.mctp_wire.specs.declared.unit.Unit.{«Unit»}
 use Rattle.rand_pcg.specs.Lcg.{Lcg, increment_of, started}
 use Rattle.rand_pcg.specs.Pcg.{multiplier_64}

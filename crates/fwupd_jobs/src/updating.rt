@@ -4,7 +4,7 @@ ghost use Rattle.std.specs.Prelude.{◌≡◌, ◌⊎◌, Bool, IfErr, IfOk, IfS
 ghost use Rattle.std.specs.List.{AllByRecursion};
 ghost use Rattle.fw_json.specs.Forms.{report_in};
 ghost use Rattle.fw_setup.specs.Stocks.{stores_in};
-ghost use Rattle.fw_world.specs.Headline.{IsOpeningWorld};
+ghost use Rattle.fw_steps.specs.Headline.{IsOpeningWorld};
 ghost use Rattle.fwupd_watch.specs.Outputs.{FailsToPrint, Prints};
 ghost use Rattle.fwupd_jobs.specs.Sessions.{undone_in};
 ghost use Rattle.fwupd_jobs.specs.Setups.{SourceOf, TellsStore, source_of};

@@ -8,9 +8,9 @@ use Rattle.fw_edge.specs.Drives.{Drives}
 use Rattle.fw_edge.specs.Links.{LinksOf}
 use Rattle.fw_edge.specs.Turns.{Drove, Turns}
 use Rattle.fw_script.specs.ScheduleTexts.{AreSayable, PortionsAreTheWhole, SchedulesReadBack, idle_at, schedule_text, text_of_steps, ticks_text}
-use Rattle.fw_world.specs.Headline.{Run}
-use Rattle.fw_world.specs.Worlds.{WorldOf}
-use Rattle.fw_world.specs.declared.step.Step.{Step}
+use Rattle.fw_steps.specs.Headline.{Run}
+use Rattle.fw_steps.specs.Worlds.{WorldOf}
+use Rattle.fw_steps.specs.declared.step.Step.{Step}
 use Rattle.fwupd_watch.specs.Recordings.{Closes, Ends, IsNew, IsRecorded, Notes, NotesRun, RecordingOf, Writes, recording_of}
 use Rattle.fwupd_watch.specs.declared.running.WatchFault.{WatchFault}
 

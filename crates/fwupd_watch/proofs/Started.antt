@@ -10,13 +10,13 @@ use Rattle.fw_edge.proofs.Rising.{map_length}
 use Rattle.fw_edge.specs.Ledgers.{OneFailed, packet_counts}
 use Rattle.fw_edge.specs.Links.{Rises}
 use Rattle.fw_node.specs.Nodes.{DeviceNodeOf}
-use Rattle.fw_world.specs.Headline.{Leads, Run, may_step}
-use Rattle.fw_world.specs.Replays.{Refuses}
-use Rattle.fw_world.specs.Worlds.{SiteOf, WorldOf}
-use Rattle.fw_world.specs.declared.step.StepFault.{StepFault}
-use Rattle.fw_world.specs.declared.step.StepFault.TheVariants as refusals
-use Rattle.fw_world.specs.declared.step.Step.{Step}
-use Rattle.fw_world.specs.declared.step.Step.TheVariants as steps
+use Rattle.fw_steps.specs.Headline.{Leads, Run, may_step}
+use Rattle.fw_steps.specs.Replays.{Refuses}
+use Rattle.fw_steps.specs.Worlds.{SiteOf, WorldOf}
+use Rattle.fw_steps.specs.declared.step.StepFault.{StepFault}
+use Rattle.fw_steps.specs.declared.step.StepFault.TheVariants as refusals
+use Rattle.fw_steps.specs.declared.step.Step.{Step}
+use Rattle.fw_steps.specs.declared.step.Step.TheVariants as steps
 use Rattle.fw_edge.specs.declared.driving.EdgeFault.{EdgeFault}
 use Rattle.fw_edge.specs.declared.driving.EdgeFault.TheVariants as edges
 use Rattle.fwupd_watch.specs.Running.{AreToldOf, IsCaused, IsRefusedStart, IsUnwritten, MayEnd, MayStart, StepsLead, StepsSeen, Updates, WatchOf, starts_of, told_by, told_of, watch_of}

@@ -9,7 +9,7 @@ use Rattle.exch_lane.specs.Lanes.{Sent}
 use Rattle.fw_edge.specs.Ledgers.{packet_counts}
 use Rattle.fw_node.specs.Nodes.{DeviceNodeOf}
 use Rattle.fw_trace.specs.Lines.{ReaderOf, new_reader}
-use Rattle.fw_world.specs.Worlds.{SiteOf, WorldOf}
+use Rattle.fw_steps.specs.Worlds.{SiteOf, WorldOf}
 use Rattle.fwupd_watch.proofs.Started.{take_next}
 use Rattle.fwupd_watch.specs.Traces.{packet_text, pair_text, pairs_text, reader_for, reader_next, reader_of_pair, reader_past, trace_text, written_at}
 use Rattle.fwupd_words.specs.declared.asked.TraceForm.{TraceForm}

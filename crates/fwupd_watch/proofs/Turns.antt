@@ -11,7 +11,7 @@ use Rattle.std.proofs.lemmas.Option.{slice_get_within}
 use Rattle.exch_lane.specs.Lanes.{Sent}
 use Rattle.fw_edge.specs.Ledgers.{packet_counts}
 use Rattle.fw_trace.specs.Lines.{ReaderOf, lines_of, new_reader, packet_line, reader_after}
-use Rattle.fw_world.specs.Worlds.{SiteOf, WorldOf}
+use Rattle.fw_steps.specs.Worlds.{SiteOf, WorldOf}
 use Rattle.fwupd_watch.specs.Traces.{AreReaders, AreReadersOf, GoesOn, GoesOnFrom, GoOn, HasRead, HasTraced, PairGoesOn, ReadOn, TextsAreLines, counts_of, news_text, pair_news, pair_text, packet_text, pairs_text, read_as, reader_behind, reader_for, reader_next, reader_of_pair, reader_past, readers_for, trace_of, trace_text, written_at}
 use Rattle.fwupd_words.specs.declared.asked.TraceForm.{TraceForm}
 use Rattle.fwupd_words.specs.declared.asked.TraceForm.TheVariants as forms

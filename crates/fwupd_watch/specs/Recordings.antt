@@ -5,10 +5,10 @@ use Rattle.std.specs.List.{AllByRecursion}
 use Rattle.fw_edge.specs.Drives.{is_driven}
 use Rattle.fw_script.specs.ScheduleTexts.{AreSayable, IsSayable, idle_at, schedule_text, text_of_steps, ticks_text}
 use Rattle.fw_script.specs.Schedules.{script_of}
-use Rattle.fw_world.specs.Headline.{Run}
-use Rattle.fw_world.specs.Worlds.{WorldOf}
-use Rattle.fw_world.specs.declared.step.Step.{Step}
-use Rattle.fw_world.specs.declared.step.Step.TheVariants as steps
+use Rattle.fw_steps.specs.Headline.{Run}
+use Rattle.fw_steps.specs.Worlds.{WorldOf}
+use Rattle.fw_steps.specs.declared.step.Step.{Step}
+use Rattle.fw_steps.specs.declared.step.Step.TheVariants as steps
 
 -- What stood where steps are written when their recording began, and what stands there now, where that is known; and how many idle
 -- ticks are held back.

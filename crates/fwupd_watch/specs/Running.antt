@@ -5,12 +5,12 @@ use Rattle.fw_edge.specs.Ledgers.{OneFailed}
 use Rattle.fw_edge.specs.declared.driving.EdgeFault.{EdgeFault}
 use Rattle.fw_edge.specs.declared.driving.EdgeFault.TheVariants as edges
 use Rattle.fwupd_base.specs.declared.forms.Form.{Form}
-use Rattle.fw_world.specs.Headline.{Run, may_step}
-use Rattle.fw_world.specs.Worlds.{SiteOf, WorldOf}
-use Rattle.fw_world.specs.declared.step.StepFault.{StepFault}
-use Rattle.fw_world.specs.declared.step.StepFault.TheVariants as stops
-use Rattle.fw_world.specs.declared.step.Step.{Step}
-use Rattle.fw_world.specs.declared.step.Step.TheVariants as steps
+use Rattle.fw_steps.specs.Headline.{Run, may_step}
+use Rattle.fw_steps.specs.Worlds.{SiteOf, WorldOf}
+use Rattle.fw_steps.specs.declared.step.StepFault.{StepFault}
+use Rattle.fw_steps.specs.declared.step.StepFault.TheVariants as stops
+use Rattle.fw_steps.specs.declared.step.Step.{Step}
+use Rattle.fw_steps.specs.declared.step.Step.TheVariants as steps
 use Rattle.fwupd_watch.specs.Histories.{HistoryOf}
 use Rattle.fwupd_watch.specs.Recordings.{RecordingOf}
 use Rattle.fwupd_words.specs.declared.asked.Show.{Show}

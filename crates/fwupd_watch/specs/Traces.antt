@@ -6,7 +6,7 @@ use Rattle.fw_edge.specs.Ledgers.{packet_counts}
 use Rattle.fw_text.specs.Printing.{numbered}
 use Rattle.fw_trace.specs.Captures.{CapturedOf, capture_header, capture_record}
 use Rattle.fw_trace.specs.Lines.{ReaderOf, SentOf, lines_of, new_reader, packet_line, reader_after}
-use Rattle.fw_world.specs.Worlds.{SiteOf, WorldOf}
+use Rattle.fw_steps.specs.Worlds.{SiteOf, WorldOf}
 use Rattle.fwupd_words.specs.declared.asked.TraceForm.{TraceForm}
 use Rattle.fwupd_words.specs.declared.asked.TraceForm.TheVariants as forms
 use Rattle.hex.specs.Hex.{encode_upper}

@@ -3,7 +3,7 @@
 ghost use Rattle.std.specs.Prelude.{[], ◌≡◌, ◌≢◌, ◌-◌, ◌^◌, ◌⊎◌, Bool, Err, IfErr, IfSome, List, None, OnOk, Some, length, map, true, ℕ};
 ghost use Rattle.fw_edge.specs.Ledgers.{AllSent, packet_counts};
 ghost use Rattle.fw_edge.specs.Links.{Rises};
-ghost use Rattle.fw_world.specs.Headline.{Run};
+ghost use Rattle.fw_steps.specs.Headline.{Run};
 ghost use Rattle.fwupd_watch.specs.Histories.{AreKeptUp, AreKeptUpStill, IsFresh, KeepsUp, KeepsUpStill};
 ghost use Rattle.fwupd_watch.specs.Recordings.{Closes, IsNew, IsRecorded, Notes, NotesRun};
 ghost use Rattle.fwupd_watch.specs.Running.{AreToldOf, IsCaused, IsRefusedStart, IsUnwritten, IsUpdated, MayEnd, MayRefuse, MayStart, Starts, StepsLead, StepsSeen, Updates, show_of, shown_of, starts_of, told_by, told_of, watch_of};

@@ -5,8 +5,8 @@ ghost use Rattle.std.specs.Io.Buffered.{writer_buffer, writer_contents};
 ghost use Rattle.std.specs.Io.KnownBytes.{Appends, Keeps};
 ghost use Rattle.fw_edge.specs.Ledgers.{packet_counts};
 ghost use Rattle.fw_text.specs.Printing.{Adds};
-ghost use Rattle.fw_world.specs.Packets.{sent_of};
-ghost use Rattle.fw_world.specs.Worlds.{WorldOf};
+ghost use Rattle.fw_steps.specs.Packets.{sent_of};
+ghost use Rattle.fw_steps.specs.Worlds.{WorldOf};
 ghost use Rattle.fwupd_watch.specs.Traces.{GoesOnFrom, HasRead, HasTraced, ReadOn, head_of, is_to_agent, packet_text, pair_text, pairs_text, reader_next, reader_of_pair, reader_past, readers_for, trace_line, trace_text, way_of, written_at as written_of};
 
 use crate::running::WatchFault;

@@ -1,7 +1,7 @@
 use Rattle.std.proofs.Common.{◌+◌, inl, inr, map}
 use Rattle.fw_edge.specs.Links.{links_at}
 use Rattle.fw_edge.specs.Turns.{ExchangeStops, RoundStops}
-use Rattle.fw_world.specs.Worlds.{eids_of}
+use Rattle.fw_steps.specs.Worlds.{eids_of}
 use Rattle.fw_edge.proofs.Parts.{exchanged_wrote, stopped_later, stopped_refused}
 use Rattle.fw_edge.proofs.rounds.exchange.Goals as goal
 

@@ -1,5 +1,5 @@
 use Rattle.std.proofs.Common.{◌+◌, [], arith, map, refl}
-use Rattle.fw_world.specs.Worlds.{eids_of}
+use Rattle.fw_steps.specs.Worlds.{eids_of}
 use Rattle.fw_edge.specs.Links.{links_at}
 use Rattle.fw_edge.proofs.Failing.{behind_next, same_from, stops_put}
 use Rattle.fw_edge.proofs.Going.{goes_none, goes_off, goes_sum}

@@ -2,7 +2,7 @@ use Rattle.std.proofs.Common.{[], ◌≡◌, ◌≤◌, ◌+◌, ◌*◌, drop, 
 use Rattle.fw_edge.specs.Drives.{DrivesCounted}
 use Rattle.fw_edge.specs.Ledgers.{RoseTogether}
 use Rattle.fw_edge.proofs.Rising.{RoseBefore}
-use Rattle.fw_world.specs.Worlds.{eids_of}
+use Rattle.fw_steps.specs.Worlds.{eids_of}
 use Rattle.fw_edge.specs.Links.{links_at}
 use Rattle.fw_edge.specs.Turns.{Came}
 use Rattle.fw_edge.proofs.rounds.read_round.Given as goal

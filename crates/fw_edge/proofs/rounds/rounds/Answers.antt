@@ -1,7 +1,7 @@
 use Rattle.std.proofs.Common.{◌+◌, ◌*◌, arith, inl, inr, map, refl}
 use Rattle.fw_edge.proofs.Going.{goes_none, goes_sum}
 use Rattle.fw_edge.proofs.Parts.{exchanged_less, exchanged_none, exchanged_on, stopped_later}
-use Rattle.fw_world.specs.Worlds.{eids_of}
+use Rattle.fw_steps.specs.Worlds.{eids_of}
 use Rattle.fw_edge.specs.Links.{links_at}
 use Rattle.fw_edge.specs.Turns.{RoundStops, RoundsStop}
 use Rattle.fw_edge.proofs.Stopping.{same_stops}

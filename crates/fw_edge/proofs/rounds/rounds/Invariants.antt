@@ -1,7 +1,7 @@
 use Rattle.std.proofs.Common.{◌<◌, ◌+◌, ◌*◌, map}
 use Rattle.fw_edge.specs.Drives.{DrivesCounted}
 use Rattle.fw_edge.specs.Ledgers.{NoneFell, packet_counts}
-use Rattle.fw_world.specs.Worlds.{eids_of}
+use Rattle.fw_steps.specs.Worlds.{eids_of}
 use Rattle.fw_edge.specs.Links.{links_at}
 use Rattle.fw_edge.specs.Outcomes.{LinksExchanged}
 use Rattle.fw_edge.specs.Turns.{RoundsOn}

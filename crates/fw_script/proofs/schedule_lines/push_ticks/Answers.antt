@@ -1,7 +1,7 @@
 use Rattle.std.proofs.Common.{◌≡◌, append_assoc, ap, refl}
-use Rattle.fw_world.specs.declared.step.Step.{Step}
-use Rattle.fw_world.specs.declared.step.Step.TheVariants as steps
-use Rattle.fw_world.specs.Worlds.{full_tick}
+use Rattle.fw_steps.specs.declared.step.Step.{Step}
+use Rattle.fw_steps.specs.declared.step.Step.TheVariants as steps
+use Rattle.fw_steps.specs.Worlds.{full_tick}
 use Rattle.fw_script.proofs.Steps.{repeat_more}
 use Rattle.fw_script.proofs.schedule_lines.push_ticks.Goals as goal
 

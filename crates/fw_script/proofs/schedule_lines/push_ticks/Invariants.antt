@@ -1,6 +1,6 @@
 use Rattle.std.proofs.Common.{◌≡◌, ◌++◌, ◌∷◌, []}
 use Rattle.std.specs.List.{repeat}
-use Rattle.fw_world.specs.Worlds.{full_tick}
+use Rattle.fw_steps.specs.Worlds.{full_tick}
 use Rattle.fw_script.proofs.schedule_lines.push_ticks.Given as goal
 
 -- so many ticks are appended

@@ -1,5 +1,5 @@
-use Rattle.fw_world.specs.Headline.{Run}
-use Rattle.fw_world.proofs.Running.{all_taken}
+use Rattle.fw_steps.specs.Headline.{Run}
+use Rattle.fw_world.proofs.Taken.{all_taken}
 use Rattle.fw_world.proofs.isolation.replay_two.Goals as goal
 
 pub returns-clause-isolated : goal.returns-clause-isolated

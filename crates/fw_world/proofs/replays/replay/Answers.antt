@@ -1,5 +1,5 @@
 use Rattle.std.proofs.Common.{◌++◌}
-use Rattle.fw_world.proofs.Running.{run_append}
+use Rattle.fw_steps.proofs.Running.{run_append}
 use Rattle.fw_world.proofs.Timely.{keeps_until, keeps_when}
 use Rattle.fw_world.proofs.replays.replay.Goals as goal
 

@@ -1,6 +1,6 @@
 use Rattle.std.proofs.Common.{subst, take}
-use Rattle.fw_world.specs.Headline.{Leads}
-use Rattle.fw_world.proofs.Running.{run_next}
+use Rattle.fw_steps.specs.Headline.{Leads}
+use Rattle.fw_world.proofs.Taken.{run_next}
 use Rattle.fw_world.proofs.replays.take_all.Goals as goal
 
 pub loop-i-preserved : goal.loop-i-preserved

@@ -1,7 +1,7 @@
 use Rattle.std.proofs.Common.{◌≡◌, ◌∙◌, ◌∷◌, add-one, arith, drop, subst}
 use Rattle.fw_script.specs.ScheduleLines.{all_steps, step_said}
-use Rattle.fw_world.specs.Headline.{Leads, Run}
-use Rattle.fw_world.specs.Replays.{Refuses}
+use Rattle.fw_steps.specs.Headline.{Leads, Run}
+use Rattle.fw_steps.specs.Replays.{Refuses}
 use Rattle.fwupd_jobs.proofs.Seen.{next_step, none_left, rises_to, stepped_on, stopped_at}
 use Rattle.fwupd_jobs.proofs.replaying.replay_lines.Goals as goal
 

@@ -1,6 +1,6 @@
 use Rattle.std.proofs.Common.{◌≡◌, ◌≤◌, drop, length, take, true}
 use Rattle.fw_script.specs.ScheduleLines.{all_steps}
-use Rattle.fw_world.specs.Headline.{Run}
+use Rattle.fw_steps.specs.Headline.{Run}
 use Rattle.fwupd_jobs.proofs.replaying.replay_lines.Given as goal
 
 -- so many steps are taken, and seen where that is asked; the others are left

@@ -1,7 +1,7 @@
 use Rattle.std.proofs.Common.{◌≡◌, ◌∙◌, map, subst, sym}
 use Rattle.fw_script.specs.ScheduleLines.{all_steps}
 use Rattle.fw_script.specs.Seen.{device_of}
-use Rattle.fw_world.specs.Headline.{new_world}
+use Rattle.fw_steps.specs.Headline.{new_world}
 use Rattle.fw_setup.specs.Nodes.{nodes_made}
 use Rattle.fwupd_jobs.specs.Replayed.{Leaves, taken_of}
 use Rattle.fwupd_jobs.proofs.Told.{replayed_by}

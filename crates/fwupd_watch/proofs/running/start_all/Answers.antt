@@ -1,8 +1,8 @@
 use Rattle.std.proofs.Common.{◌≡◌, arith, inr, rules, subst, sym}
-use Rattle.fw_world.specs.Headline.{Run}
-use Rattle.fw_world.specs.Replays.{Refuses}
-use Rattle.fw_world.specs.declared.step.Step.TheVariants as steps
-use Rattle.fw_world.specs.declared.step.StepFault.TheVariants as stops
+use Rattle.fw_steps.specs.Headline.{Run}
+use Rattle.fw_steps.specs.Replays.{Refuses}
+use Rattle.fw_steps.specs.declared.step.Step.TheVariants as steps
+use Rattle.fw_steps.specs.declared.step.StepFault.TheVariants as stops
 use Rattle.fwupd_watch.specs.Running.{MayStart, StepsSeen}
 use Rattle.fwupd_watch.proofs.Started.{allowed_at, begun_by, begun_listed, begun_none, begun_seen, listed_by}
 use Rattle.fwupd_watch.proofs.running.start_all.Goals as goal

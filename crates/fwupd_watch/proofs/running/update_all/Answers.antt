@@ -1,7 +1,7 @@
 use Rattle.std.proofs.Common.{◌∙◌, ◌+◌, arith, ap, inl, length, map, refl, subst, sym}
 use Rattle.fwupd_watch.specs.Running.{StepsSeen, Updates, starts_of}
 use Rattle.fw_edge.specs.Ledgers.{AllSent, packet_counts}
-use Rattle.fw_world.specs.Moments.{added}
+use Rattle.fw_steps.specs.Moments.{added}
 use Rattle.fw_edge.proofs.Sending.{sent_none, sent_on}
 use Rattle.fwupd_watch.proofs.Happened.{kept_on, kept_on_still, kept_same, kept_still}
 use Rattle.fwupd_watch.proofs.Noted.{none_driven, run_begun, run_broken, run_noted, run_still}

@@ -1,5 +1,5 @@
 use Rattle.std.proofs.Common.{sym, ◌+◌}
-use Rattle.fw_world.specs.Packets.{sent_of}
+use Rattle.fw_steps.specs.Packets.{sent_of}
 use Rattle.fwupd_watch.specs.Traces.{reader_past, trace_text}
 use Rattle.fwupd_watch.proofs.Traced.{lines_more, past_more}
 use Rattle.fwupd_watch.proofs.tracing.lines.Goals as goal

@@ -1,0 +1,36 @@
+-- The nodes of a world as it begins.
+use Rattle.std.proofs.Common.{◌≡◌, ◌∙◌, ℕ, List, [], ◌∷◌, ap, length, map, refl, subst, sym}
+use Rattle.std.specs.List.{AllByRecursion}
+use Rattle.std.proofs.lemmas.List.{length-map}
+use Rattle.std.proofs.lemmas.List.Elements.{All-from_recursion}
+use Rattle.mctp_wire.specs.declared.unit.Unit.{«Unit»}
+use Rattle.mctp_ctl.specs.declared.answers.Endpoint.{Endpoint}
+use Rattle.exch_lane.specs.Lanes.{IsEid}
+use Rattle.fd_core.specs.States.{DeviceOf, Phase}
+use Rattle.fw_message.specs.Laws.{IsUnapplied}
+use Rattle.fd_core.specs.Components.{HasComponents}
+use Rattle.fw_node.specs.Nodes.{DeviceNodeOf, new_device_node}
+use Rattle.fw_package.specs.Package.{PackageText}
+use Rattle.fw_steps.specs.Headline.{AreNewNodes, IsNewNode, IsOpeningWorld, new_site, new_world}
+use Rattle.fw_steps.specs.Sites.{RoomyOf, sites_of}
+use Rattle.fw_steps.specs.Worlds.{WorldOf}
+
+new_components : (u : «Unit») (agent : ℕ) (n : DeviceNodeOf) → IsNewNode u agent n → HasComponents n.half.core.device
+new_components u agent n k = subst (λ (m : DeviceNodeOf). HasComponents m.half.core.device) (sym k.is) k.components
+
+pub have_components : (u : «Unit») (agent : ℕ) (ns : List DeviceNodeOf) → AllByRecursion (IsNewNode u agent) ns → AllByRecursion (λ n. HasComponents n.half.core.device) ns
+have_components u agent [] h = tt
+have_components u agent (n ∷ ns) h = (new_components u agent n h.0, have_components u agent ns h.1)
+
+pub new_node : (u : «Unit») (endpoint : Endpoint) (agent : ℕ) (d : DeviceOf) → d.device.unit ≡ u → HasComponents d.device → d.device.phase ≡ Phase.Idle → AllByRecursion IsUnapplied d.device.rows → IsEid endpoint.eid
+    → IsNewNode u agent (new_device_node endpoint agent d)
+new_node u endpoint agent d unit components idle unapplied eid =
+    record { device = d; is = refl; unit = unit; idle = idle; unapplied = All-from_recursion IsUnapplied d.device.rows unapplied; components = components; eid = eid }
+
+-- there are as many of them as there are nodes
+pub as_many : (ss : List RoomyOf) (nodes : List DeviceNodeOf) → sites_of ss ≡ map new_site nodes → length ss ≡ length nodes
+as_many ss nodes is = sym (length-map ss (λ s. s.site)) ∙ ap length is ∙ length-map nodes new_site
+
+-- a world of new nodes is one as it begins
+pub opens_so : (w : WorldOf) (agent : Endpoint) (nodes : List DeviceNodeOf) (packages : List PackageText) → AreNewNodes agent.eid nodes → w ≡ new_world agent nodes packages → IsOpeningWorld w
+opens_so w agent nodes packages are is = record { agent = agent; nodes = nodes; are = are; is = is ∙ ap (λ (v : WorldOf). new_world agent nodes v.packages) (sym is) }

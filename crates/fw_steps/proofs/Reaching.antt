@@ -1,0 +1,42 @@
+-- Worlds that steps led to: where a step leads from there, and what is promised of them.
+use Rattle.std.proofs.Common.{◌≡◌, ◌++◌, ◌∙◌, List, [], ◌∷◌, map, refl, sym, ap, subst}
+use Rattle.std.specs.Prelude.{Result, Ok, Err, OnOk, OnErr}
+use Rattle.fw_node.specs.Nodes.{DeviceNodeOf}
+use Rattle.fw_steps.specs.Headline.{AreDifferent, IsOpeningWorld, IsPromised, IsReached, Leads, PacketsAreMessages, PacketsAreSafe, Run, RunsStayTied, new_site}
+use Rattle.fw_steps.specs.Worlds.{WorldOf, eids_of}
+use Rattle.fw_steps.specs.declared.step.Step.{Step}
+use Rattle.fw_steps.specs.declared.step.StepFault.{StepFault}
+use Rattle.fw_steps.proofs.LinksAreLanes.Keys.{eids_stay}
+use Rattle.fw_steps.proofs.Running.{run_append}
+
+pub reached_more : (w v : WorldOf) (s : Step) → IsReached w → Leads w s v → IsReached v
+reached_more w v s r l =
+    record { opening = r.opening; before = r.before ++ s ∷ []; opens = r.opens; run = run_append r.opening w v r.before (s ∷ []) r.run (v, l, refl) }
+
+pub reached_on : {A : Type 0} (r : Result A StepFault) (w v : WorldOf) (s : Step) → IsReached w → OnOk r (Leads w s v) → OnErr r (v ≡ w) → IsReached v
+reached_on (Ok x) w v s h taken same = reached_more w v s h taken
+reached_on (Err e) w v s h taken same = subst IsReached (sym same) h
+
+-- the devices stay
+pub run_eids : (w v : WorldOf) (ss : List Step) → Run w ss v → eids_of v.sites ≡ eids_of w.sites
+run_eids w v [] e = ap (λ x. eids_of x.sites) e
+run_eids w v (s ∷ ss) h =
+    let l : Leads w s h.0 = h.1 in
+    run_eids h.0 v ss h.2 ∙ ap (λ x. eids_of x.sites) l.after ∙ eids_stay l.works l.faults w s
+
+new_eids : (nodes : List DeviceNodeOf) → eids_of (map new_site nodes) ≡ map (λ n. n.endpoint.eid) nodes
+new_eids [] = refl
+new_eids (n ∷ nodes) = ap (λ es. n.endpoint.eid ∷ es) (new_eids nodes)
+
+opening_apart : (w : WorldOf) → IsOpeningWorld w → AreDifferent (eids_of w.sites)
+opening_apart w o = subst AreDifferent (sym (ap (λ x. eids_of x.sites) o.is ∙ new_eids o.nodes)) o.are.apart.1
+
+pub promised : (w : WorldOf) → PacketsAreSafe → RunsStayTied → PacketsAreMessages → IsReached w → IsPromised w
+promised w safe tied messages r = record {
+  reached = r;
+  devices = run_eids r.opening w r.before r.run;
+  apart = subst AreDifferent (sym (run_eids r.opening w r.before r.run)) (opening_apart r.opening r.opens);
+  safe = safe r.opening w r.before r.opens r.run;
+  tied = tied r.opening r.opening w [] r.before r.opens refl r.run;
+  messages = messages r.opening w r.before r.opens r.run;
+}

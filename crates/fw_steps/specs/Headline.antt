@@ -1,0 +1,295 @@
+-- The headline on one page: what a world of packets is as it is made, which steps it may take and what they make of it, what a
+-- run is, and what is promised of every world that a run leads to. The sentence is `PacketsAreSafe`. It has two premises: the
+-- first world is as `World::new` makes it (`IsOpeningWorld`), and steps lead on from it (`Run`). Whoever holds a `World` holds one
+-- that meets both, by its type; so `IsPromised`, at the end, is said of it without a premise.
+--
+-- This page can be read alone. The words that it takes from elsewhere, in reading order:
+-- 1. `src/step.rt`: `Step`, the steps that there are; `StepFault` and `Refusal`, why one isn't taken.
+-- 2. `fw_package`, `Package`: `PackageText`, an update package as its records, components and images.
+-- 3. `fw_message`, `History`: `EntryOf`, what happens to a device: it applies an image, the agent records a component as
+--    applied, or the device activates an image; `IsSafe` and `IsTied`, what is promised of a list of these. The heart of the
+--    matter.
+-- 4. `fw_message`, `Laws`: `IsSafeAndTied`, both; and `IsUnapplied`, a component without an applied image. `Pairs`: `PairOf`,
+--    a device and the agent's session for it, and `PairRun`, the same with what happened. `WorldLaws`: `history_of`, what
+--    happened to one device, in order.
+-- 5. `mctp_wire`, `Units`: `Unit`, how much a packet carries, which all nodes share. `exch_lane`, `Lanes`: `Sent`, a packet as it was sent, with its date; `lives_until`, 8 units later; `numbered`, what a
+--    list has at a number from 1 on; `IsEid`, 8 to 254. `Clocks`: `may_beat`, a node misses a tick only after eight that it
+--    counted.
+-- 6. `fd_core`, `States`: `DeviceOf`, a device, and `Phase`, where it is in an update. `Components`: `HasComponents`, its bank
+--    has its components. `Banks`: `Rose`, a bank's count of failures rose, or stands at its last value. `Steps`:
+--    `device_verdict`, what a `Verdict` on an image makes of a device that waits for it.
+-- 7. `fw_node`, `Nodes`: `DeviceNodeOf`, a device's node, and `new_device_node`, one as it is made, with the `Endpoint` that
+--    it has. `Agents`: `new_agent`, the agent's node as it is made; `half_for`, what it has for a device; `free_for` and
+--    `ready_for`, whether its session (`SessionOf`) is free, or ready to have the device activate; `starts` and `cancels`, the
+--    operator's calls.
+-- 8. `Worlds`: `WorldOf`, a world; `SiteOf`, a device's node with its packets; `place_of`, `site_for`, `packets_of`, `eids_of`
+--    and `pair_for`, what a world has of a device; `counts`, whether a node counts a tick. And what each kind of step makes of
+--    a world: `delivers`, `ticks`, `calls`, `activates_on`, `judges`, `restarts`, `asks_log`.
+-- 9. `Moments`: `IsGrown` and `IsTiedBetween`, what two moments have to do with each other.
+-- 10. `Messages`: `IsRunOfMessages`, the same devices, sessions and history without packets, tags and time.
+-- 11. `Sayable`: `CanBeSaidBy`, what is known of codecs in a step that was taken; see `Leads`.
+use Rattle.std.specs.Prelude.{ℕ, ◌≡◌, ◌≢◌, ◌≤◌, ◌-◌, ◌^◌, ◌==◌, ◌&&◌, ◌||◌, ◌∷◌, ◌++◌, [], Bool, true, false, if◌then◌else◌, nat_lt, nat_le, IfSome, IsSomeAnd, is_some, List, length, map, Option, Some, None}
+use Rattle.std.specs.List.{All, AllByRecursion, list_all}
+use Rattle.mctp_ctl.specs.declared.answers.Endpoint.{Endpoint}
+use Rattle.exch_lane.specs.Clocks.{may_beat}
+use Rattle.exch_lane.specs.Lanes.{IsEid, Sent, lives_until, numbered}
+use Rattle.fw_package.specs.Package.{PackageText}
+use Rattle.fd_core.specs.Banks.{Rose}
+use Rattle.fd_core.specs.Components.{HasComponents}
+use Rattle.fd_core.specs.States.{DeviceOf, Phase}
+use Rattle.fd_core.specs.Steps.{device_verdict}
+use Rattle.fd_core.specs.declared.states.Verdict.{Verdict}
+use Rattle.ua_core.specs.Session.{SessionOf}
+use Rattle.fw_message.specs.History.{EntryOf}
+use Rattle.fw_message.specs.Laws.{IsSafeAndTied, IsUnapplied}
+use Rattle.fw_message.specs.Pairs.{PairOf, PairRun}
+use Rattle.fw_message.specs.WorldLaws.{history_of}
+use Rattle.fw_node.specs.Agents.{cancels, free_for, half_for, new_agent, ready_for, starts}
+use Rattle.fw_node.specs.Nodes.{DeviceNodeOf, new_device_node}
+use Rattle.fw_steps.specs.Messages.{IsRunOfMessages}
+use Rattle.fw_steps.specs.Moments.{IsGrown, IsTiedBetween}
+use Rattle.fw_steps.specs.Sayable.{CanBeSaidBy}
+use Rattle.fw_steps.specs.Worlds.{SiteOf, WorldOf, activates_on, asks_log, calls, counts, delivers, eids_of, judges, packets_of, pair_for, place_of, restarts, site_for, ticks}
+use Rattle.fw_steps.specs.declared.step.Refusal.TheVariants as refusals
+use Rattle.fw_steps.specs.declared.step.Step.{Step}
+use Rattle.fw_steps.specs.declared.step.Step.TheVariants as steps
+use Rattle.fw_steps.specs.declared.step.StepFault.{StepFault}
+use Rattle.mctp_wire.specs.declared.unit.Unit.{«Unit»}
+use Rattle.mctp_wire.specs.declared.unit.Unit.TheVariants.{U64}
+use Rattle.fw_steps.specs.declared.step.StepFault.TheVariants as faults
+
+-- THE WORLD AS IT IS MADE
+
+-- A device's node as it is made: of the network's transmission unit, idle, with its bank's components, and nothing applied.
+pub record IsNewNode (u : «Unit») (agent : ℕ) (n : DeviceNodeOf) : Type 0 where
+  pub device : DeviceOf
+  pub is : n ≡ new_device_node n.endpoint agent device
+  pub unit : device.device.unit ≡ u
+  pub idle : device.device.phase ≡ Phase.Idle
+  pub unapplied : All IsUnapplied device.device.rows
+  pub components : HasComponents device.device
+  pub eid : IsEid n.endpoint.eid
+
+-- no identifier stands twice
+abbrev pub AreDifferent : List ℕ → Type 0
+AreDifferent [] = Prim.Unit {0}
+AreDifferent (x ∷ xs) = All (λ y. x ≢ y) xs × AreDifferent xs
+
+-- the network's transmission unit: that of the first device's node
+abbrev pub unit_of : List DeviceNodeOf → «Unit»
+unit_of [] = U64
+unit_of (n ∷ ns) = n.half.unit
+
+-- the nodes of 1 to 16 devices, as they are made, all of one transmission unit, with endpoint identifiers of their own
+pub record AreNewNodes (agent : ℕ) (nodes : List DeviceNodeOf) : Type 0 where
+  pub some : 1 ≤ length nodes
+  pub few : length nodes ≤ 16
+  pub agent_eid : IsEid agent
+  pub new : AllByRecursion (IsNewNode (unit_of nodes) agent) nodes
+  pub apart : AreDifferent (agent ∷ map (λ n. n.endpoint.eid) nodes)
+
+-- a device's node to which nothing was sent
+abbrev pub new_site : DeviceNodeOf → SiteOf
+new_site n = record { node = n; since_miss = 8; packets = [] }
+
+-- the world of these nodes before its first step
+abbrev pub new_world : Endpoint → List DeviceNodeOf → List PackageText → WorldOf
+new_world agent nodes packages =
+    record {
+      packages = packages;
+      now = 0;
+      agent = new_agent (unit_of nodes) agent (map (λ n. n.endpoint.eid) nodes);
+      since_miss = 8;
+      sites = map new_site nodes;
+      answer = None;
+      history = [];
+    }
+
+-- how a world begins
+pub record IsOpeningWorld (w : WorldOf) : Type 0 where
+  pub agent : Endpoint
+  pub nodes : List DeviceNodeOf
+  pub are : AreNewNodes agent.eid nodes
+  pub is : w ≡ new_world agent nodes w.packages
+
+-- WHICH STEPS MAY BE TAKEN
+
+-- the world has this device, or this node
+abbrev pub is_device : WorldOf → ℕ → Bool
+is_device w eid = is_some (site_for w.sites eid)
+
+abbrev pub is_node : WorldOf → ℕ → Bool
+is_node w eid = (eid == w.agent.endpoint.eid) || is_device w eid
+
+-- the agent has a session with it
+abbrev pub has_session : WorldOf → ℕ → Bool
+has_session w eid = is_some (half_for w.agent eid)
+
+-- where there is such a node: why else the step isn't taken
+abbrev pub where_known : Bool → Option StepFault → Option StepFault
+where_known true fault = fault
+where_known false fault = Some faults.NoSuchNode
+
+-- a packet may come as long as it lives
+abbrev pub packet_fault : ℕ → Option Sent → Option StepFault
+packet_fault now None = Some faults.NoSuchPacket
+packet_fault now (Some p) = if nat_lt (lives_until p) now then Some faults.Dead else None
+
+-- the number of a package, from 1 on
+abbrev pub is_package : List PackageText → ℕ → Bool
+is_package packages number = nat_lt 0 number && nat_le number (length packages)
+
+-- for a session that is free, or that isn't, or that isn't there
+abbrev pub start_fault : (has_package : Bool) → Option Bool → Option StepFault
+start_fault has_package None = Some faults.NoSuchNode
+start_fault false (Some free) = Some (faults.Refused refusals.NoSuchPackage)
+start_fault true (Some false) = Some (faults.Refused refusals.Busy)
+start_fault true (Some true) = None
+
+abbrev pub ready_fault : Option SessionOf → Option StepFault
+ready_fault None = Some (faults.Refused refusals.NotReady)
+ready_fault (Some s) = None
+
+abbrev pub verdict_fault : Verdict → Option SiteOf → Option StepFault
+verdict_fault verdict None = Some faults.NoSuchNode
+verdict_fault verdict (Some x) =
+    if is_some (device_verdict x.node.half.core.device verdict true) then None else Some (faults.Refused refusals.NotNow)
+
+-- A node misses a tick only where it has counted eight since the last that it missed.
+abbrev pub may_site_beat : (missed : List ℕ) → SiteOf → Bool
+may_site_beat missed x = may_beat (counts missed x.node.endpoint.eid) x.since_miss
+
+abbrev pub may_all_beat : (missed : List ℕ) → WorldOf → Bool
+may_all_beat missed w = may_beat (counts missed w.agent.endpoint.eid) w.since_miss && list_all (may_site_beat missed) w.sites
+
+-- where those that miss a tick are known, the clock isn't at its end, and each of them may miss it
+abbrev pub tick_fault : (known soon may : Bool) → Option StepFault
+tick_fault false soon may = Some faults.NoSuchNode
+tick_fault true false may = Some (faults.Refused refusals.ClockEnd)
+tick_fault true true false = Some (faults.Refused refusals.ClockSlow)
+tick_fault true true true = None
+
+-- Why a step may not be taken; None where it may.
+abbrev pub may_step : WorldOf → Step → Option StepFault
+may_step w (steps.Deliver device number node) =
+    where_known (is_device w device && is_node w node) (packet_fault w.now (numbered (packets_of w device) number))
+may_step w (steps.Tick missed) = tick_fault (list_all (is_node w) missed.items) (nat_lt w.now (2 ^ 32 - 1)) (may_all_beat missed.items w)
+may_step w (steps.Start device number) = start_fault (is_package w.packages number) (free_for w.agent device)
+may_step w (steps.Cancel device) = where_known (has_session w device) None
+may_step w (steps.Activate device) = where_known (has_session w device) (ready_fault (ready_for w.agent device))
+may_step w (steps.Verdict device verdict) = verdict_fault verdict (site_for w.sites device)
+may_step w (steps.Restart node) = where_known (is_node w node) None
+may_step w (steps.Sel bytes) = None
+
+-- WHAT A STEP MAKES OF A WORLD
+
+-- The world after a step. `works` says whether the one call of a bank that the step makes succeeds, and `faults` is that
+-- bank's count of failures then.
+abbrev pub world_after : (works : Bool) → (faults : ℕ) → WorldOf → Step → WorldOf
+world_after works faults w (steps.Deliver device number node) =
+    delivers works faults w node (numbered (packets_of w device) number)
+world_after works faults w (steps.Tick missed) = ticks missed.items w
+world_after works faults w (steps.Start device number) = calls w device (λ h. starts w.packages h number)
+world_after works faults w (steps.Cancel device) = calls w device (cancels w.packages)
+world_after works faults w (steps.Activate device) =
+    activates_on w device (ready_for w.agent device)
+world_after works faults w (steps.Verdict device verdict) =
+    judges works faults w verdict (place_of w.sites device) (site_for w.sites device)
+world_after works faults w (steps.Restart node) = restarts w node
+world_after works faults w (steps.Sel bytes) = asks_log w bytes.items
+
+-- the bank's count of failures of the device that a step is for
+abbrev pub faults_of : Option SiteOf → ℕ
+faults_of None = 0
+faults_of (Some x) = x.node.faults
+
+-- the node of a step
+abbrev pub node_of : Step → ℕ
+node_of (steps.Deliver device number node) = node
+node_of (steps.Tick missed) = 0
+node_of (steps.Start device number) = device
+node_of (steps.Cancel device) = device
+node_of (steps.Activate device) = device
+node_of (steps.Verdict device verdict) = device
+node_of (steps.Restart node) = node
+node_of (steps.Sel bytes) = 0
+
+abbrev pub faults_before : WorldOf → Step → ℕ
+faults_before w s = faults_of (site_for w.sites (node_of s))
+
+-- A RUN
+
+-- A step leads from one world to another: it may be taken, and a call of a bank fails only where that bank's count of failures
+-- tells so. `said` is a premise of codecs: laws over runs speak of runs in which the answers that nodes give can be read
+-- again, and what they wish can be written. It keeps out no run of the code: of each step that it takes `World::step` promises
+-- all of `Leads`, `said` included (`taken`), and so does `replay` of `fw_world` of all of its steps (`ok`, `stopped`).
+pub record Leads (w : WorldOf) (s : Step) (v : WorldOf) : Type 0 where
+  pub may : may_step w s ≡ None
+  pub works : Bool
+  pub faults : ℕ
+  pub after : v ≡ world_after works faults w s
+  pub worked : works ≡ true → faults ≡ faults_before w s
+  pub failed : works ≡ false → Rose (faults_before w s) faults
+  pub said : CanBeSaidBy works w s
+
+-- each step leads on from where the one before it led
+abbrev pub Run : WorldOf → List Step → WorldOf → Type 0
+Run w [] v = v ≡ w
+Run w (s ∷ ss) v = (mid : WorldOf) × Leads w s mid × Run mid ss v
+
+-- some steps lead there
+pub record IsLed (w v : WorldOf) : Type 0 where
+  pub steps : List Step
+  pub run : Run w steps v
+
+-- steps led here from a world as it is made
+pub record IsReached (w : WorldOf) : Type 0 where
+  pub opening : WorldOf
+  pub before : List Step
+  pub opens : IsOpeningWorld opening
+  pub run : Run opening before w
+
+-- THE SENTENCE
+
+-- with what happened to it
+abbrev pub pair_run : PairOf → List EntryOf → PairRun
+pair_run m es = record { pair = m; entries = es }
+
+-- Each device that was there is there, and its history is safe, and tied with the images that ran on it first.
+abbrev pub IsSafeWorld : WorldOf → WorldOf → Type 0
+IsSafeWorld opening w = (eid : ℕ) → IfSome (pair_for opening eid)
+    (λ m. IsSomeAnd (pair_for w eid) (λ n. IsSafeAndTied opening.packages (pair_run m []) (pair_run n (history_of eid w.history))))
+
+-- The headline: wherever steps lead a world that began as it is made, it is safe.
+abbrev pub PacketsAreSafe : Type 0
+PacketsAreSafe = (opening w : WorldOf) (steps : List Step) → IsOpeningWorld opening → Run opening steps w → IsSafeWorld opening w
+
+-- WHAT ELSE HOLDS OF RUNS
+
+-- Every run of packets is one of messages.
+abbrev pub PacketsAreMessages : Type 0
+PacketsAreMessages = (opening w : WorldOf) (steps : List Step) → IsOpeningWorld opening → Run opening steps w → IsRunOfMessages opening w
+
+-- A run followed by a run is a run.
+abbrev pub RunsJoin : Type 0
+RunsJoin = (w v u : WorldOf) (ss ts : List Step) → Run w ss v → Run v ts u → Run w (ss ++ ts) u
+
+-- The history only grows.
+abbrev pub RunsGrow : Type 0
+RunsGrow = (old new : WorldOf) (steps : List Step) → Run old steps new → IsGrown old new
+
+-- Any two moments of a run are tied.
+abbrev pub RunsStayTied : Type 0
+RunsStayTied = (opening old new : WorldOf) (before steps : List Step) → IsOpeningWorld opening
+    → Run opening before old → Run old steps new → IsTiedBetween old new
+
+-- What is promised of every `World`, at any moment. The devices are those that it was made with, in the same order, each with an
+-- identifier of its own; the history since its beginning is safe, what runs and what is recorded is tied with it, and it is a
+-- run of whole messages.
+pub record IsPromised (w : WorldOf) : Type 0 where
+  pub reached : IsReached w
+  pub devices : eids_of w.sites ≡ eids_of reached.opening.sites
+  pub apart : AreDifferent (eids_of w.sites)
+  pub safe : IsSafeWorld reached.opening w
+  pub tied : IsTiedBetween reached.opening w
+  pub messages : IsRunOfMessages reached.opening w

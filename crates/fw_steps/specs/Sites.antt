@@ -1,0 +1,102 @@
+-- A device's node in the world, as the code has it.
+use Rattle.mctp_wire.specs.declared.unit.Unit.TheVariants.{U64}
+use Rattle.std.specs.Prelude.{ℕ, ◌≡◌, ◌≤◌, ◌<◌, ◌⊎◌, ◌++◌, [], ◌∷◌, Bool, false, true, IfSome, is_some, List, length, map, slice_get, slice_set, Option, Some, None}
+use Rattle.fd_core.specs.Banks.{Rose}
+use Rattle.fd_core.specs.States.{DeviceState, Phase}
+use Rattle.fd_core.specs.Images.{Put, RowOf, applied_of, puts, row_of}
+use Rattle.fwup_wire.specs.declared.values.Key.{Key}
+use Rattle.fd_core.specs.Steps.{applied_by, device_verdict}
+use Rattle.fd_core.specs.declared.states.Verdict.{Verdict}
+use Rattle.fw_message.specs.History.{EntryOf}
+use Rattle.fw_message.specs.Worlds.{NotedOf, noted_of}
+use Rattle.fw_node.specs.Nodes.{IsTold, device_hears, device_judges}
+use Rattle.fw_node.specs.Cores.{device_core}
+use Rattle.fw_node.specs.Halves.{half_hears}
+use Rattle.fw_node.specs.Packets.{all_packets}
+use Rattle.fw_steps.specs.Worlds.{SiteOf, activated_at, node_becomes, sent_now}
+
+-- a device's node with its packets, and the room that there is for more
+pub record RoomyOf : Type 0 where
+  pub site : SiteOf
+  pub room : ℕ
+
+-- What a packet makes of a device's node and its packets: `works` says whether its bank's one call succeeded, and a call fails
+-- only where its bank's count of failures tells so.
+pub record Hears (now : ℕ) (old : SiteOf) (bytes : List ℕ) (new : SiteOf) : Type 0 where
+  pub works : Bool
+  pub node : new.node ≡ node_becomes old.node new.node.faults (device_hears works old.node bytes).tid (device_hears works old.node bytes).half
+  pub since_miss : new.since_miss ≡ old.since_miss
+  pub packets : new.packets ≡ old.packets ++ sent_now now (all_packets old.node.half.unit (device_hears works old.node bytes).sent)
+  pub worked : works ≡ true → new.node.faults ≡ old.node.faults
+  pub failed : works ≡ false → Rose old.node.faults new.node.faults
+  pub told : IsTold U64 (half_hears device_core works old.node.half bytes)
+
+-- and of the history: what is activated is noted
+pub record HearsNoting (now : ℕ) (old : SiteOf) (bytes : List ℕ) (new : SiteOf) (before after : List NotedOf) : Type 0 where
+  pub heard : Hears now old bytes new
+  pub history : after ≡ before ++ map (λ p. noted_of old.node.endpoint.eid (EntryOf.Activated p)) (activated_at heard.works old.node bytes)
+
+-- what a verdict makes of them
+pub record Judges (old : SiteOf) (verdict : Verdict) (new : SiteOf) : Type 0 where
+  pub works : Bool
+  pub counts : is_some (device_verdict old.node.half.core.device verdict works) ≡ true
+  pub node : new.node ≡ node_becomes old.node new.node.faults old.node.tid (device_judges works old.node verdict)
+  pub since_miss : new.since_miss ≡ old.since_miss
+  pub packets : new.packets ≡ old.packets
+  pub worked : works ≡ true → new.node.faults ≡ old.node.faults
+  pub failed : works ≡ false → Rose old.node.faults new.node.faults
+
+-- and of the history: what is applied is noted
+pub record JudgesNoting (old : SiteOf) (verdict : Verdict) (new : SiteOf) (before after : List NotedOf) : Type 0 where
+  pub judged : Judges old verdict new
+  pub history : after ≡ before ++ map (λ p. noted_of old.node.endpoint.eid (EntryOf.Applied p)) (applied_by old.node.half.core.device verdict judged.works)
+
+-- the device waits for the next component, or for its activation
+abbrev pub is_ready : Phase → Bool
+is_ready (Phase.Ready u) = true
+is_ready p = false
+
+-- the device has activated
+abbrev pub is_activated : Phase → Bool
+is_activated Phase.Activated = true
+is_activated p = false
+
+-- these copies, if there are any, are what is applied
+abbrev pub AreReady : DeviceState → Option (List Put) → Type 0
+AreReady v None = Unit {0}
+AreReady v (Some images) = (is_ready v.phase ≡ true) × (images ≡ puts v.rows)
+
+-- a copy of the image that is applied for this component, where there is room for it
+abbrev pub IsCopyOf : List RowOf → (capacity : ℕ) → List Put → Option (Key × ℕ) → Type 0
+IsCopyOf rows capacity images None = Unit {0}
+IsCopyOf rows capacity images (Some s) = IfSome (applied_of (row_of rows s.0)) (λ image. length image.bytes ≤ capacity → images ≡ record { key = s.0; bytes = image.bytes } ∷ [])
+
+-- each of these has room for so many packets
+abbrev pub HaveRoom : ℕ → List RoomyOf → Type 0
+HaveRoom n [] = Unit {0}
+HaveRoom n (s ∷ ss) = (n ≤ s.room) × HaveRoom n ss
+
+-- one of these lacks it
+abbrev pub LacksRoom : ℕ → List RoomyOf → Type 0
+LacksRoom n [] = ⊥
+LacksRoom n (s ∷ ss) = (s.room < n) ⊎ LacksRoom n ss
+
+-- the nodes with their packets
+abbrev pub sites_of : List RoomyOf → List SiteOf
+sites_of ss = map (λ s. s.site) ss
+
+-- One of the nodes hears a packet.
+pub record HeardAt (now : ℕ) (old : List SiteOf) (place : ℕ) (bytes : List ℕ) (new : List SiteOf) (before after : List NotedOf) : Type 0 where
+  pub site : SiteOf
+  pub became : SiteOf
+  pub there : slice_get old place ≡ Some site
+  pub heard : HearsNoting now site bytes became before after
+  pub put : new ≡ slice_set old place became
+
+-- One of them has a verdict.
+pub record JudgedAt (old : List SiteOf) (place : ℕ) (verdict : Verdict) (new : List SiteOf) (before after : List NotedOf) : Type 0 where
+  pub site : SiteOf
+  pub became : SiteOf
+  pub there : slice_get old place ≡ Some site
+  pub judged : JudgesNoting site verdict became before after
+  pub put : new ≡ slice_set old place became

@@ -1,0 +1,88 @@
+//! What the agent records of a packet that comes to it.
+
+ghost use Rattle.std.specs.Prelude.{[], ◌≡◌, ◌≤◌, ◌+◌, ◌++◌, IfSome, None, map, option_to_list, true};
+ghost use Rattle.std.specs.Vec.{vec_capacity, vec_len};
+ghost use Rattle.fw_message.specs.Entries.{entry_of};
+ghost use Rattle.fw_message.specs.History.{EntryOf};
+ghost use Rattle.fw_message.specs.Worlds.{noted_of};
+ghost use Rattle.fw_node.specs.Agents.{agent_hears, any_packet, half_for, hearer};
+ghost use Rattle.fw_node.specs.Cores.{session_core};
+ghost use Rattle.fw_node.specs.Halves.{half_hears};
+ghost use Rattle.fw_node.specs.Nodes.{IsTold};
+ghost use Rattle.fw_steps.specs.Worlds.{made_by, record_behind, recorded_from, sender_of};
+
+use fw_message::{Entry, Event};
+use fw_node::{AgentNode, Outbox};
+use fw_package::Package;
+use mctp_wire::Unit;
+use ua_core::Recorded;
+
+/// The agent hears the bytes of a packet; what it records is noted. There is room for that.
+#[tactic(auto, using(crate::proofs::Recording::noted_behind))]
+pub(crate) fn hear_noting<'p>(
+    agent: &mut AgentNode,
+    packages: &'p [Package<'p>],
+    bytes: &[u8],
+    now: u32,
+    outbox: &mut Outbox,
+    history: &mut Vec<Entry<'_>>,
+)
+    requires outbox { outbox.old ≡ [] }
+    requires room { vec_len history.old + 1 ≤ vec_capacity history.old }
+    ensures after { agent.new ≡ (agent_hears packages.now agent.old bytes.now now).agent }
+    ensures sent { outbox.new ≡ (agent_hears packages.now agent.old bytes.now now).sent }
+    ensures told { IfSome (hearer agent.old bytes.now) (λ h. IsTold h.core.session.unit (half_hears (session_core packages.now) true h bytes.now)) }
+    ensures history { map entry_of history.new.items ≡ map entry_of history.old.items ++ recorded_from agent.old agent.new (sender_of (any_packet bytes.now)) }
+{
+    let sender = sender_of(bytes);
+    let made = records_with(agent, sender);
+    agent.on_packet(packages, bytes, now, outbox);
+    let recorded = recorded(agent, sender, made);
+    note_recorded(history, sender, recorded);
+}
+
+/// The sender of a packet.
+fn sender_of(bytes: &[u8]) -> Option<u8>
+    ensures { result ≡ sender_of (any_packet bytes.now) }
+{
+    match mctp_wire::decode(Unit::U128, bytes) {
+        Ok(packet) => Some(packet.head.source),
+        Err(_) => None,
+    }
+}
+
+/// How many records the session with a device has.
+fn records_with(agent: &AgentNode, device: Option<u8>) -> usize
+    ensures { IfSome device (λ d. result ≡ made_by (half_for agent.now d)) }
+{
+    let Some(device) = device else {
+        return 0;
+    };
+    match agent.session(device) {
+        Some(session) => session.records().len(),
+        None => 0,
+    }
+}
+
+/// What the session with a device recorded behind so many records.
+fn recorded(agent: &AgentNode, device: Option<u8>, made: usize) -> Option<Recorded>
+    ensures { IfSome device (λ d. result ≡ record_behind made (half_for agent.now d)) }
+{
+    let session = agent.session(device?)?;
+    session.records().get(made).copied()
+}
+
+/// Notes that the agent recorded a component of a device, if it did. There is room for it.
+fn note_recorded(history: &mut Vec<Entry<'_>>, device: Option<u8>, recorded: Option<Recorded>)
+    requires { vec_len history.old + 1 ≤ vec_capacity history.old }
+    ensures some { IfSome device (λ d. map entry_of history.new.items ≡ map entry_of history.old.items ++ map (λ r. noted_of d (EntryOf.Recording r)) (option_to_list recorded)) }
+    ensures none { device ≡ None → map entry_of history.new.items ≡ map entry_of history.old.items }
+{
+    let (Some(device), Some(recorded)) = (device, recorded) else {
+        return;
+    };
+    let _ = history.push(Entry {
+        device,
+        event: Event::Recorded(recorded),
+    });
+}

@@ -1,0 +1,498 @@
+//! A device's node in the world, and the packets between it and the agent.
+
+ghost use Rattle.std.specs.Prelude.{[], ◌≡◌, ◌≤◌, ◌<◌, ◌+◌, ◌++◌, ◌∷◌, ◌⊎◌, Bool, IfErr, IfOk, IfSome, None, OnErr, OnOk, Some, is_some, length, map, option_map, option_to_list, true};
+ghost use Rattle.std.specs.Vec.{vec_capacity, vec_len};
+ghost use Rattle.exch_lane.specs.Lanes.{numbered};
+ghost use Rattle.exch_lane.specs.Steps.{sent_at};
+ghost use Rattle.fd_core.specs.Components.{HasComponents};
+ghost use Rattle.fw_node.specs.Halves.{half_ticks};
+ghost use Rattle.fw_node.specs.Cores.{device_core};
+ghost use Rattle.fw_node.specs.Nodes.{device_restarts};
+ghost use Rattle.fw_steps.specs.Dead.{AreDead, dead_count};
+ghost use Rattle.fw_steps.specs.Headline.{may_site_beat, packet_fault, verdict_fault};
+ghost use Rattle.fw_steps.specs.Replays.{adds_entry};
+ghost use Rattle.fw_steps.specs.Sayable.{SiteSpeaks, SiteSpeaksIn};
+ghost use Rattle.fw_steps.specs.Sites.{Hears, HearsNoting, IsCopyOf, Judges, JudgesNoting, is_activated, is_ready};
+ghost use Rattle.fw_steps.specs.Worlds.{site_goes_on, site_ticks};
+ghost use Rattle.fd_core.specs.Images.{puts};
+ghost use Rattle.fd_core.specs.States.{staged_of};
+ghost use Rattle.fd_core.specs.Steps.{device_verdict};
+ghost use Rattle.fd_core.specs.Wishes.{has_failed};
+ghost use Rattle.fw_message.specs.Entries.{entry_of, put_of};
+ghost use Rattle.fw_message.specs.History.{EntryOf};
+ghost use Rattle.fw_message.specs.Worlds.{noted_of};
+
+use crate::dead::{FirstDead, first_dead};
+use crate::packets::{Packets, SentPackets};
+use crate::step::{Refusal, StepFault};
+use crate::ticks::counts;
+use exch_lane::{UNMISSED, may_beat, since_after};
+use fd_core::{Bank, Device, Key, State, Verdict};
+use fw_message::{Entry, Event, Image, applied_images, awaits, copied, has_failed, room_for};
+use fw_node::{DeviceNode, Outbox};
+use fw_package::Package;
+use mctp_wire::RawPacket;
+use std::alloc::{AllocError, Global};
+use std::marker::Model;
+
+/// The most packets that a node sends in a call.
+const MAX_SENT: u16 = 64;
+
+/// A device's node, and every packet that was sent between it and the agent. While the device is ready there may be the images
+/// that it has applied, for the history, so that they are looked for once.
+#[derive(Drop)]
+pub(crate) struct Site<'a, B: Bank> {
+    /// The device's node.
+    node: DeviceNode<B>,
+    /// How many ticks it counted since it last missed one, at most 8.
+    since_miss: u8,
+    /// Every packet that was sent between it and the agent, in the order of sending. None is ever taken out.
+    packets: Packets,
+    /// How many of the first packets are known to be dead, and at which moment that was found.
+    dead: FirstDead,
+    /// The images that the device has applied. There are some only while it is in READY XFER.
+    ready: Option<Vec<Image<'a>>>,
+}
+
+impl<'a, B: Bank> Model for Site<'a, B> {
+    ghost use Rattle.std.specs.Prelude.{map, option_map};
+    ghost use Rattle.fd_core.specs.Components.{HasComponents};
+    ghost use Rattle.fw_message.specs.Entries.{put_of};
+    ghost use Rattle.fw_steps.specs.Dead.{AreDead};
+    ghost use Rattle.fw_steps.specs.Sites.{AreReady, RoomyOf};
+
+    ghost Value = { RoomyOf };
+
+    ghost view = { λ s. record {
+      site = record { node = s.node; since_miss = s.since_miss; packets = s.packets.packets };
+      room = s.packets.room;
+    } };
+
+    ghost invariant = { λ s. HasComponents s.node.half.core.device × AreReady s.node.half.core.device (option_map (λ images. map put_of images.items) s.ready) × AreDead s.dead.since s.dead.count s.packets.packets };
+}
+
+impl<'a, B: Bank> Site<'a, B> {
+    /// A device's node to which nothing was sent.
+    pub(crate) fn new(alloc: Global, node: DeviceNode<B>) -> Site<'a, B>
+        requires { HasComponents node.half.core.device }
+        ensures { result.site ≡ record { node = node; since_miss = 8; packets = [] } }
+    {
+        Site {
+            node,
+            since_miss: UNMISSED,
+            packets: Packets::new(alloc),
+            dead: FirstDead::new(),
+            ready: None,
+        }
+    }
+
+    /// The device's endpoint identifier.
+    pub(crate) fn eid(&self) -> u8
+        ensures { result ≡ self.now.site.node.endpoint.eid }
+    {
+        self.node.eid()
+    }
+
+    /// The device's node.
+    pub(crate) fn node(&self) -> &DeviceNode<B>
+        ensures { result.now ≡ self.now.site.node }
+    {
+        &self.node
+    }
+
+    /// Every packet that was sent between the device and the agent, in order.
+    pub(crate) fn packets(&self) -> SentPackets<'_>
+        ensures { result ≡ self.now.site.packets }
+    {
+        self.packets.lent()
+    }
+
+    /// How many of the first packets are dead at this time.
+    pub(crate) fn dead_packets(&self, now: u32) -> usize
+        ensures dead { AreDead now result self.now.site.packets }
+        ensures exact { result ≡ dead_count now self.now.site.packets }
+    {
+        first_dead(&self.packets.lent(), now, self.dead.count_at(now))
+    }
+
+    /// The bytes of the packet of a number, which may still come.
+    pub(crate) fn living(&self, number: usize, now: u32) -> Result<RawPacket, StepFault>
+        ensures found { IfOk result (λ p. option_map (λ s. s.bytes) (numbered self.now.site.packets number) ≡ Some p.items) }
+        ensures ok { OnOk result (packet_fault now (numbered self.now.site.packets number) ≡ None) }
+        ensures fault { IfErr result (λ e. packet_fault now (numbered self.now.site.packets number) ≡ Some e) }
+    {
+        let packets = self.packets.lent();
+        let Some(place) = number.checked_sub(1) else {
+            return Err(StepFault::NoSuchPacket);
+        };
+        let Some(packet) = packets.copied(place) else {
+            return Err(StepFault::NoSuchPacket);
+        };
+        if packets.is_dead(place, now) {
+            return Err(StepFault::Dead);
+        }
+        Ok(packet)
+    }
+
+    /// Makes room for what a node sends in a call.
+    pub(crate) fn make_room(&mut self, count: u16) -> Result<(), AllocError>
+        ensures room { OnOk result (count ≤ self.new.room) }
+        ensures lacked { OnErr result (self.old.room < count) }
+        ensures same { self.new.site ≡ self.old.site }
+    {
+        self.packets.make_room(count)
+    }
+
+    /// Puts a packet behind the others, dated now. There is room for it.
+    #[tactic(auto, using(crate::proofs::Aging::dead_still))]
+    pub(crate) fn post(&mut self, now: u32, bytes: RawPacket)
+        requires { 1 ≤ self.old.room }
+        ensures site { self.new.site ≡ record self.old.site { packets = self.old.site.packets ++ sent_at now bytes.items ∷ [] } }
+        ensures room { self.old.room ≤ self.new.room + 1 }
+    {
+        self.packets.push(now, bytes.as_slice());
+    }
+
+    /// Hears the bytes of a packet; what it sends is dated now, and what it activates is noted.
+    ///
+    /// # Errors
+    /// `AllocError` where memory for what it may send and note is refused. Nothing has changed then.
+    #[tactic(auto, using(crate::proofs::Noting::nothing_ready))]
+    pub(crate) fn hear(
+        &mut self,
+        alloc: Global,
+        packages: &'a [Package<'a>],
+        now: u32,
+        bytes: &[u8],
+        outbox: &mut Outbox,
+        history: &mut Vec<Entry<'a>>,
+    ) -> Result<(), AllocError>
+        requires { outbox.old ≡ [] }
+        ensures heard { OnOk result (HearsNoting now self.old.site bytes.now self.new.site (map entry_of history.old.items) (map entry_of history.new.items)) }
+        ensures same { OnErr result (self.new.site ≡ self.old.site) }
+        ensures unnoted { OnErr result (map entry_of history.new.items ≡ map entry_of history.old.items) }
+        ensures outbox { outbox.new ≡ [] }
+    {
+        let images = match self.ready_images(alloc, packages) {
+            Ok(images) => images,
+            Err(error) => return Err(error),
+        };
+        match history.reserve(images.len()) {
+            Ok(()) => {}
+            Err(error) => return Err(error),
+        }
+        match self.make_room(MAX_SENT) {
+            Ok(()) => {}
+            Err(error) => return Err(error),
+        }
+        if !self.is_ready() {
+            self.go_on(now, bytes, outbox);
+            return Ok(());
+        }
+        self.hear_ready(now, bytes, images, outbox, history);
+        Ok(())
+    }
+
+    /// A ready device hears the bytes of a packet; what it sends is dated now, and what it activates is noted: these images. There
+    /// is room for all of it.
+    #[tactic(auto, using(crate::proofs::Noting::activation_noted, crate::proofs::Noting::nothing_active, crate::proofs::Noting::still_ready))]
+    fn hear_ready(
+        &mut self,
+        now: u32,
+        bytes: &[u8],
+        images: Vec<Image<'a>>,
+        outbox: &mut Outbox,
+        history: &mut Vec<Entry<'a>>,
+    )
+        requires room { 64 ≤ self.old.room }
+        requires outbox { outbox.old ≡ [] }
+        requires ready { is_ready self.old.site.node.half.core.device.phase ≡ true }
+        requires images { map put_of images.items ≡ puts self.old.site.node.half.core.device.rows }
+        requires history { vec_len history.old + vec_len images ≤ vec_capacity history.old }
+        ensures heard { HearsNoting now self.old.site bytes.now self.new.site (map entry_of history.old.items) (map entry_of history.new.items) }
+        ensures outbox { outbox.new ≡ [] }
+    {
+        self.go_on(now, bytes, outbox);
+        if self.is_activated() {
+            note_activated(history, self.eid(), images);
+            return;
+        }
+        if self.is_ready() {
+            self.keep(images);
+        }
+    }
+
+    /// The node hears the bytes of a packet; what it sends is dated now.
+    #[tactic(auto, using(crate::proofs::Components::heard_components, crate::proofs::Aging::dead_still))]
+    fn go_on(&mut self, now: u32, bytes: &[u8], outbox: &mut Outbox)
+        requires room { 64 ≤ self.old.room }
+        requires outbox { outbox.old ≡ [] }
+        ensures heard { Hears now self.old.site bytes.now self.new.site }
+        ensures outbox { outbox.new ≡ [] }
+        ensures endpoint { self.new.site.node.endpoint ≡ self.old.site.node.endpoint }
+    {
+        self.ready = None;
+        self.node.on_packet(bytes, outbox);
+        // How many packets an outbox holds at most is known once it was read.
+        let _sent = outbox.len();
+        self.packets.drain(now, outbox);
+    }
+
+    /// Whether the device waits for the next component, or for its activation.
+    fn is_ready(&self) -> bool
+        ensures { result ≡ is_ready self.now.site.node.half.core.device.phase }
+    {
+        is_ready(self.node.device())
+    }
+
+    /// Whether the device has activated.
+    fn is_activated(&self) -> bool
+        ensures { result ≡ is_activated self.now.site.node.half.core.device.phase }
+    {
+        self.node.device().state() == State::Activate
+    }
+
+    /// Keeps the images that a ready device has applied.
+    fn keep(&mut self, images: Vec<Image<'a>>)
+        requires ready { is_ready self.old.site.node.half.core.device.phase ≡ true }
+        requires images { map put_of images.items ≡ puts self.old.site.node.half.core.device.rows }
+        ensures { self.new ≡ self.old }
+    {
+        self.ready = Some(images);
+    }
+
+    /// Each image that a ready device has applied, by rising key.
+    #[tactic(auto, using(fw_message::proofs::Applied::all_applied))]
+    fn ready_images(
+        &mut self,
+        alloc: Global,
+        packages: &'a [Package<'a>],
+    ) -> Result<Vec<Image<'a>>, AllocError>
+        ensures images { IfOk result (λ images. is_ready self.old.site.node.half.core.device.phase ≡ true → map put_of images.items ≡ puts self.old.site.node.half.core.device.rows) }
+        ensures site { self.new ≡ self.old }
+    {
+        if let Some(images) = self.ready.take() {
+            return Ok(images);
+        }
+        if !self.is_ready() {
+            return Ok(Vec::new(alloc));
+        }
+        let device = self.node.device();
+        applied_images(alloc, packages, device.bank(), device.keys())
+    }
+
+    /// A verdict on the image that the device has written; what it applies is noted.
+    ///
+    /// # Errors
+    /// `Refused` where no such verdict is waited for, else `Memory` where that for the entry of ApplyOk is refused. Nothing has changed
+    /// then.
+    pub(crate) fn judge(
+        &mut self,
+        alloc: Global,
+        packages: &'a [Package<'a>],
+        verdict: Verdict,
+        history: &mut Vec<Entry<'a>>,
+    ) -> Result<(), StepFault>
+        ensures judged { OnOk result (JudgesNoting self.old.site verdict self.new.site (map entry_of history.old.items) (map entry_of history.new.items)) }
+        ensures may { OnOk result (verdict_fault verdict (Some self.old.site) ≡ None) }
+        ensures refused { IfErr result (λ e. (verdict_fault verdict (Some self.old.site) ≡ Some e) ⊎ ((e ≡ StepFault.Memory) × (adds_entry verdict ≡ true) × (verdict_fault verdict (Some self.old.site) ≡ None))) }
+        ensures same { OnErr result (self.new.site ≡ self.old.site) }
+        ensures unnoted { OnErr result (map entry_of history.new.items ≡ map entry_of history.old.items) }
+    {
+        if !self.awaits(verdict) {
+            return Err(StepFault::Refused(Refusal::NotNow));
+        }
+        let Ok(room) = self.room_to_note(alloc, verdict, history) else {
+            return Err(StepFault::Memory);
+        };
+        self.judge_noting(packages, verdict, room, history);
+        Ok(())
+    }
+
+    /// Makes room for what a verdict adds: an entry of the history, and the image in it, whose room is given out. Only ApplyOk adds one.
+    fn room_to_note(
+        &self,
+        alloc: Global,
+        verdict: Verdict,
+        history: &mut Vec<Entry<'a>>,
+    ) -> Result<Vec<u8>, AllocError>
+        ensures empty { IfOk result (λ room. room.items ≡ []) }
+        ensures image { IfOk result (λ room. verdict ≡ Verdict.ApplyOk → IfSome (staged_of self.now.site.node.half.core.device.phase) (λ s. s.1 ≤ vec_capacity room)) }
+        ensures entry { OnOk result (verdict ≡ Verdict.ApplyOk → vec_len history.new + 1 ≤ vec_capacity history.new) }
+        ensures unneeded { OnErr result (adds_entry verdict ≡ true) }
+        ensures unnoted { history.new.items ≡ history.old.items }
+    {
+        match verdict {
+            Verdict::ApplyOk => {}
+            _ => return Ok(Vec::new(alloc)),
+        }
+        match history.reserve(1) {
+            Ok(()) => {}
+            Err(error) => return Err(error),
+        }
+        Vec::with_capacity(alloc, room_for(self.node.device(), verdict))
+    }
+
+    /// Whether the device waits for this verdict.
+    fn awaits(&self, verdict: Verdict) -> bool
+        ensures { (works : Bool) → is_some (device_verdict self.now.site.node.half.core.device verdict works) ≡ result }
+    {
+        awaits(self.node.device(), verdict)
+    }
+
+    /// A verdict that is waited for; what it applies is noted. If that is ApplyOk there is room for the entry, and `room` is empty, with
+    /// the capacity of the image.
+    #[tactic(auto, using(crate::proofs::Judging::other_noted))]
+    fn judge_noting(
+        &mut self,
+        packages: &'a [Package<'a>],
+        verdict: Verdict,
+        room: Vec<u8>,
+        history: &mut Vec<Entry<'a>>,
+    )
+        requires awaited { (works : Bool) → is_some (device_verdict self.old.site.node.half.core.device verdict works) ≡ true }
+        requires empty { room.items ≡ [] }
+        requires room { verdict ≡ Verdict.ApplyOk → IfSome (staged_of self.old.site.node.half.core.device.phase) (λ s. s.1 ≤ vec_capacity room) }
+        requires history { verdict ≡ Verdict.ApplyOk → vec_len history.old + 1 ≤ vec_capacity history.old }
+        ensures { JudgesNoting self.old.site verdict self.new.site (map entry_of history.old.items) (map entry_of history.new.items) }
+    {
+        let staged = self.node.device().staged();
+        self.judge_now(verdict);
+        match verdict {
+            Verdict::ApplyOk => {}
+            _ => return,
+        }
+        if self.has_failed() {
+            return;
+        }
+        let image = self.applied(packages, staged, room);
+        note_applied(history, self.eid(), image);
+    }
+
+    /// The node has a verdict that is waited for.
+    #[tactic(auto, using(crate::proofs::Components::judged_components))]
+    fn judge_now(&mut self, verdict: Verdict)
+        requires { (works : Bool) → is_some (device_verdict self.old.site.node.half.core.device verdict works) ≡ true }
+        ensures judged { Judges self.old.site verdict self.new.site }
+        ensures endpoint { self.new.site.node.endpoint ≡ self.old.site.node.endpoint }
+    {
+        self.ready = None;
+        let Ok(()) = self.node.verdict(verdict) else {
+            return;
+        };
+    }
+
+    /// Whether the work of the device's state failed.
+    fn has_failed(&self) -> bool
+        ensures { result ≡ has_failed self.now.site.node.half.core.device.phase }
+    {
+        has_failed(self.node.device())
+    }
+
+    /// The image that is applied for a component, copied into room that is empty unless a package lends its bytes; None where there is
+    /// none, or not the room.
+    fn applied(
+        &self,
+        packages: &'a [Package<'a>],
+        staged: Option<(Key, u32)>,
+        room: Vec<u8>,
+    ) -> Option<Image<'a>>
+        requires { room.items ≡ [] }
+        ensures { IsCopyOf self.now.site.node.half.core.device.rows (vec_capacity room) (map put_of (option_to_list result)) staged }
+    {
+        let (key, _) = staged?;
+        copied(packages, self.node.device().bank(), key, room)
+    }
+
+    /// The node counts a tick; what it sends is dated now.
+    #[tactic(auto, using(crate::proofs::Components::ticked_components, crate::proofs::Ticking::ticks_keep, crate::proofs::Aging::dead_still))]
+    fn tick(&mut self, now: u32, outbox: &mut Outbox)
+        requires room { 64 ≤ self.old.room }
+        requires outbox { outbox.old ≡ [] }
+        ensures site { self.new.site ≡ site_ticks now self.old.site }
+        ensures outbox { outbox.new ≡ [] }
+        ensures spoken { SiteSpeaks self.old.site }
+    {
+        self.node.on_tick(outbox);
+        self.since_miss = since_after(true, self.since_miss);
+        // How many packets an outbox holds at most is known once it was read.
+        let _sent = outbox.len();
+        self.packets.drain(now, outbox);
+        self.dead.advance(&self.packets.lent(), now);
+        if !is_ready(self.node.device()) {
+            self.ready = None;
+        }
+    }
+
+    /// A tick passes, which the node counts unless it is one of these; what it sends is dated now.
+    pub(crate) fn pass(&mut self, missed: &[u8], now: u32, outbox: &mut Outbox)
+        requires room { 64 ≤ self.old.room }
+        requires outbox { outbox.old ≡ [] }
+        ensures site { self.new.site ≡ site_goes_on missed.now now self.old.site }
+        ensures outbox { outbox.new ≡ [] }
+        ensures spoken { SiteSpeaksIn missed.now self.old.site }
+    {
+        if !counts(missed, self.eid()) {
+            self.miss();
+            return;
+        }
+        self.tick(now, outbox);
+    }
+
+    /// The node misses a tick.
+    fn miss(&mut self)
+        ensures { self.new.site ≡ record self.old.site { since_miss = 0 } }
+    {
+        self.since_miss = since_after(false, self.since_miss);
+    }
+
+    /// Whether the node may miss this tick, if it is one of those that do.
+    pub(crate) fn may_beat(&self, missed: &[u8]) -> bool
+        ensures { result ≡ may_site_beat missed.now self.now.site }
+    {
+        may_beat(counts(missed, self.eid()), self.since_miss)
+    }
+
+    /// The node starts anew.
+    #[tactic(auto, using(fd_core::proofs::Components::restart_components))]
+    pub(crate) fn restart(&mut self)
+        ensures { self.new.site ≡ record self.old.site { node = device_restarts self.old.site.node } }
+    {
+        self.node.restart();
+        self.ready = None;
+    }
+}
+
+/// Whether a device waits for the next component, or for its activation.
+fn is_ready<B: Bank>(device: &Device<B>) -> bool
+    ensures { result ≡ is_ready device.now.device.phase }
+{
+    device.state() == State::Ready
+}
+
+/// Notes that a device activates these images. There is room for them.
+fn note_activated<'a>(history: &mut Vec<Entry<'a>>, device: u8, images: Vec<Image<'a>>)
+    requires { vec_len history.old + vec_len images ≤ vec_capacity history.old }
+    ensures { map entry_of history.new.items ≡ map entry_of history.old.items ++ map (λ p. noted_of device (EntryOf.Activated p)) (map put_of images.entry.items) }
+{
+    for image in images {
+        let _ = history.push(Entry {
+            device,
+            event: Event::Activated(image),
+        });
+    }
+}
+
+/// Notes that a device applied an image, if it did. There is room for it.
+fn note_applied<'a>(history: &mut Vec<Entry<'a>>, device: u8, image: Option<Image<'a>>)
+    requires { vec_len history.old + 1 ≤ vec_capacity history.old }
+    ensures { map entry_of history.new.items ≡ map entry_of history.old.items ++ map (λ p. noted_of device (EntryOf.Applied p)) (map put_of (option_to_list image.entry)) }
+{
+    let Some(image) = image else {
+        return;
+    };
+    let _ = history.push(Entry {
+        device,
+        event: Event::Applied(image),
+    });
+}

@@ -1,0 +1,169 @@
+//! The packet world: by its type, a state that steps led to.
+
+ghost use Rattle.std.specs.Prelude.{◌≡◌, ◌≤◌, IfErr, IfOk, OnErr, OnOk, length, map, option_map, slice_get};
+ghost use Rattle.fw_message.specs.Entries.{entry_of};
+ghost use Rattle.fw_steps.specs.Dead.{AreDead, dead_count};
+ghost use Rattle.fw_steps.specs.Headline.{AreNewNodes, IsOpeningWorld, IsPromised, Leads, new_world};
+ghost use Rattle.fw_steps.specs.Replays.{Refuses};
+ghost use Rattle.fw_steps.specs.Worlds.{packets_of, site_for};
+
+use crate::headline::{moments_are_tied, packets_are_messages, packets_are_safe};
+use crate::packets::SentPackets;
+use crate::state::State;
+use crate::step::{Step, StepFault};
+use fd_core::Bank;
+use fw_message::Entry;
+use fw_node::{AgentNode, DeviceNode};
+use fw_package::Package;
+use mctp_ctl::Endpoint;
+use std::alloc::{AllocError, Global};
+use std::marker::Model;
+
+/// An update agent and its devices, every packet that was ever sent between them, and what happened. Time passes in units. A world
+/// is made by `new` and changed by `step` alone, so whoever holds one holds a safe one (`is_promised`).
+#[derive(Drop)]
+pub struct World<'a, B: Bank + Drop> {
+    /// What it is made of. The invariant says that steps led to it.
+    state: State<'a, B>,
+}
+
+impl<'a, B: Bank + Drop> Model for World<'a, B> {
+    ghost use Rattle.fw_steps.specs.Headline.{IsReached};
+    ghost use Rattle.fw_steps.specs.Worlds.{WorldOf};
+
+    ghost Value = { WorldOf };
+
+    ghost view = { λ w. w.state };
+
+    ghost invariant = { λ w. IsReached w.state };
+}
+
+impl<'a, B: Bank + Drop> World<'a, B> {
+    /// A world before its first step: the agent, the nodes of 1 to 16 devices as they are made, whose agent it is, with endpoint
+    /// identifiers of their own from 8 to 254, and the packages that the operator may start updates with. Later calls take their
+    /// memory from `alloc`.
+    ///
+    /// # Errors
+    /// `AllocError` where memory for it is refused.
+    pub fn new(
+        alloc: Global,
+        agent: Endpoint,
+        devices: Vec<DeviceNode<B>>,
+        packages: &'a [Package<'a>],
+    ) -> Result<World<'a, B>, AllocError>
+        requires { AreNewNodes agent.eid devices.items }
+        ensures made { IfOk result (λ w. w ≡ new_world agent devices.items packages.now) }
+        ensures opens { IfOk result (λ w. IsOpeningWorld w) }
+    {
+        match State::new(alloc, agent, devices, packages) {
+            Ok(state) => Ok(World { state }),
+            Err(error) => Err(error),
+        }
+    }
+
+    /// The units of time that have passed, at most 4,294,967,295.
+    pub fn now(&self) -> u32
+        ensures { result ≡ self.now.now }
+    {
+        self.state.now()
+    }
+
+    /// The agent.
+    pub fn agent(&self) -> &AgentNode
+        ensures { result.now ≡ self.now.agent }
+    {
+        self.state.agent()
+    }
+
+    /// The node of a device.
+    pub fn device(&self, eid: u8) -> Option<&DeviceNode<B>>
+        ensures { option_map (λ n. n.now) result ≡ option_map (λ x. x.node) (site_for self.now.sites eid) }
+    {
+        self.state.device(eid)
+    }
+
+    /// How many devices there are, 1 to 16.
+    pub fn device_count(&self) -> usize
+        ensures count { result ≡ length self.now.sites }
+        ensures some { 1 ≤ result }
+        ensures few { result ≤ 16 }
+    {
+        self.state.device_count()
+    }
+
+    /// The node of the device at a place, counted from 0, in the configured order.
+    pub fn device_at(&self, place: usize) -> Option<&DeviceNode<B>>
+        ensures { option_map (λ n. n.now) result ≡ option_map (λ x. x.node) (slice_get self.now.sites place) }
+    {
+        self.state.device_at(place)
+    }
+
+    /// Every packet that was sent between the agent and the device at a place, counted from 0, in the order of sending.
+    pub fn packets_at(&self, place: usize) -> Option<SentPackets<'_>>
+        ensures { result ≡ option_map (λ x. x.packets) (slice_get self.now.sites place) }
+    {
+        self.state.packets_at(place)
+    }
+
+    /// Every packet that was sent between the agent and a device, in the order of sending: what a Deliver numbers from 1.
+    pub fn packets(&self, eid: u8) -> Option<SentPackets<'_>>
+        ensures { result ≡ option_map (λ x. x.packets) (site_for self.now.sites eid) }
+    {
+        self.state.packets(eid)
+    }
+
+    /// How many of the first packets between the agent and a device can't come any more, since they were sent more than 8 units
+    /// ago: whoever looks for one that may come can leave them out, and the next one may come. 0 where there is no such device.
+    pub fn dead_packets(&self, eid: u8) -> usize
+        ensures dead { AreDead self.now.now result (packets_of self.now eid) }
+        ensures exact { result ≡ dead_count self.now.now (packets_of self.now eid) }
+        ensures within { result ≤ length (packets_of self.now eid) }
+    {
+        self.state.dead_packets(eid)
+    }
+
+    /// The last answer of the event log: a completion code and what follows it. None before the first request.
+    pub fn answer(&self) -> Option<&[u8]>
+        ensures { option_map (λ a. a.now) result ≡ self.now.answer }
+    {
+        self.state.answer()
+    }
+
+    /// What happened, in order. It is safe, whoever asks and whenever.
+    pub fn history(&self) -> &[Entry<'a>]
+        ensures entries { map entry_of result.now ≡ self.now.history }
+        ensures promised { IsPromised self.now }
+    {
+        self.is_promised();
+        self.state.history()
+    }
+
+    /// What is promised of every world that there is, at any moment: steps led here from a world as it is made; each device that was
+    /// there is there, and its history is safe, and tied with what runs on it and what the agent recorded; and steps over whole
+    /// messages lead to the same devices, sessions and history.
+    pub fn is_promised(&self)
+        ensures { IsPromised self.now }
+    {
+        let _ = &self.state;
+        packets_are_safe();
+        moments_are_tied();
+        packets_are_messages();
+    }
+
+    /// Takes a step, or leaves the world as it is.
+    ///
+    /// # Errors
+    /// Why the step isn't taken: `NoSuchNode`, then `NoSuchPacket`, then `Dead`; for the operator's calls `NoSuchPackage` before
+    /// `Busy`, and `NotReady`; `NotNow` for a verdict; `ClockEnd`, then `ClockSlow` for a tick; and `Memory` for a step that might be
+    /// taken.
+    pub fn step(&mut self, step: &Step) -> Result<(), StepFault>
+        ensures taken { OnOk result (Leads self.old step.now self.new) }
+        ensures refused { IfErr result (λ e. Refuses self.old step.now e) }
+        ensures same { OnErr result (self.new ≡ self.old) }
+    {
+        match self.state.step(step) {
+            Ok(()) => Ok(()),
+            Err(fault) => Err(fault),
+        }
+    }
+}

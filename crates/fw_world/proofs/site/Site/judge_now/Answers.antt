@@ -1,9 +1,0 @@
-use Rattle.std.proofs.Common.{subst}
-use Rattle.fw_world.specs.Sites.{Judges}
-use Rattle.fw_world.proofs.Judging.{judged_here}
-use Rattle.fw_world.proofs.site.Site.judge_now.Goals as goal
-
-pub returns-clause-judged : goal.returns-clause-judged
-returns-clause-judged g c =
-    subst (λ s. Judges s.site c.args.verdict (record { node = c.verdict.new.self; since_miss = c.self.inside.since_miss; packets = c.self.inside.packets.packets })) c.self.view_is
-    (judged_here c.self.inside.node c.verdict.new.self c.self.inside.since_miss c.self.inside.packets.packets c.args.verdict c.in-Ok.ensures.judged c.verdict.ensures.tid c.verdict.ensures.endpoint)

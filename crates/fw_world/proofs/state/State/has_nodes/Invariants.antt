@@ -1,8 +1,0 @@
-use Rattle.std.proofs.Common.{◌≡◌, drop}
-use Rattle.std.specs.List.{list_all}
-use Rattle.fw_world.specs.Headline.{is_node}
-use Rattle.fw_world.proofs.state.State.has_nodes.Given as goal
-
--- those that are left decide
-abbrev pub invariant-loop-eid : goal.invariant-loop-eid
-invariant-loop-eid g l = list_all (is_node l.self) l.eids ≡ list_all (is_node l.self) (drop l.eid-index l.eids)
