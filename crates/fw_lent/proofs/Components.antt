@@ -44,13 +44,12 @@ items_over n rows now ys same keys whole =
     let long : length ys ≡ length rows = sym (length-map ys key_of) ∙ ap length keys ∙ length-map now key_of ∙ ap length same in
     rw (drop_all (length ys) rows (omega (arith, long)), append-nil ys) (take_all n ys (omega (arith, long)))
 
+-- so they stay apart
 pub apart_over : (n : ℕ) (rows now ys : List RowOf) → AreApart (map key_of rows) → now ≡ rows → map key_of ys ≡ map key_of now → length rows ≤ n
     → AreApart (map key_of (take n (ys ++ drop (length ys) rows)))
 apart_over n rows now ys apart same keys whole = rw (items_over n rows now ys same keys whole, keys, same) apart
 
-pub has_row_at : (rows : List RowOf) (key : Key) → has_key (map key_of rows) key ≡ is_some (row_of rows key)
-has_row_at rows key = has_row rows key
-
+-- one more component
 pub apart_added : (rows : List RowOf) (row : RowOf) (key : Key) → AreApart (map key_of rows) → row.key ≡ key → has_key (map key_of rows) key ≡ false
     → AreApart (map key_of (rows ++ row ∷ []))
 apart_added rows row key apart e absent = apart_more rows row apart (rw e absent)

@@ -1,10 +1,9 @@
--- As long as an image lends what is written, and when none does.
+-- How long what is written is lent, and the value of a bank with it.
 use Rattle.std.proofs.Common.{[], ◌&&◌, ◌++◌, ◌≡◌, ◌+◌, ◌-◌, ◌==◌, ◌∷◌, ◌||◌, Bool, List, None, Option, Some, ap, drop, false, length, nat_eq, option_map, refl, take, true, ℕ}
 use Rattle.std.proofs.lemmas.Bool.{false_from_ne_true}
 use Rattle.std.proofs.lemmas.List.{take-append-drop}
 use Rattle.std.proofs.Math.Seq.{take-add}
 use Rattle.std.specs.List.{starts_with}
-use Rattle.fd_core.specs.Images.{RowOf, StageOf}
 use Rattle.fd_core.specs.Images.{RowOf, StageOf, staged_with}
 use Rattle.fw_lent.proofs.Begins.{begins_both, begun_by, rest_whole}
 use Rattle.fw_lent.specs.Banks.{LentBankOf, can_lend, writing}
@@ -13,7 +12,6 @@ use Rattle.fw_lent.specs.Lending.{is_lent, is_lent_by, lends}
 use Rattle.fw_package.specs.Package.{ComponentOf, PackageText}
 use Rattle.fwup_wire.specs.declared.values.Key.{Key}
 
--- an image that begins with more begins with less
 both_or : (a b c d : Bool) → (a ≡ true → c ≡ true) → (b ≡ true → d ≡ true) → (a || b) ≡ true → (c || d) ≡ true
 both_or true b c d p q e = rw (p refl) refl
 both_or false b true d p q e = refl
@@ -26,6 +24,7 @@ fewer true true false p d e = absurd (cc)
 fewer true false c p d e = absurd (cc)
 fewer false b c p d e = absurd (cc)
 
+-- what lends more lends less
 lends_less : (c : ComponentOf) (key : Key) (size : ℕ) (bytes more : List ℕ) → lends c key size (bytes ++ more) ≡ true → lends c key size bytes ≡ true
 lends_less c key size bytes more e =
     fewer (c.classification == key.classification) (c.identifier == key.identifier) (length c.image == size) (starts_with nat_eq c.image bytes)
@@ -59,7 +58,7 @@ pub goes_on : (image piece : List ℕ) (n : ℕ) → starts_with nat_eq (take (l
 goes_on image piece n e =
     rw (take-add n (length piece) image) (ap (λ rest. take n image ++ rest) (begun_by (drop n image) piece (rw (rest_whole n image) at e)))
 
--- whether what is written is lent
+-- the value of a bank with this image being written
 pub exact : (ps : List PackageText) (stage : Option WrittenOf) → IsStageFrom ps stage → is_lent_in stage ≡ can_lend ps (option_map stage_by stage)
 exact ps None is = refl
 exact ps (Some w) is = is.0

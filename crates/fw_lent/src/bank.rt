@@ -77,7 +77,7 @@ impl<'a> LentBank<'a> {
     }
 
     /// Whether a component is there.
-    #[tactic(auto, using(crate::proofs::Components::has_row_at))]
+    #[tactic(auto, using(fd_core::proofs::Rows::has_row))]
     pub fn has(&self, key: Key) -> bool
         ensures { result ≡ has_key (map key_of self.now.rows) key }
     {
@@ -104,13 +104,13 @@ impl<'a> Bank for LentBank<'a> {
 
     ghost faults = { λ b. b.faults };
 
-    #[tactic(auto, using(crate::proofs::Components::has_row_at))]
+    #[tactic(auto, using(fd_core::proofs::Rows::has_row))]
     fn active(&self, key: Key) -> Option<(&Label, &[u8])> {
         let place = place_of(&self.places, key)?;
         Some(place.active())
     }
 
-    #[tactic(auto, using(crate::proofs::Components::has_row_at))]
+    #[tactic(auto, using(fd_core::proofs::Rows::has_row))]
     fn applied(&self, key: Key) -> Option<(&Label, &[u8])> {
         let place = place_of(&self.places, key)?;
         place.applied()
