@@ -1,0 +1,3 @@
+pub mod Banks
+pub mod Held
+pub mod Lending
