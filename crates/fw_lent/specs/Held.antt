@@ -31,10 +31,10 @@ abbrev pub bytes_by : Option (List ℕ) → ℕ → List ℕ → List ℕ
 bytes_by None count copy = copy
 bytes_by (Some image) count copy = take count image
 
--- a lender has the image's size, and a copy has room for it
+-- a lender has the image's size, and then no memory is taken; a copy has room for the image
 abbrev pub HasRoom : Option (List ℕ) → ℕ → ℕ → ℕ → Type 0
 HasRoom None size count room = size ≤ room
-HasRoom (Some image) size count room = (length image ≡ size) × (count ≤ size)
+HasRoom (Some image) size count room = (length image ≡ size) × ((count ≤ size) × (room ≡ 0))
 
 -- what is written is lent exactly where a package can, and the lender is the image of one
 abbrev pub IsFrom : List PackageText → WrittenOf → Type 0

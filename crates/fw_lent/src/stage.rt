@@ -1,6 +1,7 @@
 //! The image that a bank is being given.
 
 ghost use Rattle.std.specs.Prelude.{[], ◌≡◌, ◌≤◌, ◌+◌, ◌++◌, IfOk, OnErr, OnOk, false, is_some, length, true, vec_capacity};
+ghost use Rattle.std.specs.Cow.{IsBorrowedSlice};
 ghost use Rattle.fw_lent.specs.Held.{IsFrom, image_by};
 ghost use Rattle.fd_core.specs.Images.{image_in};
 ghost use Rattle.fw_lent.specs.Lending.{is_lent};
@@ -117,9 +118,10 @@ impl<'a> Stage<'a> {
         Ok(())
     }
 
-    /// What is written, as an image.
+    /// What is written, as an image. What a package lends isn't copied.
     pub(crate) fn into_image(self) -> Image<'a>
-        ensures { image_by result ≡ image_in self.entry.stage }
+        ensures image { image_by result ≡ image_in self.entry.stage }
+        ensures lent { is_some self.entry.lender ≡ true → IsBorrowedSlice result.bytes }
     {
         let (label, count, copy) = (self.label, self.count, self.copy);
         let bytes = match self.lender {

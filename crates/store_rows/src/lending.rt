@@ -1,6 +1,6 @@
 //! A bank of two components over packages that have images of them.
 
-use fd_core::{Bank, BankFault, Key, Label};
+use fd_core::{Bank, BankFault, Key, Label, MAX_IMAGE};
 use fw_lent::LentBank;
 use fw_package::{Package, crc32};
 use fwup_wire::{Text, Version};
@@ -111,6 +111,9 @@ fn write(
     Ok([begun, half, whole])
 }
 
+/// It is lent from the beginning to the end.
+const LENT: [bool; 3] = [true; 3];
+
 /// What is written of a component, and whether it is lent then: when it is begun, after the first piece, and after the second.
 type Row<'a> = (Key, (&'a [u8], &'a [u8]), [bool; 3]);
 
@@ -171,7 +174,7 @@ fn holds<'a>(alloc: Global, packages: &'a [Package<'a>], row: &Row<'_>) -> Resul
     Ok(is_applied && is_running && bank.applied(*key).is_none() && bank.failures() == 0)
 }
 
-/// Whether each row holds over both packages.
+/// Whether each row holds over these packages.
 fn all_hold<'a>(alloc: Global, packages: &'a [Package<'a>]) -> Result<bool, BankFault> {
     for row in &ROWS {
         if !holds(alloc, packages, row)? {
@@ -179,6 +182,73 @@ fn all_hold<'a>(alloc: Global, packages: &'a [Package<'a>]) -> Result<bool, Bank
         }
     }
     Ok(true)
+}
+
+/// Whether nothing is left of an image that was begun before, of the same component or another.
+fn begins_anew<'a>(alloc: Global, packages: &'a [Package<'a>]) -> Result<bool, BankFault> {
+    let mut bank = bank(alloc, packages)?;
+    let lent = [
+        write(&mut bank, FIRST, (b"abQ", b"defgh"), false)?,
+        write(&mut bank, FIRST, (b"abcdefg", b"X"), false)?,
+        write(&mut bank, SECOND, (b"x", b"yz"), true)?,
+    ];
+    let stand = [
+        has(&bank, FIRST, &[0xAA], None),
+        has(&bank, SECOND, &[0xBB, 0xBB], Some(b"xyz")),
+    ];
+    Ok(lent == [[true, false, false], LENT, LENT] && stand == [true; 2])
+}
+
+/// Whether what was applied is dropped, and can be applied again, as another image or the same.
+fn drops<'a>(alloc: Global, packages: &'a [Package<'a>]) -> Result<bool, BankFault> {
+    let mut bank = bank(alloc, packages)?;
+    let first = write(&mut bank, FIRST, (b"abcd", b"efgh"), true)?;
+    let was_applied = has(&bank, FIRST, &[0xAA], Some(b"abcdefgh"));
+    bank.drop_pending();
+    let is_dropped = has(&bank, FIRST, &[0xAA], None);
+    let second = write(&mut bank, FIRST, (b"abcd", b"efgX"), true)?;
+    let is_other = has(&bank, FIRST, &[0xAA], Some(b"abcdefgX"));
+    let third = write(&mut bank, FIRST, (b"abcd", b"efgh"), true)?;
+    let is_again = has(&bank, FIRST, &[0xAA], Some(b"abcdefgh"));
+    Ok(
+        [first, second, third] == [LENT, [true, true, false], LENT]
+            && [was_applied, is_dropped, is_other, is_again] == [true; 4],
+    )
+}
+
+/// Whether what was written is dropped before it is applied.
+fn drops_the_stage<'a>(alloc: Global, packages: &'a [Package<'a>]) -> Result<bool, BankFault> {
+    let mut bank = bank(alloc, packages)?;
+    let lent = write(&mut bank, SECOND, (b"x", b"yz"), false)?;
+    bank.drop_pending();
+    let stand = [
+        has(&bank, FIRST, &[0xAA], None),
+        has(&bank, SECOND, &[0xBB, 0xBB], None),
+    ];
+    Ok(lent == LENT && !bank.is_lent() && stand == [true; 2])
+}
+
+/// Whether all that is applied runs, lent or copied, and goes on running.
+fn switches<'a>(alloc: Global, packages: &'a [Package<'a>]) -> Result<bool, BankFault> {
+    let mut bank = bank(alloc, packages)?;
+    let lent = [
+        write(&mut bank, FIRST, (b"abcd", b"efgh"), true)?,
+        write(&mut bank, SECOND, (b"x", b"yQ"), true)?,
+    ];
+    bank.switch()?;
+    let runs = both_run(&bank);
+    bank.switch()?;
+    Ok(lent == [LENT, [true, true, false]] && [runs, both_run(&bank)] == [true; 2])
+}
+
+/// Whether both components run what was applied, and no other is there.
+fn both_run(bank: &LentBank<'_>) -> bool {
+    let run = [
+        has(bank, FIRST, b"abcdefgh", None),
+        has(bank, SECOND, b"xyQ", None),
+    ];
+    let known = [bank.has(FIRST), bank.has(SECOND), bank.has(OTHER)];
+    run == [true; 2] && known == [true, true, false] && bank.active(OTHER).is_none()
 }
 
 /// The files of packages with these images.
@@ -204,119 +274,83 @@ fn read_all<'a>(alloc: Global, files: &'a [Vec<u8>]) -> Option<Vec<Package<'a>>>
     Some(packages)
 }
 
+/// What is tried of a bank over packages.
+#[derive(Clone, Copy)]
+enum Trial {
+    Rows,
+    Anew,
+    Drops,
+    Stage,
+    Switches,
+}
+
+/// Whether this holds over packages with these images.
+fn tried(alloc: Global, images: &[Images<'_>], trial: Trial) -> Result<bool, BankFault> {
+    let Ok(files) = files(alloc, images) else {
+        return Err(BankFault::Memory);
+    };
+    let Some(packages) = read_all(alloc, &files) else {
+        return Ok(false);
+    };
+    match trial {
+        Trial::Rows => all_hold(alloc, &packages),
+        Trial::Anew => begins_anew(alloc, &packages),
+        Trial::Drops => drops(alloc, &packages),
+        Trial::Stage => drops_the_stage(alloc, &packages),
+        Trial::Switches => switches(alloc, &packages),
+    }
+}
+
 #[test]
 fn what_a_package_has_is_lent(rt: HostRuntime) -> Result<(), Fail> {
-    let files = files(rt.alloc(), &[ONE, TWO])?;
-    let Some(packages) = read_all(rt.alloc(), &files) else {
-        return Err(Fail::new("no packages"));
-    };
-    assert!(rt; all_hold(rt.alloc(), &packages)?);
+    assert!(rt; tried(rt.alloc(), &[ONE, TWO], Trial::Rows)?);
     Ok(())
-}
-
-#[test]
-fn without_packages_all_is_copied(rt: HostRuntime) -> Result<(), Fail> {
-    let mut bank = bank(rt.alloc(), &[])?;
-    let lent = write(&mut bank, FIRST, (b"abc", b"defgh"), true)?;
-    assert!(rt; lent == [false, false, false]);
-    bank.switch()?;
-    assert!(rt; has(&bank, FIRST, b"abcdefgh", None));
-    assert!(rt; has(&bank, SECOND, &[0xBB, 0xBB], None));
-    Ok(())
-}
-
-/// Whether nothing is left of an image that was begun before, of the same component or another.
-fn begins_anew<'a>(alloc: Global, packages: &'a [Package<'a>]) -> Result<bool, BankFault> {
-    let mut bank = bank(alloc, packages)?;
-    let copied = write(&mut bank, FIRST, (b"abQ", b"defgh"), false)?;
-    let lent = write(&mut bank, FIRST, (b"abcdefg", b"X"), false)?;
-    let other = write(&mut bank, SECOND, (b"x", b"yz"), true)?;
-    Ok(
-        copied == [true, false, false]
-            && lent == [true, true, true]
-            && other == [true, true, true]
-            && has(&bank, FIRST, &[0xAA], None)
-            && has(&bank, SECOND, &[0xBB, 0xBB], Some(b"xyz")),
-    )
 }
 
 #[test]
 fn an_image_is_begun_anew(rt: HostRuntime) -> Result<(), Fail> {
-    let files = files(rt.alloc(), &[ONE, TWO])?;
-    let Some(packages) = read_all(rt.alloc(), &files) else {
-        return Err(Fail::new("no packages"));
-    };
-    assert!(rt; begins_anew(rt.alloc(), &packages)?);
+    assert!(rt; tried(rt.alloc(), &[ONE, TWO], Trial::Anew)?);
     Ok(())
-}
-
-/// Whether what was applied is dropped, and can be applied again, as another image or the same.
-fn drops<'a>(alloc: Global, packages: &'a [Package<'a>]) -> Result<bool, BankFault> {
-    let mut bank = bank(alloc, packages)?;
-    let first = write(&mut bank, FIRST, (b"abcd", b"efgh"), true)?;
-    let was_applied = has(&bank, FIRST, &[0xAA], Some(b"abcdefgh"));
-    bank.drop_pending();
-    let is_dropped = has(&bank, FIRST, &[0xAA], None);
-    let second = write(&mut bank, FIRST, (b"abcd", b"efgX"), true)?;
-    let is_other = has(&bank, FIRST, &[0xAA], Some(b"abcdefgX"));
-    let third = write(&mut bank, FIRST, (b"abcd", b"efgh"), true)?;
-    let is_again = has(&bank, FIRST, &[0xAA], Some(b"abcdefgh"));
-    let fourth = write(&mut bank, SECOND, (b"x", b"yz"), false)?;
-    bank.drop_pending();
-    Ok(
-        first == [true, true, true]
-            && second == [true, true, false]
-            && third == [true, true, true]
-            && fourth == [true, true, true]
-            && was_applied
-            && is_dropped
-            && is_other
-            && is_again
-            && !bank.is_lent()
-            && has(&bank, FIRST, &[0xAA], None)
-            && has(&bank, SECOND, &[0xBB, 0xBB], None),
-    )
 }
 
 #[test]
 fn what_is_applied_can_be_dropped_and_applied_anew(rt: HostRuntime) -> Result<(), Fail> {
-    let files = files(rt.alloc(), &[ONE])?;
-    let Some(packages) = read_all(rt.alloc(), &files) else {
-        return Err(Fail::new("no packages"));
-    };
-    assert!(rt; drops(rt.alloc(), &packages)?);
+    assert!(rt; tried(rt.alloc(), &[ONE], Trial::Drops)?);
     Ok(())
 }
 
-/// Whether all that is applied runs, lent or copied, and goes on running.
-fn switches<'a>(alloc: Global, packages: &'a [Package<'a>]) -> Result<bool, BankFault> {
-    let mut bank = bank(alloc, packages)?;
-    let first = write(&mut bank, FIRST, (b"abcd", b"efgh"), true)?;
-    let second = write(&mut bank, SECOND, (b"x", b"yQ"), true)?;
-    bank.switch()?;
-    let runs = has(&bank, FIRST, b"abcdefgh", None) && has(&bank, SECOND, b"xyQ", None);
-    bank.switch()?;
-    Ok(
-        first == [true, true, true]
-            && second == [true, true, false]
-            && runs
-            && has(&bank, FIRST, b"abcdefgh", None)
-            && has(&bank, SECOND, b"xyQ", None)
-            && bank.has(FIRST)
-            && bank.has(SECOND)
-            && !bank.has(OTHER)
-            && bank.active(OTHER).is_none()
-            && bank.applied(OTHER).is_none(),
-    )
+#[test]
+fn what_is_written_can_be_dropped(rt: HostRuntime) -> Result<(), Fail> {
+    assert!(rt; tried(rt.alloc(), &[ONE], Trial::Stage)?);
+    Ok(())
 }
 
 #[test]
 fn all_that_is_applied_runs(rt: HostRuntime) -> Result<(), Fail> {
-    let files = files(rt.alloc(), &[ONE])?;
-    let Some(packages) = read_all(rt.alloc(), &files) else {
-        return Err(Fail::new("no packages"));
-    };
-    assert!(rt; switches(rt.alloc(), &packages)?);
+    assert!(rt; tried(rt.alloc(), &[ONE], Trial::Switches)?);
+    Ok(())
+}
+
+/// Whether a bank without packages copies what it is given, and has room for the largest image.
+#[tactic(auto, using(crate::proofs::Known::known))]
+fn copies(alloc: Global) -> Result<bool, BankFault> {
+    let mut bank = bank(alloc, &[])?;
+    let lent = write(&mut bank, FIRST, (b"abc", b"defgh"), true)?;
+    bank.switch()?;
+    let stand = [
+        has(&bank, FIRST, b"abcdefgh", None),
+        has(&bank, SECOND, &[0xBB, 0xBB], None),
+    ];
+    if bank.active(FIRST).is_none() {
+        return Ok(false);
+    }
+    bank.begin(FIRST, MAX_IMAGE, &label(3))?;
+    Ok(lent == [false; 3] && stand == [true; 2])
+}
+
+#[test]
+fn without_packages_all_is_copied(rt: HostRuntime) -> Result<(), Fail> {
+    assert!(rt; copies(rt.alloc())?);
     Ok(())
 }
 
