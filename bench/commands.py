@@ -4,7 +4,7 @@ import os
 import time
 
 # What a command printed, its seconds of a processor and of wall time, and its peak memory in MB. A peak is at least that of Python,
-# some 20 MB.
+# some 12 MB.
 Ran = collections.namedtuple("Ran", "text processor wall peak")
 
 
@@ -12,7 +12,11 @@ def measured(arguments):
     """What a command that ends well printed, and what it took."""
     read, write = os.pipe()
     begun = time.monotonic()
-    child = os.posix_spawnp(arguments[0], arguments, os.environ, file_actions=[(os.POSIX_SPAWN_DUP2, write, 1), (os.POSIX_SPAWN_CLOSE, read)])
+    child = os.fork()
+    if child == 0:
+        os.dup2(write, 1)
+        os.close(read)
+        os.execvp(arguments[0], arguments)
     os.close(write)
     with os.fdopen(read) as out:
         text = out.read()

@@ -9,18 +9,16 @@ import statistics
 import sys
 import tempfile
 
-from commands import measured
 from units import IMAGES
-from worlds import config, package
+from worlds import config, package, update
 
 FORMS = ("hex", "text", "pcap")
 
 
-def update(words, form, trace):
+def traced(words, form, trace):
     """The processor and wall seconds of one run, and the size of its trace."""
-    report, spent, seconds, _ = measured(words + (["--trace", trace, "--trace-format", form] if form else []))
-    assert report.count(" session Done ") == 1, report
-    return spent, seconds, os.path.getsize(trace) if form else 0
+    ran = update(words + (["--trace", trace, "--trace-format", form] if form else []))
+    return ran.processor, ran.wall, os.path.getsize(trace) if form else 0
 
 
 def main():
@@ -35,7 +33,7 @@ def main():
         taken = {form: [] for form in (None, *FORMS)}
         for _ in range(runs):
             for form, rows in taken.items():
-                rows.append(update([program, "run", text, folder], form, trace))
+                rows.append(traced([program, "run", text, folder], form, trace))
     print("trace   processor s  of none   wall s  bytes")
     none = statistics.median(row[0] for row in taken[None])
     for form, rows in taken.items():

@@ -8,18 +8,16 @@ import os
 import sys
 import tempfile
 
-from commands import measured
-from worlds import config, package
+from worlds import config, package, update
 
 IMAGES = 3
 
 
-def update(program, path, folder):
+def run(program, path, folder):
     """The processor and wall seconds of one run, the device's packets, and the peak memory in MB."""
-    report, spent, seconds, peak = measured([program, "run", path, folder])
-    assert report.count(" session Done ") == 1, report
-    sent = [int(line.split()[-1]) for line in report.split("\n") if line.startswith("device ")]
-    return spent, seconds, sum(sent), peak
+    ran = update([program, "run", path, folder])
+    sent = [int(line.split()[-1]) for line in ran.text.split("\n") if line.startswith("device ")]
+    return ran.processor, ran.wall, sum(sent), ran.peak
 
 
 def main():
@@ -40,7 +38,7 @@ def main():
         taken = {name: [] for name, _, _ in ways}
         for _ in range(runs):
             for name, program, path in ways:
-                taken[name].append(update(program, path, folder))
+                taken[name].append(run(program, path, folder))
     print("unit         processor s  of 64   wall s  of 64   packets  peak MB  bytes a packet")
     first = [min(column) for column in zip(*taken["64"])]
     for name, rows in taken.items():

@@ -39,6 +39,13 @@ def config(devices, count, path):
     return "\n".join(lines + [f"package {path}"]) + "\n"
 
 
+def update(words):
+    """What a run of one device that ends well took."""
+    ran = measured(words)
+    assert ran.text.count(" session Done ") == 1, ran.text
+    return ran
+
+
 def updates(program, folder, largest):
     """Whole updates over sockets."""
     first = None
