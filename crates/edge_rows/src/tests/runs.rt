@@ -9,7 +9,7 @@ use crate::tests::trials::{Trial, holds};
 use fd_core::State;
 use fw_edge::{Driven, EdgeFault, Link, MemLink};
 use fw_package::Package;
-use fw_world::{Missed, Step, replay};
+use fw_world::{Missed, SentPackets, Step, replay};
 use mctp_wire::Unit;
 use std::alloc::{AllocError, Global};
 use std::test::Fail;
@@ -228,18 +228,24 @@ fn three<'a>(
     trouble: Trouble,
 ) -> Result<(Small<'a>, Option<u32>), AllocError> {
     let mut world = world(alloc, Unit::U64, packages, 3, 0)?;
-    let started = start(&mut world, 9) && start(&mut world, 10) && start(&mut world, 11);
-    let mut steps = Vec::new(alloc);
+    let turns = turns_of_three(alloc, &mut world, trouble);
+    Ok((world, turns))
+}
+
+/// The turns that it takes to drive the world of devices 9 to 11 over such links, from where their updates are started.
+fn turns_of_three(alloc: Global, world: &mut Small<'_>, trouble: Trouble) -> Option<u32> {
+    if !start(world, 9) || !start(world, 10) || !start(world, 11) {
+        return None;
+    }
     let mut links = [
         BadLink::new(alloc, Trouble::Loses(0)),
         BadLink::new(alloc, trouble),
         BadLink::new(alloc, Trouble::Loses(0)),
     ];
-    let turns = match driven(&mut world, &mut links, 100, &mut steps) {
-        Ok(Driven { turns, foreign: 0 }) if started => Some(turns),
+    match driven_over(alloc, world, &mut links, 100) {
+        Some(Driven { turns, foreign: 0 }) => Some(turns),
         _ => None,
-    };
-    Ok((world, turns))
+    }
 }
 
 /// Whether a device runs the image, after an update over perfect links that left it in this state.
@@ -249,15 +255,28 @@ fn is_done(world: &Small<'_>, device: u8, state: State) -> bool {
 
 /// Whether the same packets were sent between the agent and a device in two worlds, each at the same tick.
 fn sent_alike(one: &Small<'_>, other: &Small<'_>, device: u8) -> bool {
-    let (Some(packets), Some(others)) = (one.packets(device), other.packets(device)) else {
-        return false;
-    };
+    match (one.packets(device), other.packets(device)) {
+        (Some(packets), Some(others)) => are_alike(&packets, &others),
+        _ => false,
+    }
+}
+
+/// Whether these packets are the others.
+fn are_alike(packets: &SentPackets<'_>, others: &SentPackets<'_>) -> bool {
     for place in 0..packets.len() {
-        if packets.get(place) != others.get(place) {
+        if !are_alike_at(packets, others, place) {
             return false;
         }
     }
     packets.len() == others.len()
+}
+
+/// Whether these packets and the others have the same one at a place.
+fn are_alike_at(packets: &SentPackets<'_>, others: &SentPackets<'_>, place: usize) -> bool {
+    match (packets.get(place), others.get(place)) {
+        (Some(packet), Some(other)) => packet.date == other.date && packet.bytes == other.bytes,
+        _ => false,
+    }
 }
 
 /// Whether all three are done.

@@ -40,25 +40,17 @@ static ROWS: [Row; 2] = [
 
 /// The offset and the length in a packet with RequestFirmwareData from the worked device.
 fn piece_in(packet: &[u8]) -> Option<(u32, u32)> {
-    match packet {
-        [
-            _,
-            8,
-            DEVICE,
-            _,
-            1,
-            0x80..=0x9F,
-            5,
-            0x15,
-            a,
-            b,
-            c,
-            d,
-            e,
-            f,
-            g,
-            h,
-        ] => Some((
+    let (head, fields) = packet.split_at_checked(8)?;
+    match head {
+        [_, 8, DEVICE, _, 1, 0x80..=0x9F, 5, 0x15] => numbers(fields),
+        _ => None,
+    }
+}
+
+/// Two numbers of four bytes.
+fn numbers(fields: &[u8]) -> Option<(u32, u32)> {
+    match fields {
+        [a, b, c, d, e, f, g, h] => Some((
             u32::from_le_bytes([*a, *b, *c, *d]),
             u32::from_le_bytes([*e, *f, *g, *h]),
         )),
