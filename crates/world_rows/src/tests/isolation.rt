@@ -36,7 +36,7 @@ fn put_for_all(steps: &mut Vec<Step>, step: &Step) -> Result<(), AllocError> {
 /// devices, 11 is updated likewise, and 10 hears nothing.
 fn schedule(alloc: Global, all: bool) -> Result<Vec<Step>, AllocError> {
     let mut steps = Vec::new(alloc);
-    for step in perfect() {
+    for step in perfect(alloc)? {
         if all {
             put_for_all(&mut steps, &step)?;
         }

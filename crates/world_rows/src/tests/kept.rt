@@ -29,13 +29,17 @@ const ASKED: &[u8] = &[0x15, 0xE0, 0x01, 0, 0, 0x20, 0, 0, 0];
 fn file(alloc: Global) -> Result<Vec<u8>, AllocError> {
     let mut out = Vec::new(alloc);
     out.extend_from_slice(TWO_COUNTED)?;
-    for size in [32_u32, 500] {
-        for place in 0..size {
-            let [byte, ..] = place.to_le_bytes();
-            out.push(byte)?;
-        }
-    }
+    count_up(&mut out, 32)?;
+    count_up(&mut out, 500)?;
     Ok(out)
+}
+
+/// Appends so many bytes, byte i being i modulo 256.
+fn count_up(out: &mut Vec<u8>, size: u32) -> Result<(), AllocError> {
+    for place in 0..size {
+        out.push((place % 256) as u8)?;
+    }
+    Ok(())
 }
 
 /// A packet of the device's pair, by its number.

@@ -104,7 +104,11 @@ fn refused_memory_takes_no_step(rt: HostRuntime) -> Result<(), Fail> {
     let packages = [package(&bytes)?];
     let mut made = asked_twice(rt.alloc(), &packages)?;
     let began = made.dead_packets(DEVICE) == 0 && made.answer().is_none();
-    let taken = takes(&mut made, &perfect());
+    let steps = match perfect(rt.alloc()) {
+        Ok(steps) => steps,
+        Err(_) => perfect(rt.alloc())?,
+    };
+    let taken = takes(&mut made, &steps);
     assert!(rt; began && taken && (is_done(&made) || is_failed(&made)));
     Ok(())
 }

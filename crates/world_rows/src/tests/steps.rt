@@ -2,52 +2,34 @@
 
 use fd_core::Verdict;
 use fw_world::{Missed, Step};
+use std::alloc::{AllocError, Global};
+
+/// The update over links that lose nothing, a letter a step: the start, points for ticks, the node that gets the next packet, the
+/// verdicts that the image verifies and is applied, and the activation.
+const UPDATE: &[u8; 43] = b"s.98.98.98.98.98.98.89999.89.89v.89a.89A.98";
 
 /// The schedule of an update over links that lose nothing, in turns.
-pub fn perfect() -> [Step; 43] {
-    [
-        Step::Start(9, 1),
-        Step::Tick(Missed::new()),
-        Step::Deliver(9, 1, 9),
-        Step::Deliver(9, 2, 8),
-        Step::Tick(Missed::new()),
-        Step::Deliver(9, 3, 9),
-        Step::Deliver(9, 4, 8),
-        Step::Tick(Missed::new()),
-        Step::Deliver(9, 5, 9),
-        Step::Deliver(9, 6, 8),
-        Step::Tick(Missed::new()),
-        Step::Deliver(9, 7, 9),
-        Step::Deliver(9, 8, 8),
-        Step::Tick(Missed::new()),
-        Step::Deliver(9, 9, 9),
-        Step::Deliver(9, 10, 8),
-        Step::Tick(Missed::new()),
-        Step::Deliver(9, 11, 9),
-        Step::Deliver(9, 12, 8),
-        Step::Tick(Missed::new()),
-        Step::Deliver(9, 13, 8),
-        Step::Deliver(9, 14, 9),
-        Step::Deliver(9, 15, 9),
-        Step::Deliver(9, 16, 9),
-        Step::Deliver(9, 17, 9),
-        Step::Tick(Missed::new()),
-        Step::Deliver(9, 18, 8),
-        Step::Deliver(9, 19, 9),
-        Step::Tick(Missed::new()),
-        Step::Deliver(9, 20, 8),
-        Step::Deliver(9, 21, 9),
-        Step::Verdict(9, Verdict::VerifyOk),
-        Step::Tick(Missed::new()),
-        Step::Deliver(9, 22, 8),
-        Step::Deliver(9, 23, 9),
-        Step::Verdict(9, Verdict::ApplyOk),
-        Step::Tick(Missed::new()),
-        Step::Deliver(9, 24, 8),
-        Step::Deliver(9, 25, 9),
-        Step::Activate(9),
-        Step::Tick(Missed::new()),
-        Step::Deliver(9, 26, 9),
-        Step::Deliver(9, 27, 8),
-    ]
+pub fn perfect(alloc: Global) -> Result<Vec<Step>, AllocError> {
+    let mut steps = Vec::new(alloc);
+    let mut number: usize = 0;
+    for letter in UPDATE {
+        if letter.is_ascii_digit() {
+            number = number.wrapping_add(1);
+        }
+        steps.push(step_of(*letter, number))?;
+    }
+    Ok(steps)
+}
+
+/// The step of a letter, where a packet that is delivered has this number.
+fn step_of(letter: u8, number: usize) -> Step {
+    match letter {
+        b'8' => Step::Deliver(9, number, 8),
+        b'9' => Step::Deliver(9, number, 9),
+        b'v' => Step::Verdict(9, Verdict::VerifyOk),
+        b'a' => Step::Verdict(9, Verdict::ApplyOk),
+        b'A' => Step::Activate(9),
+        b's' => Step::Start(9, 1),
+        _ => Step::Tick(Missed::new()),
+    }
 }
