@@ -78,7 +78,7 @@ fn come(unit: Unit, steps: &[u8], letters: &[u8]) -> bool {
             return false;
         }
     }
-    steps.len() / 2 == letters.len()
+    steps.len() % 2 == 0 && steps.len() / 2 == letters.len()
 }
 
 /// A situation: its steps, two bytes each, and the letters that come of them. The packets of a message of 256 bytes are 8B, 1B, 2B
