@@ -1,6 +1,8 @@
 """What a command takes."""
 import collections
 import os
+import resource
+import subprocess
 import time
 
 # What a command printed, its seconds of a processor and of wall time, and its peak memory in MB. A peak is at least that of Python,
@@ -23,3 +25,11 @@ def measured(arguments):
     _, status, usage = os.wait4(child, 0)
     assert status == 0, (arguments, status, text)
     return Ran(text, usage.ru_utime + usage.ru_stime, time.monotonic() - begun, usage.ru_maxrss / 1000)
+
+
+def spent(words, **how):
+    """The processor seconds of a command that ends well, run as `subprocess` is told."""
+    before = resource.getrusage(resource.RUSAGE_CHILDREN)
+    subprocess.run(words, check=True, **how)
+    after = resource.getrusage(resource.RUSAGE_CHILDREN)
+    return after.ru_utime + after.ru_stime - before.ru_utime - before.ru_stime

@@ -3,19 +3,20 @@
 
     bench/inspect.py PROGRAM
 
-PROGRAM is the built program. The packages are made here, in a folder of their own that is removed again. What is printed
-last are ratios: twice the records, or twice the components, should take about twice the time, and a package of 200 MB
-should take the time and the memory of one with an image of a byte, since its header alone is read.
+PROGRAM is the built program. The packages are made here, in a folder of their own that is removed again, and read in turn. What
+is printed are medians of processor time, and last ratios: twice the records, or twice the components, should take about twice the
+time, and a package of 200 MB should take the time and the memory of one with an image of a byte, since its header alone is read.
 """
 
 import os
+import statistics
 import struct
 import subprocess
 import sys
 import tempfile
-import time
 import zlib
 
+from commands import spent
 from memory import MIB, needs
 
 IDENTIFIER = bytes.fromhex("F018878CCB7D49439800A02F059ACA02")
@@ -35,14 +36,10 @@ def package(records, components, image):
     return header + struct.pack("<I", zlib.crc32(header)) + bytes(image)
 
 
-def measure(program, path, turns):
-    """The least seconds of so many runs."""
-    seconds = float("inf")
-    for _ in range(turns):
-        begun = time.perf_counter()
-        subprocess.run([program, "inspect", path], stdout=subprocess.DEVNULL, check=True)
-        seconds = min(seconds, time.perf_counter() - begun)
-    return seconds
+def medians(commands, turns):
+    """The median of each command's processor seconds, of so many runs in turn."""
+    seconds = [[spent(words, stdout=subprocess.DEVNULL) for words in commands] for _ in range(turns)]
+    return [statistics.median(column) for column in zip(*seconds)]
 
 
 def main():
@@ -55,19 +52,20 @@ def main():
         "an image of 1 byte": (1, 1, 1),
         "an image of 200 MB": (1, 1, 200_000_000),
     }
-    found = {}
     with tempfile.TemporaryDirectory() as folder:
-        path = os.path.join(folder, "package")
-        for name, (records, components, image) in rows.items():
+        commands = []
+        for number, shape in enumerate(rows.values()):
+            path = os.path.join(folder, str(number))
             with open(path, "wb") as file:
-                file.write(package(records, components, image))
-            seconds, memory = measure(program, path, 60), needs([program, "inspect", path])
-            found[name] = seconds, memory
-            print(f"{name}: {1000 * seconds:.1f} ms, {memory / MIB:.1f} MiB")
+                file.write(package(*shape))
+            commands.append([program, "inspect", path])
+        found = dict(zip(rows, zip(medians(commands, 61), map(needs, commands))))
+    for name, (seconds, memory) in found.items():
+        print(f"{name}: {1000 * seconds:.1f} ms, {memory / MIB:.1f} MiB")
     small = found["one record of 1 use"]
-    spent = {name: seconds - small[0] for name, (seconds, _) in found.items()}
-    print(f"twice the records: {spent['80 records of 1,800 uses'] / spent['40 records of 1,800 uses']:.2f} times the time")
-    print(f"twice the components: {spent['80 records of 1,800 uses'] / spent['80 records of 900 uses']:.2f} times the time")
+    beyond = {name: seconds - small[0] for name, (seconds, _) in found.items()}
+    print(f"twice the records: {beyond['80 records of 1,800 uses'] / beyond['40 records of 1,800 uses']:.2f} times the time")
+    print(f"twice the components: {beyond['80 records of 1,800 uses'] / beyond['80 records of 900 uses']:.2f} times the time")
     byte, image = found["an image of 1 byte"], found["an image of 200 MB"]
     print(f"200 MB: {image[0] / byte[0]:.2f} times the time of 1 byte, {image[1] / byte[1]:.2f} times its memory")
 

@@ -16,8 +16,8 @@ UUID = "00000000-0000-0000-0000-000000000000"
 IDENTIFIER = bytes.fromhex("F018878CCB7D49439800A02F059ACA02")
 
 
-def package(count):
-    """A package of so many images of 1 MiB, for descriptor 0000 3412."""
+def package(count, length=MIB):
+    """A package of so many images of this length, 1 MiB by default, for descriptor 0000 3412."""
     bitmap = bytes([(1 << count) - 1])
     record = struct.pack("<BIBBH", 1, 0, 1, 1, 0) + bitmap + b"A" + bytes.fromhex("000002003412")
     record = struct.pack("<H", len(record) + 2) + record
@@ -25,8 +25,8 @@ def package(count):
     header = IDENTIFIER + struct.pack("<BH", 1, size) + bytes(13) + struct.pack("<HBB", 8, 1, 0)
     header += bytes([1]) + record + struct.pack("<H", count)
     for i in range(count):
-        header += struct.pack("<HHIHHIIBB", 10, 1 + i, 2, 2, 0, size + i * MIB, MIB, 1, 2) + b"v2"
-    image = bytes((i * 31 + (i >> 8)) % 256 for i in range(MIB))
+        header += struct.pack("<HHIHHIIBB", 10, 1 + i, 2, 2, 0, size + i * length, length, 1, 2) + b"v2"
+    image = bytes((i * 31 + (i >> 8)) % 256 for i in range(length))
     return header + struct.pack("<I", zlib.crc32(header)) + image * count
 
 
