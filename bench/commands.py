@@ -28,7 +28,8 @@ def measured(arguments):
 
 
 def spent(words, **how):
-    """The processor seconds of a command that ends well, run as `subprocess` is told."""
+    """The processor seconds of a command that ends well, run as `subprocess` is told: of short ones too, since no fork of Python is in
+    them."""
     before = resource.getrusage(resource.RUSAGE_CHILDREN)
     subprocess.run(words, check=True, **how)
     after = resource.getrusage(resource.RUSAGE_CHILDREN)

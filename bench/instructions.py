@@ -3,7 +3,7 @@
 
 They are counted by valgrind's callgrind, which other load doesn't disturb. Each work is done for some pieces and for twice as many;
 what is printed is the difference by piece, so that the program's start isn't in it; and, where the program of an earlier commit is
-given too, its number and the ratio to it. The instructions of the system aren't counted."""
+given too, its number and the ratio to it. The instructions of the system aren't counted. It needs valgrind."""
 import os
 import re
 import subprocess
@@ -51,20 +51,20 @@ def updated(devices):
     return lambda at, count: (["run", world(at, devices, PIECE * count), at("")], b"")
 
 
-# Each kind of work, by its piece: what does it, how often, and how many pieces that is.
+# Each kind of work, by its piece: what does it, how often, and how many pieces it has each time.
 WORKS = {
-    "a line of answer: Get Endpoint ID": (answered("010908C8008002"), 1_000, 1_000),
-    "a line of answer: GetTID": (answered("010908C801800002"), 1_000, 1_000),
-    "a line of answer: 68 bytes, dropped": (answered("010908C8" + "00" * 64), 1_000, 1_000),
-    "a line of answer: another version": (answered("020908C8008002"), 1_000, 1_000),
-    "a record of inspect": (inspected, 100, 100),
-    "an idle tick, 1 device": (replayed(1, "", "tick 1000\n"), 10, 10_000),
-    "an idle tick, 16 devices": (replayed(16, "", "tick 1000\n"), 4, 4_000),
-    "a request that is delivered again": (replayed(1, START, "deliver 9 1 9\n"), 2_000, 2_000),
-    "an answer that is delivered again": (replayed(1, START + "deliver 9 1 9\n", "deliver 9 2 8\n"), 2_000, 2_000),
-    "a request of the event log": (replayed(1, "", "sel 40\n"), 2_000, 2_000),
-    "240 bytes of a run, 1 device": (updated(1), 200, 200),
-    "240 bytes of a run, 16 devices": (updated(16), 100, 1_600),
+    "a line of answer: Get Endpoint ID": (answered("010908C8008002"), 1_000, 1),
+    "a line of answer: GetTID": (answered("010908C801800002"), 1_000, 1),
+    "a line of answer: 68 bytes, dropped": (answered("010908C8" + "00" * 64), 1_000, 1),
+    "a line of answer: another version": (answered("020908C8008002"), 1_000, 1),
+    "a record of inspect": (inspected, 100, 1),
+    "an idle tick, 1 device": (replayed(1, "", "tick 1000\n"), 10, 1_000),
+    "an idle tick, 16 devices": (replayed(16, "", "tick 1000\n"), 4, 1_000),
+    "a request that is delivered again": (replayed(1, START, "deliver 9 1 9\n"), 2_000, 1),
+    "an answer that is delivered again": (replayed(1, START + "deliver 9 1 9\n", "deliver 9 2 8\n"), 2_000, 1),
+    "a request of the event log": (replayed(1, "", "sel 40\n"), 2_000, 1),
+    "240 bytes of a run, 1 device": (updated(1), 200, 1),
+    "240 bytes of a run, 16 devices": (updated(16), 100, 16),
 }
 
 
@@ -77,9 +77,13 @@ def counted(words, text):
 
 def taken(program, work, folder):
     """The instructions of each further piece of a work."""
-    prepare, count, pieces = work
-    few, many = (counted([program, *words], text) for words, text in (prepare(lambda name: os.path.join(folder, name), n) for n in (count, 2 * count)))
-    return (many - few) / pieces
+    prepare, times, pieces = work
+
+    def instructions(count):
+        words, text = prepare(lambda name: os.path.join(folder, name), count)
+        return counted([program, *words], text)
+
+    return (instructions(2 * times) - instructions(times)) / (times * pieces)
 
 
 def main():
