@@ -51,6 +51,11 @@ none_known side = None
 abbrev pub GrowsAt : Side → List ℕ → EndsOf → EndsOf → Type 0
 GrowsAt side bytes old new = Appends (old side) (new side) bytes × ((other : Side) → other ≢ side → new other ≡ old other)
 
+-- the packet that came, if one did
+abbrev pub came_in : Bool → (packet : List ℕ) → List (List ℕ)
+came_in true packet = packet ∷ []
+came_in false packet = []
+
 -- what the links of a run took and gave, and how many packets of each pair are written to them
 pub record LinksOf : Type 0 where
   pub written : List ℕ

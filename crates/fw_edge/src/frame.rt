@@ -61,28 +61,45 @@ pub fn read_frame<R: Read>(unit: Unit, reader: &mut R) -> Result<RawPacket, Fram
     ensures size { IfOk result (λ p. IsSize unit (length p.items)) }
     ensures fault { IfErr result (λ e. ReadStops unit e (R.remaining reader.old) (R.remaining reader.new)) }
 {
-    let head = match read_up_to(reader, LENGTH_SIZE) {
-        Ok(head) => head,
+    let mut packet = RawPacket::new();
+    match read_frame_into(unit, reader, &mut packet) {
+        Ok(()) => Ok(packet),
+        Err(fault) => Err(fault),
+    }
+}
+
+/// Reads a frame as `read_frame` does, and puts its packet in place of what `packet` holds. After a fault that holds any bytes.
+pub(crate) fn read_frame_into<R: Read>(
+    unit: Unit,
+    reader: &mut R,
+    packet: &mut RawPacket,
+) -> Result<(), FrameFault>
+    ensures ok { OnOk result (Consumes (R.remaining reader.old) (R.remaining reader.new) (frames_of (packet.new.items ∷ []))) }
+    ensures size { OnOk result (IsSize unit (length packet.new.items)) }
+    ensures fault { IfErr result (λ e. ReadStops unit e (R.remaining reader.old) (R.remaining reader.new)) }
+{
+    match read_up_to(reader, LENGTH_SIZE, packet) {
+        Ok(()) => {}
         Err(_) => return Err(FrameFault::Io),
-    };
-    if head.is_empty() {
+    }
+    if packet.is_empty() {
         return Err(FrameFault::End);
     }
-    if head.len() < LENGTH_SIZE {
+    if packet.len() < LENGTH_SIZE {
         return Err(FrameFault::Cut);
     }
-    let size = usize::from(LittleEndian::read_u16(head.as_slice()));
+    let size = usize::from(LittleEndian::read_u16(packet.as_slice()));
     if !is_size(unit, size) {
         return Err(FrameFault::Size);
     }
-    let packet = match read_up_to(reader, size) {
-        Ok(packet) => packet,
+    match read_up_to(reader, size, packet) {
+        Ok(()) => {}
         Err(_) => return Err(FrameFault::Io),
-    };
+    }
     if packet.len() < size {
         return Err(FrameFault::Cut);
     }
-    Ok(packet)
+    Ok(())
 }
 
 /// The bytes of a packet's frame.

@@ -1,8 +1,8 @@
 //! Links between an update agent and a device.
 
-ghost use Rattle.std.specs.Prelude.{[], ◌≡◌, ◌∷◌, IfOk, OnErr, OnOk, is_some, option_map, option_to_list};
+ghost use Rattle.std.specs.Prelude.{[], ◌≡◌, ◌∷◌, false, IfOk, OnErr, OnOk, is_some, option_map, option_to_list};
 ghost use Rattle.fw_edge.specs.Frames.{frames_of};
-ghost use Rattle.fw_edge.specs.Links.{Asks, EndsOf, Fails, GrowsAt, Sends, none_known};
+ghost use Rattle.fw_edge.specs.Links.{Asks, EndsOf, Fails, GrowsAt, Sends, came_in, none_known};
 ghost use Rattle.fw_edge.specs.declared.tally.Tally.{Tally};
 
 use crate::frame::FrameFault;
@@ -41,6 +41,29 @@ pub trait Link {
         ensures gave { IfOk result (λ p. GrowsAt side (frames_of (option_to_list (option_map (λ q. q.items) p))) (gave self.old) (gave self.new)) }
         ensures taken { OnOk result (taken self.new ≡ taken self.old) }
         ensures err { OnErr result (Fails (tally self.old) (tally self.new)) };
+
+    /// Asks for the next packet that came at an end, as `receive` does, and puts it in place of what `packet` holds. Whether there
+    /// was one; where there was none `packet` stays as it is, and after a fault it holds any bytes. Whoever asks often makes the
+    /// place for a packet once.
+    ///
+    /// # Errors
+    /// Those of `receive`.
+    fn receive_into(&mut self, side: Side, packet: &mut RawPacket) -> Result<bool, FrameFault>
+        ensures ok { IfOk result (λ came. Asks came (tally self.old) (tally self.new)) }
+        ensures gave { IfOk result (λ came. GrowsAt side (frames_of (came_in came packet.new.items)) (gave self.old) (gave self.new)) }
+        ensures none { IfOk result (λ came. came ≡ false → packet.new.items ≡ packet.old.items) }
+        ensures taken { OnOk result (taken self.new ≡ taken self.old) }
+        ensures err { OnErr result (Fails (tally self.old) (tally self.new)) }
+    {
+        match self.receive(side) {
+            Ok(Some(came)) => {
+                *packet = came;
+                Ok(true)
+            }
+            Ok(None) => Ok(false),
+            Err(fault) => Err(fault),
+        }
+    }
 
     /// How many calls failed, bytes that are no frame among them.
     fn failures(&self) -> u64

@@ -1,6 +1,6 @@
 //! Packets of a world, written to its links.
 
-ghost use Rattle.std.specs.Prelude.{◌≡◌, ◌<◌, ◌+◌, ◌-◌, IfErr, OnOk, length, map, slice_get};
+ghost use Rattle.std.specs.Prelude.{◌≡◌, ◌≤◌, ◌<◌, ◌+◌, ◌-◌, IfErr, OnOk, length, map, slice_get};
 ghost use Rattle.fw_edge.specs.Ledgers.{NoneFell, packet_counts};
 ghost use Rattle.fw_edge.specs.Links.{end_of, links_at};
 ghost use Rattle.fw_edge.specs.Outcomes.{LinkRefused, LinkWrote, LinksRefused, LinksWrote};
@@ -11,6 +11,7 @@ use crate::driving::EdgeFault;
 use crate::link::Link;
 use fd_core::Bank;
 use fw_world::{SentPackets, Side, World};
+use mctp_wire::{MAX_PACKET, RawPacket};
 
 /// The end of a device's link at which a packet goes out: that of its sender, whom its third byte names (DSP0236).
 fn end_of(packet: &[u8], device: u8) -> Side
@@ -25,6 +26,16 @@ fn end_of(packet: &[u8], device: u8) -> Side
     Side::Agent
 }
 
+/// The packet of these bytes, as a link takes it.
+fn raw(bytes: &[u8]) -> RawPacket
+    requires { length bytes.now ≤ MAX_PACKET }
+    ensures { result.items ≡ bytes.now }
+{
+    let mut packet = RawPacket::new();
+    let _ = packet.try_extend_from_slice(bytes);
+    packet
+}
+
 /// Writes these packets of a pair to its link, each at its sender's end.
 fn write_each<L: Link>(link: &mut L, packets: &SentPackets<'_>, device: u8) -> Result<(), EdgeFault>
     ensures took { OnOk result (TookAll device (L.taken link.old) (map (λ p. p.bytes) packets.now) (L.taken link.new)) }
@@ -32,10 +43,10 @@ fn write_each<L: Link>(link: &mut L, packets: &SentPackets<'_>, device: u8) -> R
     ensures refused { IfErr result (λ e. LinkRefused L.tally e (length packets.now) link.old link.new) }
 {
     for place in 0..packets.len() {
-        let Some(packet) = packets.copied(place) else {
+        let Some(sent) = packets.get(place) else {
             unreachable!()
         };
-        match link.send(end_of(packet.as_slice(), device), &packet) {
+        match link.send(end_of(sent.bytes, device), &raw(sent.bytes)) {
             Ok(()) => {}
             Err(_) => return Err(EdgeFault::Frame),
         }

@@ -1,6 +1,6 @@
 //! Reads and writes of several bytes, which are tried again where they are interrupted.
 
-ghost use Rattle.std.specs.Prelude.{◌≢◌, ◌<◌, ◌≤◌, length, IfErr, IfOk, OnErr, OnOk};
+ghost use Rattle.std.specs.Prelude.{◌≢◌, ◌<◌, ◌≤◌, length, IfErr, OnErr, OnOk};
 ghost use Rattle.std.specs.Io.KnownBytes.{Appends, Consumes, IsAtEnd};
 ghost use Rattle.std.specs.IoError.{error_kind};
 ghost use Rattle.fw_edge.specs.Frames.{BeginsOf, PartOf};
@@ -8,29 +8,33 @@ ghost use Rattle.fw_edge.specs.Frames.{BeginsOf, PartOf};
 use mctp_wire::{MAX_PACKET, RawPacket};
 use std::io::{self, ErrorKind, Read, Write};
 
-/// Reads so many bytes, fewer only where the reader is at its end.
+/// Reads so many bytes in place of what `held` holds, fewer only where the reader is at its end.
 ///
 /// # Errors
 /// Why the reader failed, which isn't that it was interrupted.
-pub(crate) fn read_up_to<R: Read>(reader: &mut R, size: usize) -> io::Result<RawPacket>
+pub(crate) fn read_up_to<R: Read>(
+    reader: &mut R,
+    size: usize,
+    held: &mut RawPacket,
+) -> io::Result<()>
     requires some { 1 ≤ size }
     requires fits { size ≤ MAX_PACKET }
-    ensures bytes { IfOk result (λ b. Consumes (R.remaining reader.old) (R.remaining reader.new) b.items) }
-    ensures within { IfOk result (λ b. length b.items ≤ size) }
-    ensures end { IfOk result (λ b. length b.items < size → IsAtEnd (R.remaining reader.new)) }
+    ensures bytes { OnOk result (Consumes (R.remaining reader.old) (R.remaining reader.new) held.new.items) }
+    ensures within { OnOk result (length held.new.items ≤ size) }
+    ensures end { OnOk result (length held.new.items < size → IsAtEnd (R.remaining reader.new)) }
     ensures part { OnErr result (PartOf (R.remaining reader.old) (R.remaining reader.new) size) }
     ensures retried { IfErr result (λ e. error_kind e ≢ ErrorKind.Interrupted) }
 {
-    let mut held = RawPacket::new();
+    held.clear();
     let mut piece = [0; MAX_PACKET];
     for _ in 0..u64::MAX {
         let most = size - held.len();
         match reader.read(&mut piece[..most]) {
-            Ok(0) => return Ok(held),
+            Ok(0) => return Ok(()),
             Ok(count) => {
                 let _ = held.try_extend_from_slice(&piece[..count]);
                 if count == most {
-                    return Ok(held);
+                    return Ok(());
                 }
             }
             Err(error) => {

@@ -7,7 +7,7 @@ ghost use Rattle.rand_pcg.specs.Pcg.{multiplier_64};
 ghost use Rattle.fw_edge.specs.Fates.{fate_of, generator_after};
 ghost use Rattle.fw_edge.specs.Frames.{frames_of};
 ghost use Rattle.fw_edge.specs.Ledgers.{Writes};
-ghost use Rattle.fw_edge.specs.Links.{Asks, Fails, GrowsAt, Rises, RisesIf, Sends};
+ghost use Rattle.fw_edge.specs.Links.{Asks, Fails, GrowsAt, Rises, RisesIf, Sends, came_in};
 ghost use Rattle.fw_edge.specs.Roughening.{GoOut, PassesOn, PassesSome, Releases, at_once, ends_turn, helds_of, idle_after, is_due, is_late, waits_of};
 
 use crate::fates::{Fate, Roughness, next_fate};
@@ -253,23 +253,50 @@ impl<L: Link + Drop> Link for Rough<L> {
         ensures idle_no_more { OnErr result (self.new.is_idle ≡ false) }
         ensures same { (self.new.generator ≡ self.old.generator) × (self.new.roughness ≡ self.old.roughness) }
     {
-        let packet = match self.link.receive(side) {
-            Ok(packet) => packet,
+        let mut packet = RawPacket::new();
+        match self.receive_into(side, &mut packet) {
+            Ok(true) => Ok(Some(packet)),
+            Ok(false) => Ok(None),
+            Err(fault) => Err(fault),
+        }
+    }
+
+    fn receive_into(&mut self, side: Side, packet: &mut RawPacket) -> Result<bool, FrameFault>
+        ensures ok { IfOk result (λ came. Asks came self.old.tally self.new.tally) }
+        ensures none { IfOk result (λ came. came ≡ false → packet.new.items ≡ packet.old.items) }
+        ensures err { OnErr result (Fails self.old.tally self.new.tally) }
+        ensures gave { IfOk result (λ came. GrowsAt side (frames_of (came_in came packet.new.items)) (L.gave self.old.link) (L.gave self.new.link)) }
+        ensures on { IfOk result (λ came. ends_turn side came self.old.is_idle ≡ false
+            → (L.taken self.new.link ≡ L.taken self.old.link) × (self.new.held ≡ self.old.held) × (self.new.turn ≡ self.old.turn)) }
+        ensures turn { IfOk result (λ came. ends_turn side came self.old.is_idle ≡ true → self.new.turn ≡ min (self.old.turn + 1) (2 ^ 64 - 1)) }
+        ensures released { IfOk result (λ came. ends_turn side came self.old.is_idle ≡ true
+            → Releases self.new.turn (L.taken self.old.link) (L.taken self.new.link) (helds_of self.old.held.items) (helds_of self.new.held.items)) }
+        ensures asked { IfOk result (λ came. Rises (L.tally self.old.link).asked (L.tally self.new.link).asked) }
+        ensures given { IfOk result (λ came. RisesIf came (L.tally self.old.link).given (L.tally self.new.link).given) }
+        ensures refused { OnErr result (Rises (L.tally self.old.link).failures (L.tally self.new.link).failures) }
+        ensures kept { OnErr result (self.new.held ≡ self.old.held) }
+        ensures turn_still { OnErr result ((self.new.turn ≡ self.old.turn) ⊎ ((ends_turn side false self.old.is_idle ≡ true) × (self.new.turn ≡ min (self.old.turn + 1) (2 ^ 64 - 1)))) }
+        ensures idle { IfOk result (λ came. self.new.is_idle ≡ idle_after side came) }
+        ensures idle_no_more { OnErr result (self.new.is_idle ≡ false) }
+        ensures same { (self.new.generator ≡ self.old.generator) × (self.new.roughness ≡ self.old.roughness) }
+    {
+        let came = match self.link.receive_into(side, packet) {
+            Ok(came) => came,
             Err(fault) => {
                 self.is_idle = false;
                 self.tally.fail();
                 return Err(fault);
             }
         };
-        match self.pass_turn(side, packet.is_some()) {
+        match self.pass_turn(side, came) {
             Ok(()) => {}
             Err(fault) => {
                 self.tally.fail();
                 return Err(fault);
             }
         }
-        self.tally.ask(packet.is_some());
-        Ok(packet)
+        self.tally.ask(came);
+        Ok(came)
     }
 
     fn failures(&self) -> u64 {

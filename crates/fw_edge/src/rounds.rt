@@ -111,45 +111,47 @@ fn hand_over<B: Bank + Drop>(
     })
 }
 
-/// Reads a frame at an end of a device's link, if there is one, and hands it over.
+/// Reads a frame at an end of a device's link, if there is one, and hands it over. Its packet is put into `packet`.
 fn read_end<B: Bank + Drop, L: Link>(
     world: &mut World<'_, B>,
     device: u8,
     end: Side,
     link: &mut L,
+    packet: &mut RawPacket,
     steps: &mut Vec<Step>,
 ) -> Result<Frames, EdgeFault>
     ensures read { IfOk result (λ f. EndsRead L.tally L.taken L.gave ((device, end) ∷ []) 1 world.old steps.old.items link.old world.new steps.new.items link.new f.known f.foreign) }
     ensures stopped { IfErr result (λ e. LinkStopped L.tally e ((device, end) ∷ []) world.old steps.old.items link.old world.new steps.new.items link.new) }
 {
-    let frame = match link.receive(end) {
-        Ok(frame) => frame,
+    let came = match link.receive_into(end, packet) {
+        Ok(came) => came,
         Err(_) => return Err(EdgeFault::Frame),
     };
-    let Some(packet) = frame else {
+    if !came {
         return Ok(Frames::none());
-    };
-    match hand_over(world, device, end, &packet, steps) {
+    }
+    match hand_over(world, device, end, packet, steps) {
         Ok(frames) => Ok(frames),
         Err(fault) => Err(fault),
     }
 }
 
-/// Reads a frame at each end of a device's link, the device's first.
+/// Reads a frame at each end of a device's link, the device's first. Its packet is put into `packet`.
 fn read_both<B: Bank + Drop, L: Link>(
     world: &mut World<'_, B>,
     device: u8,
     link: &mut L,
+    packet: &mut RawPacket,
     steps: &mut Vec<Step>,
 ) -> Result<Frames, EdgeFault>
     ensures read { IfOk result (λ f. EndsRead L.tally L.taken L.gave (both_ends device) 2 world.old steps.old.items link.old world.new steps.new.items link.new f.known f.foreign) }
     ensures stopped { IfErr result (λ e. LinkStopped L.tally e (both_ends device) world.old steps.old.items link.old world.new steps.new.items link.new) }
 {
-    let first = match read_end(world, device, Side::Device, link, steps) {
+    let first = match read_end(world, device, Side::Device, link, packet, steps) {
         Ok(frames) => frames,
         Err(fault) => return Err(fault),
     };
-    let second = match read_end(world, device, Side::Agent, link, steps) {
+    let second = match read_end(world, device, Side::Agent, link, packet, steps) {
         Ok(frames) => frames,
         Err(fault) => return Err(fault),
     };
@@ -179,9 +181,10 @@ fn read_round<B: Bank + Drop, L: Link>(
     ensures links { length links.new ≡ length links.old }
 {
     let mut frames = Frames::none();
+    let mut packet = RawPacket::new();
     for place in 0..links.len() {
         let device = eid_at(world, place);
-        let more = match read_both(world, device, &mut links[place], steps) {
+        let more = match read_both(world, device, &mut links[place], &mut packet, steps) {
             Ok(more) => more,
             Err(fault) => return Err(fault),
         };

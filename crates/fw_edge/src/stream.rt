@@ -1,11 +1,11 @@
 //! A link over a byte stream.
 
-ghost use Rattle.std.specs.Prelude.{◌≡◌, ◌≢◌, ◌+◌, IfErr, IfOk, IfSome, None, Ok, OnErr, OnOk, is_some};
+ghost use Rattle.std.specs.Prelude.{◌≡◌, ◌≢◌, ◌+◌, IfErr, IfOk, IfSome, None, Ok, OnErr, OnOk, false, is_some, true};
 ghost use Rattle.std.specs.Io.KnownBytes.{Keeps};
 ghost use Rattle.fw_edge.specs.Frames.{ReadStops, WriteStops};
 ghost use Rattle.fw_edge.specs.Links.{Asks, Fails, Reads, Sends, Writes};
 
-use crate::frame::{FrameFault, read_frame, write_frame};
+use crate::frame::{FrameFault, read_frame_into, write_frame};
 use crate::link::Link;
 use crate::tally::Tally;
 use fw_world::Side;
@@ -85,18 +85,20 @@ impl<S: Read + Write + Drop> StreamLink<S> {
         Ok(())
     }
 
-    /// Reads a frame at an end, if one is on the way there; else it leaves the streams as they are. What the stream of the other
-    /// end holds back goes out before, and nothing else is written there. A frame that can't be read, or before which that doesn't go
-    /// out, is on the way no more: behind a fault the streams of a link give nothing that can be relied on.
-    fn read(&mut self, side: Side) -> Result<Option<RawPacket>, FrameFault>
+    /// Reads a frame at an end, if one is on the way there, and puts its packet in place of what `packet` holds; else it leaves the
+    /// streams and the packet as they are. Whether there was one. What the stream of the other end holds back goes out before, and
+    /// nothing else is written there. A frame that can't be read, or before which that doesn't go out, is on the way no more: behind a
+    /// fault the streams of a link give nothing that can be relied on.
+    fn read(&mut self, side: Side, packet: &mut RawPacket) -> Result<bool, FrameFault>
         ensures tally { self.new.tally ≡ self.old.tally }
         ensures unit { self.new.unit ≡ self.old.unit }
-        ensures no_up { side ≡ Side.Agent → self.old.up ≡ 0 → (result ≡ Ok None) × (self.new ≡ self.old) }
-        ensures no_down { side ≡ Side.Device → self.old.down ≡ 0 → (result ≡ Ok None) × (self.new ≡ self.old) }
-        ensures agent { side ≡ Side.Agent → IfOk result (λ p. IfSome p (λ q. Reads (S.remaining self.old.agent) (S.remaining self.new.agent) self.old.up self.new.up q.items)) }
-        ensures device { side ≡ Side.Device → IfOk result (λ p. IfSome p (λ q. Reads (S.remaining self.old.device) (S.remaining self.new.device) self.old.down self.new.down q.items)) }
-        ensures some_up { side ≡ Side.Agent → self.old.up ≢ 0 → result ≢ Ok None }
-        ensures some_down { side ≡ Side.Device → self.old.down ≢ 0 → result ≢ Ok None }
+        ensures no_up { side ≡ Side.Agent → self.old.up ≡ 0 → (result ≡ Ok false) × (self.new ≡ self.old) }
+        ensures no_down { side ≡ Side.Device → self.old.down ≡ 0 → (result ≡ Ok false) × (self.new ≡ self.old) }
+        ensures agent { side ≡ Side.Agent → IfOk result (λ came. came ≡ true → Reads (S.remaining self.old.agent) (S.remaining self.new.agent) self.old.up self.new.up packet.new.items) }
+        ensures device { side ≡ Side.Device → IfOk result (λ came. came ≡ true → Reads (S.remaining self.old.device) (S.remaining self.new.device) self.old.down self.new.down packet.new.items) }
+        ensures none { IfOk result (λ came. came ≡ false → packet.new.items ≡ packet.old.items) }
+        ensures some_up { side ≡ Side.Agent → self.old.up ≢ 0 → result ≢ Ok false }
+        ensures some_down { side ≡ Side.Device → self.old.down ≢ 0 → result ≢ Ok false }
         ensures agent_fault { side ≡ Side.Agent → IfErr result (λ e. (self.old.up ≡ self.new.up + 1) × ReadStops self.old.unit e (S.remaining self.old.agent) (S.remaining self.new.agent)) }
         ensures device_fault { side ≡ Side.Device → IfErr result (λ e. (self.old.down ≡ self.new.down + 1) × ReadStops self.old.unit e (S.remaining self.old.device) (S.remaining self.new.device)) }
         ensures not_device { side ≡ Side.Agent → Keeps (S.contents self.old.device) (S.contents self.new.device) × (self.new.down ≡ self.old.down) }
@@ -105,21 +107,22 @@ impl<S: Read + Write + Drop> StreamLink<S> {
         match side {
             Side::Agent => {
                 let Some(left) = self.up.checked_sub(1) else {
-                    return Ok(None);
+                    return Ok(false);
                 };
                 self.up = left;
                 flush(&mut self.device)?;
-                Ok(Some(read_frame(self.unit, &mut self.agent)?))
+                read_frame_into(self.unit, &mut self.agent, packet)?;
             }
             Side::Device => {
                 let Some(left) = self.down.checked_sub(1) else {
-                    return Ok(None);
+                    return Ok(false);
                 };
                 self.down = left;
                 flush(&mut self.agent)?;
-                Ok(Some(read_frame(self.unit, &mut self.device)?))
+                read_frame_into(self.unit, &mut self.device, packet)?;
             }
         }
+        Ok(true)
     }
 }
 
@@ -166,10 +169,36 @@ impl<S: Read + Write + Drop> Link for StreamLink<S> {
         ensures not_device { side ≡ Side.Agent → Keeps (S.contents self.old.device) (S.contents self.new.device) × (self.new.down ≡ self.old.down) }
         ensures not_agent { side ≡ Side.Device → Keeps (S.contents self.old.agent) (S.contents self.new.agent) × (self.new.up ≡ self.old.up) }
     {
-        match self.read(side) {
-            Ok(packet) => {
-                self.tally.ask(packet.is_some());
-                Ok(packet)
+        let mut packet = RawPacket::new();
+        match self.receive_into(side, &mut packet) {
+            Ok(true) => Ok(Some(packet)),
+            Ok(false) => Ok(None),
+            Err(fault) => Err(fault),
+        }
+    }
+
+    fn receive_into(&mut self, side: Side, packet: &mut RawPacket) -> Result<bool, FrameFault>
+        ensures ok { IfOk result (λ came. Asks came self.old.tally self.new.tally) }
+        ensures none { IfOk result (λ came. came ≡ false → packet.new.items ≡ packet.old.items) }
+        ensures err { OnErr result (Fails self.old.tally self.new.tally) }
+        ensures unit { self.new.unit ≡ self.old.unit }
+        ensures no_up { side ≡ Side.Agent → self.old.up ≡ 0
+            → (result ≡ Ok false) × (self.new.agent ≡ self.old.agent) × (self.new.device ≡ self.old.device) × (self.new.up ≡ self.old.up) × (self.new.down ≡ self.old.down) }
+        ensures no_down { side ≡ Side.Device → self.old.down ≡ 0
+            → (result ≡ Ok false) × (self.new.agent ≡ self.old.agent) × (self.new.device ≡ self.old.device) × (self.new.up ≡ self.old.up) × (self.new.down ≡ self.old.down) }
+        ensures agent { side ≡ Side.Agent → IfOk result (λ came. came ≡ true → Reads (S.remaining self.old.agent) (S.remaining self.new.agent) self.old.up self.new.up packet.new.items) }
+        ensures device { side ≡ Side.Device → IfOk result (λ came. came ≡ true → Reads (S.remaining self.old.device) (S.remaining self.new.device) self.old.down self.new.down packet.new.items) }
+        ensures some_up { side ≡ Side.Agent → self.old.up ≢ 0 → result ≢ Ok false }
+        ensures some_down { side ≡ Side.Device → self.old.down ≢ 0 → result ≢ Ok false }
+        ensures agent_fault { side ≡ Side.Agent → IfErr result (λ e. (self.old.up ≡ self.new.up + 1) × ReadStops self.old.unit e (S.remaining self.old.agent) (S.remaining self.new.agent)) }
+        ensures device_fault { side ≡ Side.Device → IfErr result (λ e. (self.old.down ≡ self.new.down + 1) × ReadStops self.old.unit e (S.remaining self.old.device) (S.remaining self.new.device)) }
+        ensures not_device { side ≡ Side.Agent → Keeps (S.contents self.old.device) (S.contents self.new.device) × (self.new.down ≡ self.old.down) }
+        ensures not_agent { side ≡ Side.Device → Keeps (S.contents self.old.agent) (S.contents self.new.agent) × (self.new.up ≡ self.old.up) }
+    {
+        match self.read(side, packet) {
+            Ok(came) => {
+                self.tally.ask(came);
+                Ok(came)
             }
             Err(fault) => {
                 self.tally.fail();

@@ -1,8 +1,9 @@
 //! Frames, read and written.
 
-use fw_edge::{FrameFault, Link, MemLink, StreamLink, read_frame, write_frame};
+use fw_edge::{FrameFault, Link, MemLink, Rough, Roughness, StreamLink, read_frame, write_frame};
 use fw_world::Side;
 use mctp_wire::{RawPacket, Unit};
+use std::alloc::Global;
 use std::io::{self, Read, Write};
 use std::test::Fail;
 
@@ -221,6 +222,15 @@ impl Write for Narrow {
     }
 }
 
+/// A stream to which nothing is written yet.
+fn narrow_stream(alloc: Global) -> Narrow {
+    Narrow {
+        bytes: Vec::new(alloc),
+        given: 0,
+        interrupted: false,
+    }
+}
+
 /// A packet of so many bytes, byte i being i.
 fn rising(size: u8) -> RawPacket {
     let mut packet = RawPacket::new();
@@ -234,11 +244,7 @@ fn rising(size: u8) -> RawPacket {
 fn frames_of_each_length_go_and_come_byte_by_byte(rt: HostRuntime) -> Result<(), Fail> {
     for (unit, most) in [(Unit::U64, 68), (Unit::U128, 132)] {
         for size in 1..=most {
-            let mut stream = Narrow {
-                bytes: Vec::new(rt.alloc()),
-                given: 0,
-                interrupted: false,
-            };
+            let mut stream = narrow_stream(rt.alloc());
             write_frame(unit, &mut stream, &rising(size))?;
             assert!(rt; stream.bytes.len() == usize::from(size) + 2, "{size}");
             let packet = read_frame(unit, &mut stream)?;
@@ -267,5 +273,31 @@ fn a_link_in_memory_gives_each_of_many_packets_once(rt: HostRuntime) -> Result<(
     let rest = (link.receive(Side::Device)?, link.receive(Side::Agent)?);
     assert!(rt; matches!(rest, (None, None)) && link.sent() == 136 && link.given() == 136);
     assert!(rt; link.asked() == 138 && link.failures() == 0);
+    Ok(())
+}
+
+/// Whether a link leaves the place that is lent for a packet as it is where none comes, and puts the worked packet into it, in place
+/// of what it holds, where that comes.
+fn fills_a_place<L: Link>(link: &mut L) -> Result<bool, FrameFault> {
+    let mut place = rising(9);
+    let before = link.receive_into(Side::Device, &mut place)?;
+    let is_left = place.as_slice() == rising(9).as_slice();
+    link.send(Side::Agent, &read(Unit::U64, &FRAME)?)?;
+    let came = link.receive_into(Side::Device, &mut place)?;
+    let behind = link.receive_into(Side::Device, &mut place)?;
+    let is_filled = place.as_slice() == PACKET;
+    Ok(!before && is_left && came && !behind && is_filled && link.given() == 1)
+}
+
+#[test]
+fn a_packet_is_put_into_a_place_that_is_lent(rt: HostRuntime) -> Result<(), Fail> {
+    let alloc = rt.alloc();
+    let mut device = narrow_stream(alloc);
+    write_frame(Unit::U64, &mut device, &read(Unit::U64, &FRAME)?)?;
+    let mut stream = StreamLink::new(Unit::U64, narrow_stream(alloc), device);
+    let mut rough = Rough::new(alloc, MemLink::new(alloc), Roughness::none(), 9);
+    assert!(rt; fills_a_place(&mut stream)?);
+    assert!(rt; fills_a_place(&mut MemLink::new(alloc))?);
+    assert!(rt; fills_a_place(&mut rough)?);
     Ok(())
 }

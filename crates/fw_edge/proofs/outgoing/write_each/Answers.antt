@@ -1,6 +1,6 @@
-use Rattle.std.proofs.Common.{◌∙◌, arith, refl, rules, sym}
+use Rattle.std.proofs.Common.{◌∙◌, ap, arith, option_map, refl, rules, sym}
 use Rattle.fw_edge.proofs.Stopping.{refuses_then}
-use Rattle.fw_edge.proofs.Taking.{took_all, took_more}
+use Rattle.fw_edge.proofs.Taking.{bytes_in, took_all, took_more}
 use Rattle.fw_edge.proofs.outgoing.write_each.Goals as goal
 
 pub returns-in-Err-clause-refused : goal.returns-in-Err-clause-refused
@@ -15,8 +15,8 @@ pub loop-place-preserved : goal.loop-place-preserved
 loop-place-preserved g c = record {
   wrote = record { counts = search rules; gave_none = c.in-Ok.ensures.gave ∙ c.loop-place.invariant.wrote.gave_none };
   took =
-      took_more c.args.device (g.L.Link.taken c.args.link.now) (g.L.Link.taken c.loop-place.link) (g.L.Link.taken c.send.new.self) c.args.packets.now c.loop-place.place c.in-Some.packet.items c.end_of.result
-      (sym c.in-Some.ensures) (rw c.as_slice.ensures.value at c.end_of.ensures) c.loop-place.invariant.took c.in-Ok.ensures.taken;
+      took_more c.args.device (g.L.Link.taken c.args.link.now) (g.L.Link.taken c.loop-place.link) (g.L.Link.taken c.send.new.self) c.args.packets.now c.loop-place.place c.in-Some.sent.bytes.now c.end_of.result
+      (ap (option_map bytes_in) (sym c.in-Some.ensures.packet)) c.end_of.ensures c.loop-place.invariant.took (rw c.raw.ensures at c.in-Ok.ensures.taken);
 }
 
 pub returns-clause-took : goal.returns-clause-took
