@@ -1,7 +1,7 @@
 -- Packets that links take, one after the other.
 use Rattle.std.proofs.Common.{◌≡◌, ◌≤◌, ◌<◌, ◌+◌, ◌++◌, ◌∙◌, ℕ, zero, suc, List, [], ◌∷◌, drop, get_or, length, map, slice_get, slice_set, take, Option, Some, None, refl, sym, ap, subst, arith}
 use Rattle.std.specs.Prelude.{option_map}
-use Rattle.std.proofs.lemmas.List.{map-set, take_all}
+use Rattle.std.proofs.lemmas.List.{drop_all, map-set, take_all}
 use Rattle.exch_lane.specs.Lanes.{Sent}
 use Rattle.fw_node.specs.Nodes.{DeviceNodeOf}
 use Rattle.fw_steps.specs.Worlds.{SiteOf}
@@ -47,13 +47,12 @@ took_there (Some x) node ps device written old new is has eid h =
     subst (λ d. TookAll d old (map bytes_in (drop written x.packets)) new) (eid ∙ sym (ap (λ n. n.endpoint.eid) same))
     (subst (λ qs. TookAll device old (map bytes_in (drop written qs)) new) (sym packets) h)
 
-pub took_nowhere : (x : Option SiteOf) (written : ℕ) (ends : EndsOf) → option_map (λ y. y.node) x ≡ None → TookAt x written ends ends
-took_nowhere None written ends is = refl
-took_nowhere (Some x) written ends is = absurd (cc)
-
-pub took_unsent : (x : Option SiteOf) (written : ℕ) (ends : EndsOf) → option_map (λ y. y.packets) x ≡ None → TookAt x written ends ends
-took_unsent None written ends is = refl
-took_unsent (Some x) written ends is = absurd (cc)
+-- all are
+pub took_written : (x : Option SiteOf) (ps : List Sent) (written : ℕ) (ends : EndsOf) → option_map (λ y. y.packets) x ≡ Some ps → length ps ≤ written → TookAt x written ends ends
+took_written None ps written ends has all = refl
+took_written (Some x) ps written ends has all =
+    let packets : x.packets ≡ ps = cc in
+    subst (λ qs. TookAll x.node.endpoint.eid ends (map bytes_in qs) ends) (sym (ap (drop written) packets ∙ drop_all written ps all)) refl
 
 -- The first so many links took what wasn't written, and those behind them, and their counts, are as they were.
 abbrev pub TookBefore : ℕ → List SiteOf → (ws vs : List ℕ) → List EndsOf → List EndsOf → Type 0

@@ -65,6 +65,7 @@ pub(crate) fn sent_at<B: Bank + Drop>(world: &World<'_, B>, place: usize) -> usi
 }
 
 /// Writes the packets of the pair of the device at a place that stand behind so many to its link.
+#[tactic(auto, using(crate::proofs::Taking::took_written))]
 fn write_at<B: Bank + Drop, L: Link>(
     world: &World<'_, B>,
     place: usize,
@@ -78,6 +79,9 @@ fn write_at<B: Bank + Drop, L: Link>(
     let (Some(node), Some(packets)) = (world.device_at(place), world.packets_at(place)) else {
         return Ok(());
     };
+    if packets.len() <= written {
+        return Ok(());
+    }
     match write_each(link, &packets.behind(written), node.eid()) {
         Ok(()) => Ok(()),
         Err(fault) => Err(fault),
