@@ -47,7 +47,7 @@ pub enum Fate {
     Twice(u32, u32),
 }
 
-/// The next number of a generator, below a bound.
+/// The next number of a generator, below a bound. Below 1 nothing is divided: a link that holds nothing back asks so twice a packet.
 #[tactic(auto, unfolding(crate::specs::Fates::word_of, crate::specs::Fates::word_after))]
 fn below(generator: &mut Pcg32, bound: u32) -> u32
     requires { 0 < bound }
@@ -55,7 +55,11 @@ fn below(generator: &mut Pcg32, bound: u32) -> u32
     ensures within { result < bound }
     ensures left { generator.new ≡ word_after generator.old }
 {
-    generator.next_word() % bound
+    let word = generator.next_word();
+    if bound == 1 {
+        return 0;
+    }
+    word % bound
 }
 
 /// What becomes of the next packet. It takes four numbers of the generator, whatever that is.

@@ -19,7 +19,7 @@ const LENGTH_SIZE: usize = 2;
 const MAX_FRAME: usize = LENGTH_SIZE + MAX_PACKET;
 
 /// The bytes of a frame.
-type Frame = ArrayVec<u8, MAX_FRAME>;
+pub(crate) type Frame = ArrayVec<u8, MAX_FRAME>;
 
 /// Why a frame isn't read or written, or a link gives or takes none.
 #[derive(Clone, Copy, Debug, PartialEq, Eq, Error)]
@@ -102,16 +102,15 @@ pub(crate) fn read_frame_into<R: Read>(
     Ok(())
 }
 
-/// The bytes of a packet's frame.
-fn frame(packet: &RawPacket) -> Frame
-    ensures { result.items ≡ frame_of packet.now.items }
+/// Puts the bytes of a packet's frame in place of what `frame` holds.
+fn put_frame(packet: &RawPacket, frame: &mut Frame)
+    ensures { frame.new.items ≡ frame_of packet.now.items }
 {
     let mut length = [0; LENGTH_SIZE];
     LittleEndian::write_u16(&mut length, packet.len() as u16);
-    let mut frame = Frame::new();
+    frame.clear();
     let _ = frame.try_extend_from_slice(&length);
     let _ = frame.try_extend_from_slice(packet.as_slice());
-    frame
 }
 
 /// Writes the frame of a packet to a network with this transmission unit. Writes that are interrupted are tried again.
@@ -128,10 +127,25 @@ pub fn write_frame<W: Write>(
     ensures size { OnOk result (IsSize unit (length packet.now.items)) }
     ensures fault { IfErr result (λ e. WriteStops unit e (W.contents writer.old) (W.contents writer.new) packet.now.items) }
 {
+    let mut frame = Frame::new();
+    write_frame_from(unit, writer, packet, &mut frame)
+}
+
+/// Writes the frame of a packet as `write_frame` does. It is made in place of what `frame` holds.
+pub(crate) fn write_frame_from<W: Write>(
+    unit: Unit,
+    writer: &mut W,
+    packet: &RawPacket,
+    frame: &mut Frame,
+) -> Result<(), FrameFault>
+    ensures ok { OnOk result (Appends (W.contents writer.old) (W.contents writer.new) (frames_of (packet.now.items ∷ []))) }
+    ensures size { OnOk result (IsSize unit (length packet.now.items)) }
+    ensures fault { IfErr result (λ e. WriteStops unit e (W.contents writer.old) (W.contents writer.new) packet.now.items) }
+{
     if !is_size(unit, packet.len()) {
         return Err(FrameFault::Size);
     }
-    let frame = frame(packet);
+    put_frame(packet, frame);
     match write_whole(writer, frame.as_slice()) {
         Ok(()) => Ok(()),
         Err(_) => Err(FrameFault::Io),

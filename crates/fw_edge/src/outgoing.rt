@@ -26,14 +26,13 @@ fn end_of(packet: &[u8], device: u8) -> Side
     Side::Agent
 }
 
-/// The packet of these bytes, as a link takes it.
-fn raw(bytes: &[u8]) -> RawPacket
+/// Puts these bytes in place of what a packet holds.
+fn put(packet: &mut RawPacket, bytes: &[u8])
     requires { length bytes.now ≤ MAX_PACKET }
-    ensures { result.items ≡ bytes.now }
+    ensures { packet.new.items ≡ bytes.now }
 {
-    let mut packet = RawPacket::new();
+    packet.clear();
     let _ = packet.try_extend_from_slice(bytes);
-    packet
 }
 
 /// Writes these packets of a pair to its link, each at its sender's end.
@@ -42,11 +41,13 @@ fn write_each<L: Link>(link: &mut L, packets: &SentPackets<'_>, device: u8) -> R
     ensures wrote { OnOk result (LinkWrote L.tally L.gave (length packets.now) link.old link.new) }
     ensures refused { IfErr result (λ e. LinkRefused L.tally e (length packets.now) link.old link.new) }
 {
+    let mut packet = RawPacket::new();
     for place in 0..packets.len() {
         let Some(sent) = packets.get(place) else {
             unreachable!()
         };
-        match link.send(end_of(sent.bytes, device), &raw(sent.bytes)) {
+        put(&mut packet, sent.bytes);
+        match link.send(end_of(sent.bytes, device), &packet) {
             Ok(()) => {}
             Err(_) => return Err(EdgeFault::Frame),
         }

@@ -5,7 +5,7 @@ ghost use Rattle.std.specs.Io.KnownBytes.{Keeps};
 ghost use Rattle.fw_edge.specs.Frames.{ReadStops, WriteStops};
 ghost use Rattle.fw_edge.specs.Links.{Asks, Fails, Reads, Sends, Writes};
 
-use crate::frame::{FrameFault, read_frame_into, write_frame};
+use crate::frame::{Frame, FrameFault, read_frame_into, write_frame_from};
 use crate::link::Link;
 use crate::tally::Tally;
 use fw_world::Side;
@@ -25,6 +25,8 @@ pub struct StreamLink<S: Read + Write + Drop> {
     /// Frames on the way to the device.
     down: u64,
     tally: Tally,
+    /// Where the frames that are written are made.
+    frame: Frame,
 }
 
 /// Lets go out what a stream holds back.
@@ -58,6 +60,7 @@ impl<S: Read + Write + Drop> StreamLink<S> {
             up: 0,
             down: 0,
             tally: Tally::new(),
+            frame: Frame::new(),
         }
     }
 
@@ -74,11 +77,11 @@ impl<S: Read + Write + Drop> StreamLink<S> {
     {
         match side {
             Side::Agent => {
-                write_frame(self.unit, &mut self.agent, packet)?;
+                write_frame_from(self.unit, &mut self.agent, packet, &mut self.frame)?;
                 self.down = self.down.saturating_add(1);
             }
             Side::Device => {
-                write_frame(self.unit, &mut self.device, packet)?;
+                write_frame_from(self.unit, &mut self.device, packet, &mut self.frame)?;
                 self.up = self.up.saturating_add(1);
             }
         }

@@ -16,7 +16,7 @@ loop-place-preserved g c = record {
   wrote = record { counts = search rules; gave_none = c.in-Ok.ensures.gave ∙ c.loop-place.invariant.wrote.gave_none };
   took =
       took_more c.args.device (g.L.Link.taken c.args.link.now) (g.L.Link.taken c.loop-place.link) (g.L.Link.taken c.send.new.self) c.args.packets.now c.loop-place.place c.in-Some.sent.bytes.now c.end_of.result
-      (ap (option_map bytes_in) (sym c.in-Some.ensures.packet)) c.end_of.ensures c.loop-place.invariant.took (rw c.raw.ensures at c.in-Ok.ensures.taken);
+      (ap (option_map bytes_in) (sym c.in-Some.ensures.packet)) c.end_of.ensures c.loop-place.invariant.took (rw c.put.ensures at c.in-Ok.ensures.taken);
 }
 
 pub returns-clause-took : goal.returns-clause-took
