@@ -1,6 +1,6 @@
 -- Parts of a turn that stop, and what was taken before.
 use Rattle.std.proofs.Common.{◌≡◌, ◌≢◌, ◌<◌, ◌+◌, ◌++◌, ◌-◌, ◌^◌, ◌∙◌, ℕ, zero, suc, Bool, List, [], ◌∷◌, Some, drop, inl, inr, length, map, slice_get, take, append_assoc, refl, sym, ap, subst, arith}
-use Rattle.std.proofs.lemmas.List.{map-append}
+use Rattle.std.proofs.lemmas.List.{length-append, map-append}
 use Rattle.fw_message.specs.declared.side.Side.{Side}
 use Rattle.fw_message.specs.declared.side.Side.TheVariants as sides
 use Rattle.fw_steps.specs.Worlds.{WorldOf, eids_of}
@@ -17,6 +17,7 @@ use Rattle.fw_edge.specs.declared.tally.Tally.{Tally}
 use Rattle.fw_edge.proofs.Gaining.{as_many_sites}
 use Rattle.fw_edge.proofs.Going.{drives_none, drives_same, goes_off}
 use Rattle.fw_edge.proofs.Naming.{drives_eids, eid_there}
+use Rattle.fw_edge.proofs.Rising.{map_length}
 use Rattle.fw_edge.proofs.Turning.{hears_append}
 
 -- a packet isn't taken behind so many
@@ -29,11 +30,11 @@ refuses_then k o m n h f = record {
 }
 
 -- no end was asked
-asks_none : (e : EdgeFault) (w : WorldOf) (ss : List Step) (device : ℕ) (side : Side) → e ≡ faults.Frame → AsksSome e ((device, side) ∷ []) w ss w ss
+abbrev asks_none : (e : EdgeFault) (w : WorldOf) (ss : List Step) (device : ℕ) (side : Side) → e ≡ faults.Frame → AsksSome e ((device, side) ∷ []) w ss w ss
 asks_none e w ss device side is = record { asks = []; failed = (device, side); rest = []; are = refl; hears = (refl, refl); known = λ other. absurd (other is) }
 
 -- or some were, of more
-pub asks_wider : (e : EdgeFault) (ends more : List (ℕ × Side)) (w v : WorldOf) (before after : List Step) → AsksSome e ends w before v after → AsksSome e (ends ++ more) w before v after
+abbrev pub asks_wider : (e : EdgeFault) (ends more : List (ℕ × Side)) (w v : WorldOf) (before after : List Step) → AsksSome e ends w before v after → AsksSome e (ends ++ more) w before v after
 asks_wider e ends more w v before after h = record {
   asks = h.asks;
   failed = h.failed;
@@ -44,7 +45,7 @@ asks_wider e ends more w v before after h = record {
 }
 
 -- behind others
-pub asks_on : (e : EdgeFault) (asks : List Ask) (ends more : List (ℕ × Side)) (w u v : WorldOf) (before mid after : List Step) → map (λ a. (a.device, a.side)) asks ≡ ends → Hears w before asks u mid
+abbrev pub asks_on : (e : EdgeFault) (asks : List Ask) (ends more : List (ℕ × Side)) (w u v : WorldOf) (before mid after : List Step) → map (λ a. (a.device, a.side)) asks ≡ ends → Hears w before asks u mid
     → AsksSome e more u mid v after → AsksSome e (ends ++ more) w before v after
 asks_on e asks ends more w u v before mid after are hears k = record {
   asks = asks ++ k.asks;
@@ -99,6 +100,8 @@ link_failed t e device side w ss old new is f = record {
   fewer = λ same. omega arith;
   few = omega arith;
   asked_rise = λ lt. f.asked ∙ more (t old).asked;
+  unanswered = λ same. refl;
+  unhanded = λ other. absurd (other is);
 }
   where
     more : (k : ℕ) → k ≡ k + 0
@@ -130,6 +133,8 @@ link_refused t e device side w v before after gave old new r bytes known a = rec
   fewer = λ is. memory_is_no_frame e r.fault is;
   few = omega arith;
   asked_rise = λ lt. rises_by (t old).asked (t new).asked a.asked lt;
+  unanswered = λ is. memory_is_no_frame e r.fault is;
+  unhanded = λ other. refl;
 }
 
 -- the first of both ends
@@ -146,6 +151,8 @@ link_first t e device w v before after old new h = record {
   fewer = λ is. (let less = h.fewer is in omega arith);
   few = let less = h.few in omega arith;
   asked_rise = h.asked_rise;
+  unanswered = h.unanswered;
+  unhanded = h.unhanded;
 }
 
 -- and the second
@@ -163,8 +170,13 @@ link_second t taken gave e device w u v before mid after old between new known f
   fewer = λ is. (let less = k.fewer is in omega arith);
   few = let less = k.few in omega arith;
   asked_rise = both;
+  unanswered = λ is. (let last = k.unanswered is in omega (arith, all));
+  unhanded = λ other. (let last = k.unhanded other in omega (arith, all));
 }
   where
+    all : length (h.came.asks ++ k.some.asks) ≡ 1 + length k.some.asks
+    all = length-append h.came.asks k.some.asks ∙ ap (λ n. n + length k.some.asks) (sym (map_length (λ a. (a.device, a.side)) h.came.asks) ∙ ap length h.came.ends_are)
+
     sum : (a b c n : ℕ) → n ≡ b + c → b ≡ a + 1 → n ≡ a + (1 + c)
     sum a b c n f g = omega arith
 

@@ -34,8 +34,9 @@ pub record EndsRead {A : Type 0} (tally : A → Tally) (taken gave : A → EndsO
   pub took_none : taken new ≡ taken old
   pub reads : Reads asked (known + foreign) (tally old) (tally new)
 
--- A fault ended that, at one of the ends: those before it were asked, and no others. The steps that were taken are listed; the fault isn't
--- the clock's, and the link's only where it failed, once.
+-- A fault ended that, at one of the ends: those before it were asked, and no others. That end gave no answer, where the fault is the link's,
+-- and else a frame that isn't handed over. The steps that were taken are listed; the fault isn't the clock's, and the link's only where it
+-- failed, once.
 pub record LinkStopped {A : Type 0} (tally : A → Tally) (told : EdgeFault) (ends : List (ℕ × Side)) (w : WorldOf) (before : List Step) (old : A) (v : WorldOf) (after : List Step) (new : A) : Type 0 where
   pub drives : Drives w before v after
   pub no_tick : ticks_in after ≡ ticks_in before
@@ -47,6 +48,8 @@ pub record LinkStopped {A : Type 0} (tally : A → Tally) (told : EdgeFault) (en
   pub fewer : told ≡ faults.Frame → answered < length ends
   pub few : answered ≤ length ends
   pub asked_rise : (tally new).asked < 2 ^ 64 - 1 → (tally new).asked ≡ (tally old).asked + answered
+  pub unanswered : told ≡ faults.Frame → answered ≡ length some.asks
+  pub unhanded : told ≢ faults.Frame → answered ≡ length some.asks + 1
 
 -- No link failed, was asked for a frame, or gave one; and each took the packets by which the count of its pair rose.
 pub record LinksWrote {A : Type 0} (tally : A → Tally) (before after : List ℕ) (olds news : List A) : Type 0 where
