@@ -1,5 +1,6 @@
 //! Frames, read and written.
 
+use crate::tests::links::{BadLink, Trouble};
 use fw_edge::{FrameFault, Link, MemLink, Rough, Roughness, StreamLink, read_frame, write_frame};
 use fw_world::Side;
 use mctp_wire::{RawPacket, Unit};
@@ -299,5 +300,19 @@ fn a_packet_is_put_into_a_place_that_is_lent(rt: HostRuntime) -> Result<(), Fail
     assert!(rt; fills_a_place(&mut stream)?);
     assert!(rt; fills_a_place(&mut MemLink::new(alloc))?);
     assert!(rt; fills_a_place(&mut rough)?);
+    Ok(())
+}
+
+#[test]
+fn a_fault_is_handed_on_as_it_is_told_below(rt: HostRuntime) -> Result<(), Fail> {
+    let alloc = rt.alloc();
+    let below = StreamLink::new(Unit::U64, narrow_stream(alloc), narrow_stream(alloc));
+    let mut rough = Rough::new(alloc, below, Roughness::none(), 9);
+    rough.send(Side::Agent, &rising(7))?;
+    let fault = rough.receive(Side::Device).err();
+    assert!(rt; fault == Some(FrameFault::End) && rough.failures() == 1);
+    let mut bad = BadLink::new(alloc, Trouble::Fails(1));
+    let fault = bad.receive_into(Side::Device, &mut rising(7)).err();
+    assert!(rt; fault == Some(FrameFault::Io) && bad.failures() == 1);
     Ok(())
 }
