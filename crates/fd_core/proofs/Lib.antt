@@ -1,4 +1,4 @@
-mod Answering
+pub mod Answering
 pub mod Components
 mod MemBanks
 mod Parameters

@@ -124,6 +124,13 @@ impl<B: Bank> Device<B> {
         self.unit
     }
 
+    /// What identifies the device.
+    pub fn descriptors(&self) -> &DescriptorList
+        ensures { result.now ≡ self.now.device.descriptors }
+    {
+        &self.descriptors
+    }
+
     /// The state.
     pub fn state(&self) -> State
         ensures { result ≡ state_of self.now.device.phase }
@@ -154,7 +161,8 @@ impl<B: Bank> Device<B> {
 
     /// The keys of the device's components, in configured order, each with its index.
     pub fn keys(&self) -> &[Component]
-        ensures { result.now ≡ self.now.device.components }
+        ensures keys { result.now ≡ self.now.device.components }
+        ensures few { length result.now ≤ 3 }
     {
         self.components.as_slice()
     }

@@ -22,7 +22,6 @@
 -- THE OPERATOR'S CALLS.
 -- - `Places`: places among the agent's halves.
 -- - `Calls`: the operator's calls of the agent, by what they make of one of its halves.
--- - `Speaking`: what the agent's sessions wish can be said, by what its halves' sessions wish.
 mod Addressed
 mod Again
 mod AgentTicks
@@ -38,5 +37,4 @@ mod Places
 mod Pushed
 mod Readings
 mod Rows
-mod Speaking
 mod Working

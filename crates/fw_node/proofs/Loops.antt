@@ -1,5 +1,6 @@
 -- A loop that changes each element and sends what each gives.
-use Rattle.std.proofs.Common.{◌≡◌, ◌∙◌, ◌<◌, ◌≤◌, ◌+◌, ◌*◌, ℕ, zero, suc, List, [], ◌∷◌, ◌++◌, map, take, drop, flat_map, length, get_or, slice_get, slice_set, Some, sym, ap, arith}
+use Rattle.std.proofs.Common.{◌≡◌, ◌∙◌, ◌<◌, ◌≤◌, ◌+◌, ◌*◌, ℕ, zero, suc, List, [], ◌∷◌, ◌++◌, map, take, drop, flat_map, length, get_or, slice_get, slice_set, Some, sym, ap, subst, arith}
+use Rattle.std.specs.List.{AllByRecursion}
 use Rattle.std.proofs.Math.ListN.{get_or-map}
 use Rattle.std.proofs.lemmas.List.Edits.{map_over_more}
 use Rattle.std.proofs.lemmas.Grind.{flat_map-append}
@@ -82,3 +83,16 @@ pub fits_all : {X Y : Type 0} (g : X → List Y) (f : X → X) (xs : List X) (i 
 fits_all g f xs i out now end within h =
     let whole = ap (λ l. length (flat_map g (map f l))) (take_all i xs end) in
     omega (arith, h, whole, within)
+
+-- what holds of each element so far, and of the next one
+holds_more : {A : Type 0} (P : A → Type 0) (xs : List A) (x : A) → AllByRecursion P xs → P x → AllByRecursion P (xs ++ x ∷ [])
+holds_more P [] x all is = (is, tt)
+holds_more P (y ∷ xs) x all is = (all.0, holds_more P xs x all.1 is)
+
+pub holds_next : {A : Type 0} (P : A → Type 0) (xs : List A) (i : ℕ) (x : A) → i < length xs → x ≡ get_or xs i x
+    → AllByRecursion P (take i xs) → P x → AllByRecursion P (take (i + 1) xs)
+holds_next P xs i x lt is all one =
+    subst (AllByRecursion P) (sym (take_more xs i x lt ∙ ap (λ y. take i xs ++ y ∷ []) (sym is))) (holds_more P (take i xs) x all one)
+
+pub holds_of_all : {A : Type 0} (P : A → Type 0) (xs : List A) (i : ℕ) → length xs ≤ i → AllByRecursion P (take i xs) → AllByRecursion P xs
+holds_of_all P xs i end all = subst (AllByRecursion P) (take_all i xs end) all

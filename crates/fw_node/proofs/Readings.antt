@@ -1,5 +1,5 @@
 -- What a packet is for a node depends on what its bytes read as alone.
-use Rattle.std.proofs.Common.{◌≡◌, ◌∙◌, ◌==◌, ℕ, Bool, true, false, if◌then◌else◌, List, [], Option, Some, None, IfSome, Result, Ok, Err, refl, sym, ap, subst}
+use Rattle.std.proofs.Common.{◌≡◌, ◌∙◌, ◌==◌, ℕ, Bool, true, false, if◌then◌else◌, List, [], Option, Some, None, Result, Ok, Err, refl, sym, ap}
 use Rattle.mctp_wire.specs.Packet as wire
 use Rattle.mctp_wire.specs.Packet.{IsRead, spelling}
 use Rattle.mctp_wire.specs.declared.fault.WireFault.{WireFault}
@@ -14,10 +14,10 @@ use Rattle.pldm_base.specs.declared.terminus.Role.TheVariants as roles
 use Rattle.pldm_exch.specs.Sides.{AskerRow, TakerRow, asker_packet, taker_packet}
 use Rattle.fw_package.specs.Package.{PackageText}
 use Rattle.ua_core.specs.Session.{TimedOf}
-use Rattle.fw_node.specs.Agents.{AgentOf, SpeaksHearing, agent_hears, agent_unmoved, any_packet, half_at, half_heard, hearer, hears_at, place_heard}
+use Rattle.fw_node.specs.Agents.{AgentOf, agent_hears, agent_unmoved, any_packet, half_at, half_heard, hears_at, place_heard}
 use Rattle.fw_node.specs.Cores.{device_core, session_core}
 use Rattle.fw_node.specs.Halves.{CoreOf, HalfHeard, HalfOf, half_hears, half_hears_by, half_takes}
-use Rattle.fw_node.specs.Nodes.{DeviceNodeOf, IsTold, SpeaksAfter, device_hears, finished}
+use Rattle.fw_node.specs.Nodes.{DeviceNodeOf, device_hears, finished}
 
 -- both read alike at each unit
 abbrev pub ReadAlike : List ℕ → List ℕ → Type 0
@@ -80,31 +80,5 @@ pub agent_unread : (packages : List PackageText) (n : AgentOf) (bytes : List ℕ
 agent_unread packages n bytes now e unread =
     ap (λ r. if n.deaf == 0 then hears_at packages n bytes now (place_heard n.halves r) (half_at n.halves (place_heard n.halves r)) else agent_unmoved n) (sym unread)
     ∙ agent_deaf (n.deaf == 0) n
-
--- what is said of the half that hears
-said_alike : {X : Type 0} (o : Option X) (P Q : X → Type 0) → ((x : X) → P x → Q x) → IfSome o P → IfSome o Q
-said_alike None P Q to h = tt
-said_alike (Some x) P Q to h = to x h
-
-hearer_alike : (n : AgentOf) (a b : List ℕ) → ReadAlike a b → hearer n a ≡ hearer n b
-hearer_alike n a b alike = ap (λ r. half_at n.halves (place_heard n.halves r)) (alike U128)
-
-pub told_alike : (packages : List PackageText) (n : AgentOf) (a b : List ℕ) → ReadAlike a b
-    → IfSome (hearer n b) (λ h. IsTold h.core.session.unit (half_hears (session_core packages) true h b))
-    → IfSome (hearer n a) (λ h. IsTold h.core.session.unit (half_hears (session_core packages) true h a))
-told_alike packages n a b alike told =
-    subst (λ o. IfSome o (λ h. IsTold h.core.session.unit (half_hears (session_core packages) true h a))) (sym (hearer_alike n a b alike))
-    (said_alike (hearer n b) (λ h. IsTold h.core.session.unit (half_hears (session_core packages) true h b)) (λ h. IsTold h.core.session.unit (half_hears (session_core packages) true h a))
-    (λ h. subst (IsTold h.core.session.unit) (sym (half_alike (session_core packages) true h a b alike))) told)
-
-pub speaks_alike : (packages : List PackageText) (n : AgentOf) (a b : List ℕ) → ReadAlike a b
-    → IfSome (hearer n b) (SpeaksHearing packages n b) → IfSome (hearer n a) (SpeaksHearing packages n a)
-speaks_alike packages n a b alike speaks =
-    subst (λ o. IfSome o (SpeaksHearing packages n a)) (sym (hearer_alike n a b alike))
-    (said_alike (hearer n b) (SpeaksHearing packages n b) (SpeaksHearing packages n a)
-    (λ h. subst (λ heard. SpeaksAfter (session_core packages) h.core (finished roles.Agent n.endpoint n.tid heard).half.core) (sym (half_alike (session_core packages) true h a b alike))) speaks)
-
-pub nobody_hears : (n : AgentOf) (bytes : List ℕ) (e : WireFault) (P : HalfOf TimedOf → Type 0) → Err e ≡ wire.packet_of U128 bytes → IfSome (hearer n bytes) P
-nobody_hears n bytes e P unread = subst (λ r. IfSome (half_at n.halves (place_heard n.halves r)) P) unread tt
 
 pub ruleset readings = (spelling_reads)

@@ -17,7 +17,7 @@ use Rattle.ua_core.specs.Session.{SessionOf, TimedOf}
 use Rattle.fw_node.specs.BothEnds.{ends_new}
 use Rattle.fw_node.specs.Cores.{session_core}
 use Rattle.fw_node.specs.Halves.{HalfOf, half_grows, half_hears, half_restarts, half_ticks, half_waits, idled, recast, silenced}
-use Rattle.fw_node.specs.Nodes.{MaySpeak, NodeHeard, SpeaksAfter, finished, half_of}
+use Rattle.fw_node.specs.Nodes.{NodeHeard, finished, half_of}
 use Rattle.fw_node.specs.Notes.{noted}
 use Rattle.fw_node.specs.Packets.{all_packets, sent_by}
 
@@ -80,18 +80,6 @@ abbrev pub hears_at : List PackageText → AgentOf → List ℕ → (now : ℕ) 
 hears_at packages n bytes now (Some place) (Some h) =
     half_heard n now place h (finished roles.Agent n.endpoint n.tid (half_hears (session_core packages) true h bytes))
 hears_at packages n bytes now place h = agent_unmoved n
-
--- what the session of a half wishes, if it wishes anything, can be said
-abbrev pub HalfMaySpeak : List PackageText → HalfOf TimedOf → Type 0
-HalfMaySpeak packages h = MaySpeak (session_core packages) h.core
-
--- after a packet its session is as it was, or what it wishes can be said
-abbrev pub SpeaksHearing : List PackageText → AgentOf → List ℕ → HalfOf TimedOf → Type 0
-SpeaksHearing packages n bytes h =
-    SpeaksAfter
-    (session_core packages)
-    h.core
-    (finished roles.Agent n.endpoint n.tid (half_hears (session_core packages) true h bytes)).half.core
 
 -- a packet of either transmission unit: who sent it can be read of both, and the half for that device drops what is too long
 abbrev pub any_packet : List ℕ → Result (Head × List ℕ) WireFault

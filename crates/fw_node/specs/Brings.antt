@@ -2,7 +2,6 @@
 use Rattle.mctp_reasm.specs.Pieces.{MessageOf}
 use Rattle.pldm_base.specs.Header.{IsHead}
 use Rattle.pldm_exch.specs.Sides.{brought_of, heard_in}
-use Rattle.pldm_exch.specs.declared.request.Brought.{Brought}
 use Rattle.pldm_exch.specs.declared.request.Brought.TheVariants as brings
 use Rattle.fw_node.specs.Halves.{IncomingOf, brought_as}
 use Rattle.fw_node.specs.declared.incoming.Incoming.{Incoming}

@@ -1,10 +1,9 @@
 -- The nodes: what is finished by the node itself, and the device node. A node answers control and base requests for all its
 -- halves; what a half makes of packets and ticks is in `Halves`.
-use Rattle.std.specs.Prelude.{ℕ, ◌≡◌, ◌⊎◌, IfSome, ◌≤◌, ◌==◌, Bool, false, true, if◌then◌else◌, List, [], ◌∷◌, is_some, length, Option, Some, None, Result, Ok, Err}
+use Rattle.std.specs.Prelude.{ℕ, ◌≡◌, ◌≤◌, ◌==◌, Bool, false, true, if◌then◌else◌, List, [], ◌∷◌, is_some, length, Option, Some, None}
 use Rattle.mctp_ctl.specs.Control.{answer_of}
 use Rattle.mctp_ctl.specs.declared.answers.Endpoint.{Endpoint}
 use Rattle.mctp_wire.specs.declared.unit.Unit.{«Unit»}
-use Rattle.mctp_wire.specs.declared.unit.Unit.TheVariants.{U64}
 use Rattle.mctp_reasm.specs.Pieces.{MessageOf}
 use Rattle.pldm_base.specs.Base.{base_reply, tid_after}
 use Rattle.pldm_base.specs.Codes.{invalid_pldm_type}
@@ -16,7 +15,7 @@ use Rattle.pldm_exch.specs.Ends.{asker_of, taker_of}
 use Rattle.pldm_exch.specs.Kept.{kept_with}
 use Rattle.pldm_exch.specs.Requests.{reply_message}
 use Rattle.fwup_wire.specs.Answers.{answer_bytes, answer_in}
-use Rattle.fwup_wire.specs.Commands.{IsSpoken, command_code}
+use Rattle.fwup_wire.specs.Commands.{command_code}
 use Rattle.fwup_wire.specs.Values.{AnswerOf, CommandOf}
 use Rattle.fd_core.specs.Banks.{Rose}
 use Rattle.fd_core.specs.States.{DeviceOf}
@@ -25,7 +24,7 @@ use Rattle.fd_core.specs.declared.states.Verdict.{Verdict}
 use Rattle.fw_node.specs.BothEnds.{EndsOf, ends_new}
 use Rattle.fw_node.specs.Cores.{TimedDevice, device_core, timed}
 use Rattle.fw_node.specs.Packets.{all_packets}
-use Rattle.fw_node.specs.Halves.{CoreOf, HalfHeard, HalfOf, half_hears, half_restarts, recast}
+use Rattle.fw_node.specs.Halves.{HalfHeard, HalfOf, half_hears, half_restarts, recast}
 
 -- a half of a node that is deaf for so long
 abbrev pub half_of : {C : Type 0} → (deaf : ℕ) → C → EndsOf → HalfOf C
@@ -83,19 +82,6 @@ abbrev pub IsTold : {C : Type 0} → «Unit» → HalfHeard C → Type 0
 IsTold u (HalfHeard.Took half sent command answer) = IsHeardAgain u command answer
 IsTold u heard = Prim.Unit {0}
 
--- the same of what a core makes of what was read
-abbrev pub IsAnswered : {C : Type 0} → CoreOf C → (quiet works : Bool) → C → Result CommandOf ℕ → Type 0
-IsAnswered core quiet works c (Ok command) = IsHeardAgain (core.unit c) command (core.take c command quiet works).answer
-IsAnswered core quiet works c (Err code) = Prim.Unit {0}
-
--- what a core wishes to ask, if it wishes anything, can be said
-abbrev pub MaySpeak : {C : Type 0} → CoreOf C → C → Type 0
-MaySpeak core c = IfSome (core.wish c) IsSpoken
-
--- after a call a core is as it was, or what it wishes can be said
-abbrev pub SpeaksAfter : {C : Type 0} → CoreOf C → (before after : C) → Type 0
-SpeaksAfter core before after = (after ≡ before) ⊎ MaySpeak core after
-
 -- A device node: its endpoint, its terminus identifier, its half for the agent, and its bank's count of failures.
 pub record DeviceNodeOf : Type 0 where
   pub endpoint : Endpoint
@@ -130,7 +116,6 @@ pub record HearsIt (old : DeviceNodeOf) (bytes : List ℕ) (new : DeviceNodeOf) 
   pub packets : sent ≡ all_packets old.half.unit (device_hears works old bytes).sent
   pub worked : works ≡ true → new.faults ≡ old.faults
   pub failed : works ≡ false → Rose old.faults new.faults
-  pub told : IsTold U64 (half_hears device_core works old.half bytes)
 
 -- What a verdict that counts makes of a device node.
 pub record JudgesIt (old : DeviceNodeOf) (verdict : Verdict) (new : DeviceNodeOf) : Type 0 where

@@ -4,11 +4,10 @@ ghost use Rattle.std.specs.Prelude.{◌≡◌, ◌≤◌, ◌<◌, ◌↔◌, �
 ghost use Rattle.fw_package.specs.Package.{PackageText};
 ghost use Rattle.mctp_wire.specs.Packet.{IsRead, spelling};
 ghost use Rattle.sel_core.specs.Log.{sel_after, sel_reply};
-ghost use Rattle.fw_node.specs.Agents.{AgentOf, any_packet, HalfMaySpeak, IsAddressed, IsDeafFor, SpeaksHearing, activates, free_for, hearer, ready_for, again_packets, agent_becomes, agent_hears, agent_restarts, agent_tick_sends, agent_ticks, begins, cancels, ended, ended_packets, grown, half_at, half_for, hears_at, new_agent, new_half, notes, place_heard, place_of, starts, waited};
+ghost use Rattle.fw_node.specs.Agents.{AgentOf, any_packet, IsAddressed, IsDeafFor, activates, free_for, ready_for, again_packets, agent_becomes, agent_hears, agent_restarts, agent_tick_sends, agent_ticks, begins, cancels, ended, ended_packets, grown, half_at, half_for, hears_at, new_agent, new_half, notes, place_heard, place_of, starts, waited};
 ghost use Rattle.fw_node.specs.AgentViews.{agent_of, half_in, half_activated, half_cancelled, half_free, half_ready, half_restarted, half_started, halves_called, halves_noted};
 ghost use Rattle.fw_node.specs.Cores.{session_core};
-ghost use Rattle.fw_node.specs.Halves.{half_hears, half_ticks};
-ghost use Rattle.fw_node.specs.Nodes.{IsTold, MaySpeak};
+ghost use Rattle.fw_node.specs.Halves.{half_ticks};
 ghost use Rattle.std.specs.List.{AllByRecursion};
 
 use crate::half::Half;
@@ -126,8 +125,6 @@ impl AgentNode {
         requires { outbox.old ≡ [] }
         ensures after { self.new ≡ (agent_hears packages.now self.old bytes.now now).agent }
         ensures sent { outbox.new ≡ (agent_hears packages.now self.old bytes.now now).sent }
-        ensures told { IfSome (hearer self.old bytes.now) (λ h. IsTold h.core.session.unit (half_hears (session_core packages.now) true h bytes.now)) }
-        ensures spoken { IfSome (hearer self.old bytes.now) (SpeaksHearing packages.now self.old bytes.now) }
     {
         let Ok(packet) = mctp_wire::decode(Unit::U128, bytes) else {
             return;
@@ -148,8 +145,6 @@ impl AgentNode {
         requires outbox { outbox.old ≡ [] }
         ensures after { self.new ≡ (agent_hears packages.now self.old (spelling packet.now) now).agent }
         ensures sent { outbox.new ≡ (agent_hears packages.now self.old (spelling packet.now) now).sent }
-        ensures told { IfSome (hearer self.old (spelling packet.now)) (λ h. IsTold h.core.session.unit (half_hears (session_core packages.now) true h (spelling packet.now))) }
-        ensures spoken { IfSome (hearer self.old (spelling packet.now)) (SpeaksHearing packages.now self.old (spelling packet.now)) }
     {
         if self.deaf > 0 {
             return;
@@ -178,7 +173,6 @@ impl AgentNode {
         ensures sent { outbox.new ≡ agent_tick_sends packages.now self.old }
         ensures halves { self.new.halves ≡ map (λ h. (half_ticks (session_core packages.now) true h).half) self.old.halves }
         ensures addressed { self.old.deaf ≤ 1 → AllByRecursion (IsAddressed packages.now) self.old.halves }
-        ensures spoken { self.old.deaf ≤ 1 → AllByRecursion (HalfMaySpeak packages.now) self.new.halves }
     {
         if self.deaf > 1 {
             self.deaf -= 1;
@@ -218,7 +212,6 @@ impl AgentNode {
         ensures free { OnOk result (free_for self.old eid ≡ Some true) }
         ensures busy { IfErr result (λ e. (e ≡ StartFault.Busy) ↔ (free_for self.old eid ≡ Some false)) }
         ensures kept { OnErr result (self.new ≡ self.old) }
-        ensures spoken { OnOk result (IfSome (half_for self.old eid) (λ h. HalfMaySpeak packages.now (starts packages.now h number))) }
     {
         let Some(place) = place_of(self.halves.as_slice(), eid) else {
             return Err(StartFault::Busy);
@@ -241,7 +234,6 @@ impl AgentNode {
     /// takes it too.
     pub fn cancel<'p>(&mut self, packages: &'p [Package<'p>], eid: u8, now: u32)
         ensures cancelled { self.new ≡ agent_becomes self.old now eid (cancels packages.now) }
-        ensures spoken { IfSome (half_for self.old eid) (λ h. HalfMaySpeak packages.now (cancels packages.now h)) }
     {
         let Some(place) = place_of(self.halves.as_slice(), eid) else {
             return;
@@ -268,7 +260,6 @@ impl AgentNode {
         ensures ready { OnOk result (option_map (λ s. agent_becomes self.old now eid (λ h. activates packages.now h s)) (ready_for self.old eid) ≡ Some self.new) }
         ensures not { OnErr result (ready_for self.old eid ≡ None) }
         ensures kept { OnErr result (self.new ≡ self.old) }
-        ensures spoken { OnOk result (IfSome (half_for self.old eid) (λ h. IfSome (ready_for self.old eid) (λ s. HalfMaySpeak packages.now (activates packages.now h s)))) }
     {
         let Some(place) = place_of(self.halves.as_slice(), eid) else {
             return Err(NotReady);
@@ -290,7 +281,6 @@ impl AgentNode {
     /// its log stay.
     pub fn restart(&mut self)
         ensures restarted { (packages : List PackageText) → self.new ≡ agent_restarts packages self.old }
-        ensures spoken { (packages : List PackageText) → AllByRecursion (HalfMaySpeak packages) self.new.halves }
     {
         restart_all(self.halves.as_mut_slice());
         self.identity.tid = Tid::unassigned();
@@ -375,8 +365,6 @@ fn hear_at<'p>(
     requires outbox { outbox.old ≡ [] }
     ensures after { agent_of 0 identity.new log.new halves.new ≡ (hears_at packages.now (agent_of 0 identity.old log.old halves.old) (spelling packet.now) now (Some place) (slice_get (map (half_in 0) halves.old) place)).agent }
     ensures sent { outbox.new ≡ (hears_at packages.now (agent_of 0 identity.old log.old halves.old) (spelling packet.now) now (Some place) (slice_get (map (half_in 0) halves.old) place)).sent }
-    ensures told { IfSome (slice_get (map (half_in 0) halves.old) place) (λ h. IsTold h.core.session.unit (half_hears (session_core packages.now) true h (spelling packet.now))) }
-    ensures spoken { IfSome (slice_get (map (half_in 0) halves.old) place) (SpeaksHearing packages.now (agent_of 0 identity.old log.old halves.old) (spelling packet.now)) }
     ensures count { length halves.new ≡ length halves.old }
 {
     hear(
@@ -406,7 +394,6 @@ fn start_at<'p>(
     ensures busy { IfErr result (λ e. (e ≡ StartFault.Busy) ↔ (half_free (slice_get halves.old place) ≡ Some false)) }
     ensures kept { OnErr result (halves.new ≡ halves.old) }
     ensures unnoted { OnErr result (log.new ≡ log.old) }
-    ensures spoken { OnOk result (IfSome (slice_get halves.old place) (λ p. MaySpeak (session_core packages.now) (half_started packages.now number p).core)) }
     ensures count { length halves.new ≡ length halves.old }
 {
     match start(&mut halves[place], log, packages, number, now) {
@@ -427,7 +414,6 @@ fn cancel_at<'p>(
     requires { place < length halves.old }
     ensures halves { halves.new ≡ halves_called halves.old place (half_cancelled packages.now) }
     ensures log { log.new ≡ halves_noted log.old now halves.old place (half_cancelled packages.now) }
-    ensures spoken { IfSome (slice_get halves.old place) (λ p. MaySpeak (session_core packages.now) (half_cancelled packages.now p).core) }
     ensures count { length halves.new ≡ length halves.old }
 {
     cancel(&mut halves[place], log, packages, now);
@@ -447,7 +433,6 @@ fn activate_at<'p>(
     ensures not { OnErr result (half_ready (slice_get halves.old place) ≡ None) }
     ensures kept { OnErr result (halves.new ≡ halves.old) }
     ensures unnoted { OnErr result (log.new ≡ log.old) }
-    ensures spoken { OnOk result (IfSome (half_ready (slice_get halves.old place)) (λ s. MaySpeak (session_core packages.now) (record { session = s; idle = 0 }))) }
     ensures count { length halves.new ≡ length halves.old }
 {
     match activate(&mut halves[place], log, packages, now) {
@@ -490,7 +475,6 @@ fn wait_all<'p>(
     ensures halves { map (half_in 0) halves.new ≡ map (ended packages.now) (map (half_in 0) halves.old) }
     ensures sent { outbox.new ≡ outbox.old ++ flat_map (ended_packets packages.now) (map (half_in 0) halves.old) }
     ensures log { log.new ≡ notes (waited packages.now) now log.old (map (half_in 0) halves.old) }
-    ensures spoken { AllByRecursion (HalfMaySpeak packages.now) (map (half_in 0) halves.new) }
     ensures count { length halves.new ≡ length halves.old }
 {
     for half in halves.iter_mut() {

@@ -1,6 +1,6 @@
 //! What stands at the centre of a half: the agent's session with a device, or a device itself.
 
-ghost use Rattle.std.specs.Prelude.{◌≡◌, Bool, IfSome, None, false, not, option_map, true, ℕ};
+ghost use Rattle.std.specs.Prelude.{◌≡◌, IfSome, None, false, not, option_map, true, ℕ};
 ghost use Rattle.std.specs.Result.{result_map_both};
 ghost use Rattle.fd_core.specs.Banks.{Rose};
 ghost use Rattle.fd_core.specs.Wishes.{has_failed};
@@ -11,7 +11,6 @@ ghost use Rattle.ua_core.specs.Calls.{agent_restart};
 ghost use Rattle.ua_core.specs.Session.{TimedOf};
 ghost use Rattle.fw_node.specs.Cores.{TimedDevice, device_core, session_core, timed};
 ghost use Rattle.fw_node.specs.Halves.{CoreOf};
-ghost use Rattle.fw_node.specs.Nodes.{IsHeardAgain, MaySpeak};
 
 use fd_core::{Bank, Device, Progress, State};
 use fw_package::Package;
@@ -39,7 +38,7 @@ pub(crate) trait Core<'p> {
     /// The command that it wishes to ask.
     fn wish(&self, given: Self::Given) -> Option<Command<'p>>
         ensures wish { option_map command_of result ≡ (does given).wish (seen self.now) }
-        ensures spoken { MaySpeak (does given) (seen self.now) };
+        ensures spoken { IfSome ((does given).wish (seen self.now)) IsSpoken };
 
     /// Whether it may wish a command: where not, it wishes none. It is asked before `wish`, which makes room for a command.
     fn may_wish(&self, given: Self::Given) -> bool
@@ -53,7 +52,6 @@ pub(crate) trait Core<'p> {
     fn take(&mut self, given: Self::Given, command: &Command<'_>, quiet: bool) -> (Reply, bool)
         ensures core { seen self.new ≡ ((does given).take (seen self.old) (command_of command.now) quiet result.1).core }
         ensures reply { result.0.items ≡ answer_bytes ((does given).take (seen self.old) (command_of command.now) quiet result.1).answer }
-        ensures told { IsHeardAgain ((does given).unit (seen self.old)) (command_of command.now) ((does given).take (seen self.old) (command_of command.now) quiet result.1).answer }
         ensures worked { result.1 ≡ true → faults self.new ≡ faults self.old }
         ensures failed { result.1 ≡ false → Rose (faults self.old) (faults self.new) };
 

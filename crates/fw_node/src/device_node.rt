@@ -1,13 +1,12 @@
 //! The node of a firmware device.
 
-ghost use Rattle.std.specs.Prelude.{◌≡◌, ◌≤◌, ◌==◌, [], Bool, IfNone, IfSome, None, OnErr, OnOk, false, is_some, not, true};
+ghost use Rattle.std.specs.Prelude.{◌≡◌, ◌==◌, [], Bool, IfNone, IfSome, None, OnErr, OnOk, false, is_some, not, true};
 ghost use Rattle.mctp_wire.specs.Packet.{IsRead, spelling};
-ghost use Rattle.mctp_wire.specs.declared.unit.Unit.TheVariants.{U64};
 ghost use Rattle.fd_core.specs.Banks.{Rose};
 ghost use Rattle.fd_core.specs.Steps.{device_verdict, verdict_after};
 ghost use Rattle.fw_node.specs.Cores.{device_core, timed};
-ghost use Rattle.fw_node.specs.Halves.{half_hears, half_ticks};
-ghost use Rattle.fw_node.specs.Nodes.{DeviceNodeOf, HearsIt, IsTold, JudgesIt, MaySpeak, SpeaksAfter, device_hears, device_restarts, half_of, new_device_node};
+ghost use Rattle.fw_node.specs.Halves.{half_ticks};
+ghost use Rattle.fw_node.specs.Nodes.{DeviceNodeOf, HearsIt, JudgesIt, device_hears, device_restarts, half_of, new_device_node};
 ghost use Rattle.fw_node.specs.Packets.{all_packets};
 
 use crate::cores::has_failed;
@@ -110,7 +109,6 @@ impl<B: Bank> DeviceNode<B> {
         requires { outbox.old ≡ [] }
         ensures heard { HearsIt self.old bytes.now self.new outbox.new }
         ensures endpoint { self.new.endpoint ≡ self.old.endpoint }
-        ensures spoken { SpeaksAfter device_core self.old.half.core self.new.half.core }
     {
         let _works = self.read(bytes, outbox);
     }
@@ -122,7 +120,6 @@ impl<B: Bank> DeviceNode<B> {
         requires { outbox.old ≡ [] }
         ensures after { self.new ≡ record self.old { half = (half_ticks device_core true self.old.half).half } }
         ensures sent { outbox.new ≡ all_packets self.old.half.unit (half_ticks device_core true self.old.half).sent }
-        ensures spoken { self.old.half.asker.deaf ≤ 1 → MaySpeak device_core self.new.half.core }
     {
         if self.deaf > 1 {
             self.deaf -= 1;
@@ -143,7 +140,6 @@ impl<B: Bank> DeviceNode<B> {
         ensures kept { OnErr result (self.new ≡ self.old) }
         ensures tid { self.new.tid ≡ self.old.tid }
         ensures endpoint { self.new.endpoint ≡ self.old.endpoint }
-        ensures spoken { OnOk result (MaySpeak device_core self.new.half.core) }
     {
         let Some(_works) = self.judge(verdict) else {
             return Err(NotNow);
@@ -173,7 +169,6 @@ impl<B: Bank> DeviceNode<B> {
     /// Starts anew: what was applied and not activated is dropped, and the node is deaf and silent for 40 ticks.
     pub fn restart(&mut self)
         ensures restarted { self.new ≡ device_restarts self.old }
-        ensures spoken { MaySpeak device_core self.new.half.core }
     {
         self.half.restart();
         self.identity.tid = Tid::unassigned();
@@ -188,9 +183,7 @@ impl<B: Bank> DeviceNode<B> {
         ensures packets { outbox.new ≡ all_packets self.old.half.unit (device_hears result self.old bytes.now).sent }
         ensures worked { result ≡ true → self.new.faults ≡ self.old.faults }
         ensures failed { result ≡ false → Rose self.old.faults self.new.faults }
-        ensures told { IsTold U64 (half_hears device_core result self.old.half bytes.now) }
         ensures endpoint { self.new.endpoint ≡ self.old.endpoint }
-        ensures spoken { SpeaksAfter device_core self.old.half.core self.new.half.core }
     {
         let Ok(packet) = mctp_wire::decode(self.unit(), bytes) else {
             return true;
@@ -207,9 +200,7 @@ impl<B: Bank> DeviceNode<B> {
         ensures packets { outbox.new ≡ all_packets self.old.half.unit (device_hears result self.old (spelling packet.now)).sent }
         ensures worked { result ≡ true → self.new.faults ≡ self.old.faults }
         ensures failed { result ≡ false → Rose self.old.faults self.new.faults }
-        ensures told { IsTold U64 (half_hears device_core result self.old.half (spelling packet.now)) }
         ensures endpoint { self.new.endpoint ≡ self.old.endpoint }
-        ensures spoken { SpeaksAfter device_core self.old.half.core self.new.half.core }
     {
         if self.deaf > 0 {
             return true;

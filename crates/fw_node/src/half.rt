@@ -11,7 +11,7 @@ ghost use Rattle.pldm_exch.specs.Sides.{answered_with};
 ghost use Rattle.fw_node.specs.BothEnds.{IsAsking, ends_new};
 ghost use Rattle.fw_node.specs.Brings.{HasHead, incoming_of};
 ghost use Rattle.fw_node.specs.Halves.{IncomingOf, half_brings, half_grows, half_hears, half_waits, last_part, read_by, recast, reply_read, settled, unwished_abandoned};
-ghost use Rattle.fw_node.specs.Nodes.{IsAnswered, IsTold, MaySpeak, SpeaksAfter, finished, half_of, replied};
+ghost use Rattle.fw_node.specs.Nodes.{finished, half_of, replied};
 ghost use Rattle.fw_node.specs.Packets.{all_packets, sent_by};
 
 use crate::cores::Core;
@@ -62,7 +62,6 @@ impl<'p, C: Core<'p>> Half<C> {
     /// Gives up what is open and no longer wished.
     pub(crate) fn settle(&mut self, given: C::Given)
         ensures settled { self.new ≡ record self.old { ends = record self.old.ends { asking = record self.old.ends.asking { caller = unwished_abandoned ((C.does given).wish (C.seen self.old.core)) self.old.ends.asking.caller } } } }
-        ensures spoken { MaySpeak (C.does given) (C.seen self.old.core) }
     {
         if self.core.may_wish(given) {
             self.abandon_unwished(given);
@@ -74,7 +73,6 @@ impl<'p, C: Core<'p>> Half<C> {
     /// Gives up what is open, unless it is what the core wishes.
     fn abandon_unwished(&mut self, given: C::Given)
         ensures abandoned { self.new ≡ record self.old { ends = record self.old.ends { asking = record self.old.ends.asking { caller = unwished_abandoned ((C.does given).wish (C.seen self.old.core)) self.old.ends.asking.caller } } } }
-        ensures spoken { MaySpeak (C.does given) (C.seen self.old.core) }
     {
         let wish = self.core.wish(given);
         self.ends.abandon_unless(&wish);
@@ -94,8 +92,6 @@ impl<'p, C: Core<'p>> Half<C> {
         ensures half { half_of 0 (C.seen self.new.core) self.new.ends ≡ (finished role identity.old.endpoint identity.old.tid (half_hears (C.does given) result (half_of 0 (C.seen self.old.core) self.old.ends) (spelling packet.now))).half }
         ensures tid { identity.new.tid ≡ (finished role identity.old.endpoint identity.old.tid (half_hears (C.does given) result (half_of 0 (C.seen self.old.core) self.old.ends) (spelling packet.now))).tid }
         ensures packets { outbox.new ≡ all_packets self.old.ends.asking.unit (finished role identity.old.endpoint identity.old.tid (half_hears (C.does given) result (half_of 0 (C.seen self.old.core) self.old.ends) (spelling packet.now))).sent }
-        ensures told { IsTold ((C.does given).unit (C.seen self.old.core)) (half_hears (C.does given) result (half_of 0 (C.seen self.old.core) self.old.ends) (spelling packet.now)) }
-        ensures spoken { SpeaksAfter (C.does given) (C.seen self.old.core) (C.seen self.new.core) }
         ensures worked { result ≡ true → C.faults self.new.core ≡ C.faults self.old.core }
         ensures failed { result ≡ false → Rose (C.faults self.old.core) (C.faults self.new.core) }
         ensures endpoint { identity.new.endpoint ≡ identity.old.endpoint }
@@ -136,7 +132,6 @@ impl<'p, C: Core<'p>> Half<C> {
     /// The core learns the answer to its request. Whether its bank worked.
     fn learn(&mut self, given: C::Given, command: u8, reply: &[u8]) -> bool
         ensures half { half_of 0 (C.seen self.new.core) self.new.ends ≡ recast (C.does given) (half_of 0 (C.seen self.old.core) self.old.ends) ((C.does given).learn (C.seen self.old.core) (answer_read command reply.now) result) }
-        ensures spoken { MaySpeak (C.does given) (C.seen self.new.core) }
         ensures worked { result ≡ true → C.faults self.new.core ≡ C.faults self.old.core }
         ensures failed { result ≡ false → Rose (C.faults self.old.core) (C.faults self.new.core) }
         ensures own { self.new.ends.asking.own ≡ self.old.ends.asking.own }
@@ -174,8 +169,6 @@ impl<'p, C: Core<'p>> Half<C> {
         ensures half { half_of 0 (C.seen self.new.core) self.new.ends ≡ (finished role identity.old.endpoint identity.old.tid (half_brings (C.does given) result (half_of 0 (C.seen self.old.core) self.old.ends) (IncomingOf.New request.now))).half }
         ensures tid { identity.new.tid ≡ (finished role identity.old.endpoint identity.old.tid (half_brings (C.does given) result (half_of 0 (C.seen self.old.core) self.old.ends) (IncomingOf.New request.now))).tid }
         ensures packets { outbox.new ≡ all_packets self.old.ends.asking.unit (finished role identity.old.endpoint identity.old.tid (half_brings (C.does given) result (half_of 0 (C.seen self.old.core) self.old.ends) (IncomingOf.New request.now))).sent }
-        ensures told { IsTold ((C.does given).unit (C.seen self.old.core)) (half_brings (C.does given) result (half_of 0 (C.seen self.old.core) self.old.ends) (IncomingOf.New request.now)) }
-        ensures spoken { SpeaksAfter (C.does given) (C.seen self.old.core) (C.seen self.new.core) }
         ensures worked { result ≡ true → C.faults self.new.core ≡ C.faults self.old.core }
         ensures failed { result ≡ false → Rose (C.faults self.old.core) (C.faults self.new.core) }
         ensures endpoint { identity.new.endpoint ≡ identity.old.endpoint }
@@ -206,8 +199,6 @@ impl<'p, C: Core<'p>> Half<C> {
         requires { outbox.old ≡ [] }
         ensures half { half_of 0 (C.seen self.new.core) self.new.ends ≡ settled (C.does given) (replied (half_of 0 (reply_read (C.does given) (is_quiet self.old.ends.asking.caller) result (C.seen self.old.core) (read_by (C.does given) request.now.head.command request.now.body)).core self.old.ends) (reply_message request.now.message request.now.head (reply_read (C.does given) (is_quiet self.old.ends.asking.caller) result (C.seen self.old.core) (read_by (C.does given) request.now.head.command request.now.body)).reply)) }
         ensures packets { outbox.new ≡ all_packets self.old.ends.asking.unit (reply_message request.now.message request.now.head (reply_read (C.does given) (is_quiet self.old.ends.asking.caller) result (C.seen self.old.core) (read_by (C.does given) request.now.head.command request.now.body)).reply ∷ []) }
-        ensures told { IsAnswered (C.does given) (is_quiet self.old.ends.asking.caller) result (C.seen self.old.core) (read_by (C.does given) request.now.head.command request.now.body) }
-        ensures spoken { MaySpeak (C.does given) (C.seen self.new.core) }
         ensures worked { result ≡ true → C.faults self.new.core ≡ C.faults self.old.core }
         ensures failed { result ≡ false → Rose (C.faults self.old.core) (C.faults self.new.core) }
         ensures own { self.new.ends.asking.own ≡ self.old.ends.asking.own }
@@ -225,7 +216,6 @@ impl<'p, C: Core<'p>> Half<C> {
         ensures core { C.seen self.new.core ≡ (reply_read (C.does given) (is_quiet self.old.ends.asking.caller) result.1 (C.seen self.old.core) (read_by (C.does given) request.now.head.command request.now.body)).core }
         ensures ends { self.new.ends ≡ self.old.ends }
         ensures reply { result.0.items ≡ (reply_read (C.does given) (is_quiet self.old.ends.asking.caller) result.1 (C.seen self.old.core) (read_by (C.does given) request.now.head.command request.now.body)).reply }
-        ensures told { IsAnswered (C.does given) (is_quiet self.old.ends.asking.caller) result.1 (C.seen self.old.core) (read_by (C.does given) request.now.head.command request.now.body) }
         ensures worked { result.1 ≡ true → C.faults self.new.core ≡ C.faults self.old.core }
         ensures failed { result.1 ≡ false → Rose (C.faults self.old.core) (C.faults self.new.core) }
     {
@@ -265,7 +255,6 @@ impl<'p, C: Core<'p>> Half<C> {
         ensures packets { outbox.new ≡ outbox.old ++ all_packets self.old.ends.asking.unit (half_waits (C.does given) (half_of 0 (C.seen self.old.core) self.old.ends)).sent }
         ensures few { length outbox.new ≤ length outbox.old + 4 * length (half_waits (C.does given) (half_of 0 (C.seen self.old.core) self.old.ends)).sent }
         ensures core { C.seen self.new.core ≡ (C.does given).ticked (C.seen self.old.core) }
-        ensures spoken { MaySpeak (C.does given) (C.seen self.new.core) }
         ensures faults { C.faults self.new.core ≡ C.faults self.old.core }
         ensures own { self.new.ends.asking.own ≡ self.old.ends.asking.own }
         ensures unit { self.new.ends.asking.unit ≡ self.old.ends.asking.unit }
@@ -285,7 +274,6 @@ impl<'p, C: Core<'p>> Half<C> {
         ensures packets { outbox.new ≡ outbox.old ++ all_packets self.old.ends.asking.unit (last_part (C.does given) (half_of 0 (C.seen self.old.core) self.old.ends) []).sent }
         ensures few { length outbox.new ≤ length outbox.old + 4 * length (last_part (C.does given) (half_of 0 (C.seen self.old.core) self.old.ends) []).sent }
         ensures core { self.new.core ≡ self.old.core }
-        ensures spoken { MaySpeak (C.does given) (C.seen self.new.core) }
         ensures own { self.new.ends.asking.own ≡ self.old.ends.asking.own }
         ensures unit { self.new.ends.asking.unit ≡ self.old.ends.asking.unit }
     {

@@ -1,8 +1,7 @@
 -- Each step of the world's code leads on as its definition says.
-use Rattle.std.proofs.Common.{◌≡◌, ◌∙◌, ◌++◌, ◌==◌, ◌<◌, ◌≤◌, IfSome, ℕ, zero, suc, [], ◌∷◌, Bool, true, false, is_some, length, List, map, nat_le, nat_lt, slice_get, slice_set, Option, Some, None, ap, arith, inl, inr, refl, subst, sym}
+use Rattle.std.proofs.Common.{◌≡◌, ◌∙◌, ◌++◌, ◌==◌, ◌<◌, ◌≤◌, ℕ, zero, suc, [], ◌∷◌, Bool, true, false, is_some, length, List, map, nat_le, nat_lt, slice_get, slice_set, Option, Some, None, ap, arith, inl, inr, refl, subst, sym}
 use Rattle.std.proofs.lemmas.Bool.{le-leb, lt-ltb}
 use Rattle.std.proofs.lemmas.Bool.Decides.{eqb_tells}
-use Rattle.std.specs.List.{AllByRecursion}
 use Rattle.std.specs.Option.{option_map}
 use Rattle.arrayvec.specs.declared.array_vec.ArrayVec.{ArrayVec}
 use Rattle.exch_lane.specs.Lanes.{Sent, numbered}
@@ -13,14 +12,11 @@ use Rattle.fw_package.specs.Package.{PackageText}
 use Rattle.ua_core.specs.Session.{SessionOf}
 use Rattle.fw_message.specs.History.{EntryOf}
 use Rattle.fw_message.specs.Worlds.{NotedOf, noted_of}
-use Rattle.fw_node.specs.Agents.{AgentOf, activates, agent_becomes, agent_restarts, cancels, hearer, ready_for, starts}
-use Rattle.fw_node.specs.Cores.{session_core}
-use Rattle.fw_node.specs.Halves.{half_hears}
-use Rattle.fw_node.specs.Nodes.{IsTold, device_hears, device_judges}
+use Rattle.fw_node.specs.Agents.{AgentOf, activates, agent_becomes, agent_restarts, cancels, ready_for, starts}
+use Rattle.fw_node.specs.Nodes.{device_hears, device_judges}
 use Rattle.fw_node.specs.Packets.{all_packets}
 use Rattle.fw_steps.specs.Deliveries.{ComesTo, IsJudged}
 use Rattle.fw_steps.specs.Headline.{Leads, faults_before, faults_of, has_session, is_package, may_step, ready_fault, start_fault, tick_fault, world_after}
-use Rattle.fw_steps.specs.Sayable.{AgentSpeaksIn, CanBeSaidBy, IsToldBy, IsToldTo, SiteSpeaksIn}
 use Rattle.fw_steps.specs.Worlds.{SiteOf, WorldOf, activated_at, activates_on, asks_log, at_agent, at_device, calls, comes, delivers, judges, node_becomes, packets_of, place_of, sent_now, site_at, site_for, site_restarts, ticks}
 use Rattle.fw_steps.specs.declared.step.Step.{Step}
 use Rattle.fw_steps.specs.declared.step.Step.TheVariants as steps
@@ -33,18 +29,17 @@ pub differs : (a b : ℕ) → (a ≡ b → ⊥) → (a == b) ≡ false
 differs a b e = elim (eqb_tells a b) [ inl same ↦ absurd (e same.1) | inr other ↦ other.0 ]
 
 -- a step that calls no bank
-leads : (w v : WorldOf) (s : Step) → may_step w s ≡ None → v ≡ world_after true (faults_before w s) w s → CanBeSaidBy true w s → Leads w s v
-leads w v s may after said = record { may = may; works = true; faults = faults_before w s; after = after; worked = λ e. refl; failed = λ e. absurd (cc); said = said }
+leads : (w v : WorldOf) (s : Step) → may_step w s ≡ None → v ≡ world_after true (faults_before w s) w s → Leads w s v
+leads w v s may after = record { may = may; works = true; faults = faults_before w s; after = after; worked = λ e. refl; failed = λ e. absurd (cc) }
 
 pub tick_goes : {known soon may : Bool} → known ≡ true → soon ≡ true → may ≡ true → tick_fault known soon may ≡ None
 tick_goes e f g = rw (e, f, g) refl
 
-pub tick_leads : (w v : WorldOf) (missed : ArrayVec ℕ 17 (Unit {0})) → may_step w (steps.Tick missed) ≡ None → v ≡ ticks missed.items w
-    → AgentSpeaksIn missed.items w → AllByRecursion (SiteSpeaksIn missed.items) w.sites → Leads w (steps.Tick missed) v
-tick_leads w v missed may after agent sites = leads w v (steps.Tick missed) may after (agent, sites)
+pub tick_leads : (w v : WorldOf) (missed : ArrayVec ℕ 17 (Unit {0})) → may_step w (steps.Tick missed) ≡ None → v ≡ ticks missed.items w → Leads w (steps.Tick missed) v
+tick_leads w v missed may after = leads w v (steps.Tick missed) may after
 
 pub start_leads : (w v : WorldOf) (device number : ℕ) → may_step w (steps.Start device number) ≡ None → v ≡ calls w device (λ h. starts w.packages h number) → Leads w (steps.Start device number) v
-start_leads w v device number may after = leads w v (steps.Start device number) may after tt
+start_leads w v device number may after = leads w v (steps.Start device number) may after
 
 -- a start may be where its package is there and the session is free
 pub may_start_there : (packages : List PackageText) (number : ℕ) (free : Option Bool) → (number ≡ 0 → ⊥) → number ≤ length packages → free ≡ Some true
@@ -55,10 +50,10 @@ may_start_there packages number free some there is = rw is (
     rw (least, most) refl)
 
 pub cancel_leads : (w v : WorldOf) (device : ℕ) → may_step w (steps.Cancel device) ≡ None → v ≡ calls w device (cancels w.packages) → Leads w (steps.Cancel device) v
-cancel_leads w v device may after = leads w v (steps.Cancel device) may after tt
+cancel_leads w v device may after = leads w v (steps.Cancel device) may after
 
 pub activate_leads : (w v : WorldOf) (device : ℕ) → may_step w (steps.Activate device) ≡ None → v ≡ activates_on w device (ready_for w.agent device) → Leads w (steps.Activate device) v
-activate_leads w v device may after = leads w v (steps.Activate device) may after tt
+activate_leads w v device may after = leads w v (steps.Activate device) may after
 
 -- a session that was ready is there, and the agent is the one after its call
 activated_so : (w v : WorldOf) (device : ℕ) (n : AgentOf) (o : Option SessionOf) → v ≡ record w { agent = n }
@@ -76,7 +71,7 @@ activated_leads w v device n there is e =
 
 pub agent_restart_leads : (w v : WorldOf) (node : ℕ) → node ≡ w.agent.endpoint.eid → v ≡ record w { agent = agent_restarts w.packages w.agent } → Leads w (steps.Restart node) v
 agent_restart_leads w v node is after =
-    leads w v (steps.Restart node) (rw (equals node w.agent.endpoint.eid is) refl) (rw (equals node w.agent.endpoint.eid is) after) tt
+    leads w v (steps.Restart node) (rw (equals node w.agent.endpoint.eid is) refl) (rw (equals node w.agent.endpoint.eid is) after)
 
 something_there : (xs : List SiteOf) (i : ℕ) → i < length xs → is_some (slice_get xs i) ≡ true
 something_there [] i lt = absurd (omega (arith, lt))
@@ -88,10 +83,10 @@ pub device_restart_leads : (w v : WorldOf) (node place : ℕ) → (node ≡ w.ag
 device_restart_leads w v node place is at within after =
     let known : is_some (site_for w.sites node) ≡ true = ap (λ p. is_some (site_at w.sites p)) at ∙ something_there w.sites place within in
     leads w v (steps.Restart node) (rw (differs node w.agent.endpoint.eid is, known) refl)
-    (rw (differs node w.agent.endpoint.eid is) (after ∙ ap (λ p. record w { sites = site_restarts w.sites p (site_at w.sites p) }) (sym at))) tt
+    (rw (differs node w.agent.endpoint.eid is) (after ∙ ap (λ p. record w { sites = site_restarts w.sites p (site_at w.sites p) }) (sym at)))
 
 pub log_leads : (w v : WorldOf) (bytes : ArrayVec ℕ 64 (Unit {0})) → v ≡ asks_log w bytes.items → Leads w (steps.Sel bytes) v
-log_leads w v bytes after = leads w v (steps.Sel bytes) refl after tt
+log_leads w v bytes after = leads w v (steps.Sel bytes) refl after
 
 -- a packet that comes
 it_comes : (works : Bool) (faults : ℕ) (w : WorldOf) (node : ℕ) (p : Option Sent) (bytes : List ℕ) → option_map (λ s. s.bytes) p ≡ Some bytes
@@ -99,18 +94,12 @@ it_comes : (works : Bool) (faults : ℕ) (w : WorldOf) (node : ℕ) (p : Option 
 it_comes works faults w node None bytes e = absurd (cc)
 it_comes works faults w node (Some p) bytes e = let same : p.bytes ≡ bytes = cc in ap (comes works faults w node) same
 
-it_is_told : (works : Bool) (w : WorldOf) (node : ℕ) (p : Option Sent) (bytes : List ℕ) → option_map (λ s. s.bytes) p ≡ Some bytes
-    → IsToldTo (node == w.agent.endpoint.eid) works w node bytes → IsToldBy works w node p
-it_is_told works w node None bytes e told = absurd (cc)
-it_is_told works w node (Some p) bytes e told = let same : p.bytes ≡ bytes = cc in subst (IsToldTo (node == w.agent.endpoint.eid) works w node) (sym same) told
-
 pub agent_leads : (w v : WorldOf) (device number node : ℕ) (bytes : List ℕ) → may_step w (steps.Deliver device number node) ≡ None
     → option_map (λ s. s.bytes) (numbered (packets_of w device) number) ≡ Some bytes → (node == w.agent.endpoint.eid) ≡ true → v ≡ at_agent w bytes
-    → IfSome (hearer w.agent bytes) (λ h. IsTold h.core.session.unit (half_hears (session_core w.packages) true h bytes)) → Leads w (steps.Deliver device number node) v
-agent_leads w v device number node bytes may there is after told =
+    → Leads w (steps.Deliver device number node) v
+agent_leads w v device number node bytes may there is after =
     leads w v (steps.Deliver device number node) may
     (after ∙ sym (it_comes true (faults_before w (steps.Deliver device number node)) w node (numbered (packets_of w device) number) bytes there ∙ rw is refl))
-    (it_is_told true w node (numbered (packets_of w device) number) bytes there (rw is told))
 
 -- the node at a place becomes another
 site_there : (w : WorldOf) (eid place : ℕ) (x : SiteOf) → place_of w.sites eid ≡ Some place → slice_get w.sites place ≡ Some x → site_for w.sites eid ≡ Some x
@@ -150,8 +139,6 @@ device_leads w v device number node bytes may there is k =
           ∙ sym (it_comes k.heard.heard.heard.works k.heard.became.node.faults w node (numbered (packets_of w device) number) bytes there ∙ rw is refl);
       worked = λ e. k.heard.heard.heard.worked e ∙ sym (ap faults_of site);
       failed = λ e. subst (λ n. Rose n k.heard.became.node.faults) (sym (ap faults_of site)) (k.heard.heard.heard.failed e);
-      said = it_is_told k.heard.heard.heard.works w node (numbered (packets_of w device) number) bytes there
-          (rw (is, site) k.heard.heard.heard.told);
     }
 
 -- a verdict
@@ -180,5 +167,4 @@ verdict_leads w v device verdict may k =
       after = judged_there w v device verdict k;
       worked = λ e. k.judged.judged.judged.worked e ∙ sym (ap faults_of site);
       failed = λ e. subst (λ n. Rose n k.judged.became.node.faults) (sym (ap faults_of site)) (k.judged.judged.judged.failed e);
-      said = tt;
     }

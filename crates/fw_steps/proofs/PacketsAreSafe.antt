@@ -4,7 +4,6 @@
 -- WHAT IS KNOWN of a step of the world: of who is deaf, of the steps of the links, and of codecs.
 -- - `KnownDeaf`: how long the agent is deaf after a step, and each of its halves with it.
 -- - `KnownSteps`: what is known of the links' steps that a step of the world is.
--- - `KnownSaid`: what nodes and cores can say, on the links of a world.
 --
 -- THE HISTORY: the world notes what its links note.
 -- - `HistoryNoted`: what a step of a link notes, and how it stands in the history of a world.
@@ -35,7 +34,6 @@ pub mod HistoryDevice
 pub mod HistoryGrows
 pub mod HistoryNoted
 pub mod KnownDeaf
-pub mod KnownSaid
 pub mod KnownSteps
 pub mod Safe
 pub mod SafeOpening

@@ -1,14 +1,10 @@
 -- What stands at a place, and room there.
-use Rattle.std.proofs.Common.{◌≡◌, ◌≤◌, ◌<◌, ◌+◌, ◌∙◌, ℕ, zero, suc, List, [], ◌∷◌, ◌++◌, drop, get_or, length, map, slice_get, slice_set, take, true, Option, Some, None, inl, inr, refl, sym, ap, subst, arith}
-use Rattle.std.proofs.lemmas.List.{drop-set-lt, map-set, take_more}
-use Rattle.std.specs.List.{AllByRecursion}
-use Rattle.fw_steps.specs.Sayable.{SiteSpeaksIn}
+use Rattle.std.proofs.Common.{◌≡◌, ◌≤◌, ◌<◌, ◌+◌, ◌∙◌, ℕ, zero, suc, List, [], ◌∷◌, ◌++◌, drop, get_or, length, slice_get, slice_set, Some, None, inl, inr, sym, ap, subst, arith}
+use Rattle.std.proofs.lemmas.List.{drop-set-lt, map-set}
 use Rattle.fw_steps.specs.Sites.{HaveRoom, LacksRoom, RoomyOf, sites_of}
-use Rattle.fw_steps.specs.Worlds.{SiteOf, counts, place_for, place_of, post, post_at, posts, site_at, site_for, site_restarts}
+use Rattle.fw_steps.specs.Worlds.{SiteOf, place_for, place_of, post, post_at, site_at, site_for, site_restarts}
 use Rattle.exch_lane.specs.Steps.{sent_at}
-use Rattle.fw_node.specs.Cores.{device_core}
-use Rattle.fw_node.specs.Halves.{half_ticks}
-use Rattle.fw_node.specs.Nodes.{MaySpeak, device_restarts}
+use Rattle.fw_node.specs.Nodes.{device_restarts}
 
 pub found_at : (ss : List RoomyOf) (i : ℕ) (x : RoomyOf) → i < length ss → x ≡ get_or ss i x → slice_get (sites_of ss) i ≡ Some x.site
 found_at [] i x lt is = absurd (omega arith)
@@ -102,39 +98,3 @@ pub restart_there : (ss : List RoomyOf) (i : ℕ) (x y : RoomyOf) → i < length
     → sites_of (slice_set ss i y) ≡ site_restarts (sites_of ss) (Some i) (slice_get (sites_of ss) i)
 restart_there ss i x y lt is e =
     map-set (λ s. s.site) ss i y ∙ ap (slice_set (sites_of ss) i) e ∙ sym (ap (site_restarts (sites_of ss) (Some i)) (found_at ss i x lt is))
-
--- one more of which something holds
-all_more : {X : Type 0} (P : X → Type 0) (xs : List X) (x : X) → AllByRecursion P xs → P x → AllByRecursion P (xs ++ x ∷ [])
-all_more P [] x h new = (new, tt)
-all_more P (y ∷ xs) x h new = (h.0, all_more P xs x h.1 new)
-
-pub spoken_more : (missed : List ℕ) (xs : List SiteOf) (i : ℕ) (x : SiteOf) → i < length xs → x ≡ get_or xs i x → AllByRecursion (SiteSpeaksIn missed) (take i xs) → SiteSpeaksIn missed x
-    → AllByRecursion (SiteSpeaksIn missed) (take (i + 1) xs)
-spoken_more missed xs i x lt is h new =
-    subst (AllByRecursion (SiteSpeaksIn missed)) (sym (take_more xs i x lt)) (all_more (SiteSpeaksIn missed) (take i xs) (get_or xs i x) h (subst (SiteSpeaksIn missed) is new))
-
--- packets change no node
-same_nodes : (xs : List SiteOf) (i : ℕ) (x y : SiteOf) → slice_get xs i ≡ Some x → y.node ≡ x.node → map (λ s. s.node) (slice_set xs i y) ≡ map (λ s. s.node) xs
-same_nodes [] i x y there e = refl
-same_nodes (s ∷ xs) zero x y there e = let same : s ≡ x = cc in ap (λ n. n ∷ map (λ s. s.node) xs) (e ∙ ap (λ s. s.node) (sym same))
-same_nodes (s ∷ xs) (suc i) x y there e = ap (λ ns. s.node ∷ ns) (same_nodes xs i x y there e)
-
-posted_at : (now : ℕ) (xs : List SiteOf) (packet : List ℕ) (place : Option ℕ) (x : Option SiteOf) → site_at xs place ≡ x → map (λ s. s.node) (post_at now xs packet place x) ≡ map (λ s. s.node) xs
-posted_at now xs packet (Some i) (Some x) is = same_nodes xs i x (record x { packets = x.packets ++ sent_at now packet ∷ [] }) is refl
-posted_at now xs packet (Some i) None is = refl
-posted_at now xs packet None x is = refl
-
-pub posts_nodes : (now : ℕ) (xs : List SiteOf) (packets : List (List ℕ)) → map (λ s. s.node) (posts now xs packets) ≡ map (λ s. s.node) xs
-posts_nodes now xs [] = refl
-posts_nodes now xs (p ∷ packets) = posts_nodes now (post now xs p) packets ∙ posted_at now xs p (place_for xs p) (site_at xs (place_for xs p)) refl
-
-speak_as : (missed : List ℕ) (xs ys : List SiteOf) → map (λ s. s.node) ys ≡ map (λ s. s.node) xs → AllByRecursion (SiteSpeaksIn missed) ys → AllByRecursion (SiteSpeaksIn missed) xs
-speak_as missed [] ys e h = tt
-speak_as missed (x ∷ xs) [] e h = absurd (cc)
-speak_as missed (x ∷ xs) (y ∷ ys) e h =
-    let here : y.node ≡ x.node = cc in
-    let rest : map (λ s. s.node) ys ≡ map (λ s. s.node) xs = cc in
-    (subst (λ n. counts missed n.endpoint.eid ≡ true → n.half.asker.deaf ≤ 1 → MaySpeak device_core (half_ticks device_core true n.half).half.core) here h.0, speak_as missed xs ys rest h.1)
-
-pub speak_before : (missed : List ℕ) (now : ℕ) (xs : List SiteOf) (packets : List (List ℕ)) → AllByRecursion (SiteSpeaksIn missed) (posts now xs packets) → AllByRecursion (SiteSpeaksIn missed) xs
-speak_before missed now xs packets h = speak_as missed xs (posts now xs packets) (posts_nodes now xs packets) h

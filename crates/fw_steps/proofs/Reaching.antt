@@ -24,11 +24,11 @@ run_eids w v (s ∷ ss) h =
     let l : Leads w s h.0 = h.1 in
     run_eids h.0 v ss h.2 ∙ ap (λ x. eids_of x.sites) l.after ∙ eids_stay l.works l.faults w s
 
-new_eids : (nodes : List DeviceNodeOf) → eids_of (map new_site nodes) ≡ map (λ n. n.endpoint.eid) nodes
+pub new_eids : (nodes : List DeviceNodeOf) → eids_of (map new_site nodes) ≡ map (λ n. n.endpoint.eid) nodes
 new_eids [] = refl
 new_eids (n ∷ nodes) = ap (λ es. n.endpoint.eid ∷ es) (new_eids nodes)
 
-opening_apart : (w : WorldOf) → IsOpeningWorld w → AreDifferent (eids_of w.sites)
+pub opening_apart : (w : WorldOf) → IsOpeningWorld w → AreDifferent (eids_of w.sites)
 opening_apart w o = subst AreDifferent (sym (ap (λ x. eids_of x.sites) o.is ∙ new_eids o.nodes)) o.are.apart.1
 
 pub promised : (w : WorldOf) → PacketsAreSafe → RunsStayTied → PacketsAreMessages → IsReached w → IsPromised w

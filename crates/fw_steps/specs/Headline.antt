@@ -27,7 +27,7 @@
 --    a world: `delivers`, `ticks`, `calls`, `activates_on`, `judges`, `restarts`, `asks_log`.
 -- 9. `Moments`: `IsGrown` and `IsTiedBetween`, what two moments have to do with each other.
 -- 10. `Messages`: `IsRunOfMessages`, the same devices, sessions and history without packets, tags and time.
--- 11. `Sayable`: `CanBeSaidBy`, what is known of codecs in a step that was taken; see `Leads`.
+-- 11. `Widths`: `HasDeviceWidths` and `HavePackageWidths`, what a device and the packages are made of fits the fields of messages.
 use Rattle.std.specs.Prelude.{ℕ, ◌≡◌, ◌≢◌, ◌≤◌, ◌-◌, ◌^◌, ◌==◌, ◌&&◌, ◌||◌, ◌∷◌, ◌++◌, [], Bool, true, false, if◌then◌else◌, nat_lt, nat_le, IfSome, IsSomeAnd, is_some, List, length, map, Option, Some, None}
 use Rattle.std.specs.List.{All, AllByRecursion, list_all}
 use Rattle.mctp_ctl.specs.declared.answers.Endpoint.{Endpoint}
@@ -48,7 +48,7 @@ use Rattle.fw_node.specs.Agents.{cancels, free_for, half_for, new_agent, ready_f
 use Rattle.fw_node.specs.Nodes.{DeviceNodeOf, new_device_node}
 use Rattle.fw_steps.specs.Messages.{IsRunOfMessages}
 use Rattle.fw_steps.specs.Moments.{IsGrown, IsTiedBetween}
-use Rattle.fw_steps.specs.Sayable.{CanBeSaidBy}
+use Rattle.fw_steps.specs.Widths.{HasDeviceWidths, HavePackageWidths}
 use Rattle.fw_steps.specs.Worlds.{SiteOf, WorldOf, activates_on, asks_log, calls, counts, delivers, eids_of, judges, packets_of, pair_for, place_of, restarts, site_for, ticks}
 use Rattle.fw_steps.specs.declared.step.Refusal.TheVariants as refusals
 use Rattle.fw_steps.specs.declared.step.Step.{Step}
@@ -111,6 +111,8 @@ pub record IsOpeningWorld (w : WorldOf) : Type 0 where
   pub nodes : List DeviceNodeOf
   pub are : AreNewNodes agent.eid nodes
   pub is : w ≡ new_world agent nodes w.packages
+  pub packages : HavePackageWidths w.packages
+  pub devices : AllByRecursion (λ (n : DeviceNodeOf). HasDeviceWidths n.half.core.device) nodes
 
 -- WHICH STEPS MAY BE TAKEN
 
@@ -220,9 +222,7 @@ faults_before w s = faults_of (site_for w.sites (node_of s))
 -- A RUN
 
 -- A step leads from one world to another: it may be taken, and a call of a bank fails only where that bank's count of failures
--- tells so. `said` is a premise of codecs: laws over runs speak of runs in which the answers that nodes give can be read
--- again, and what they wish can be written. It keeps out no run of the code: of each step that it takes `World::step` promises
--- all of `Leads`, `said` included (`taken`), and so does `replay` of `fw_world` of all of its steps (`ok`, `stopped`).
+-- tells so.
 pub record Leads (w : WorldOf) (s : Step) (v : WorldOf) : Type 0 where
   pub may : may_step w s ≡ None
   pub works : Bool
@@ -230,7 +230,6 @@ pub record Leads (w : WorldOf) (s : Step) (v : WorldOf) : Type 0 where
   pub after : v ≡ world_after works faults w s
   pub worked : works ≡ true → faults ≡ faults_before w s
   pub failed : works ≡ false → Rose (faults_before w s) faults
-  pub said : CanBeSaidBy works w s
 
 -- each step leads on from where the one before it led
 abbrev pub Run : WorldOf → List Step → WorldOf → Type 0

@@ -1,3 +1,5 @@
+pub mod Absences
+pub mod Alone
 pub mod Cases
 pub mod Clocks
 pub mod Dead
@@ -11,9 +13,12 @@ pub mod Links
 pub mod LinksAreLanes
 pub mod LinksAreMessages
 pub mod Messages
+pub mod MessagesRoundTrip
 pub mod Moments
 pub mod Packets
+pub mod Plays
 pub mod Replays
-pub mod Sayable
 pub mod Sites
+pub mod Widths
+pub mod Traces
 pub mod Worlds

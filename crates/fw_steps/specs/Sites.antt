@@ -1,5 +1,4 @@
 -- A device's node in the world, as the code has it.
-use Rattle.mctp_wire.specs.declared.unit.Unit.TheVariants.{U64}
 use Rattle.std.specs.Prelude.{ℕ, ◌≡◌, ◌≤◌, ◌<◌, ◌⊎◌, ◌++◌, [], ◌∷◌, Bool, false, true, IfSome, is_some, List, length, map, slice_get, slice_set, Option, Some, None}
 use Rattle.fd_core.specs.Banks.{Rose}
 use Rattle.fd_core.specs.States.{DeviceState, Phase}
@@ -9,9 +8,7 @@ use Rattle.fd_core.specs.Steps.{applied_by, device_verdict}
 use Rattle.fd_core.specs.declared.states.Verdict.{Verdict}
 use Rattle.fw_message.specs.History.{EntryOf}
 use Rattle.fw_message.specs.Worlds.{NotedOf, noted_of}
-use Rattle.fw_node.specs.Nodes.{IsTold, device_hears, device_judges}
-use Rattle.fw_node.specs.Cores.{device_core}
-use Rattle.fw_node.specs.Halves.{half_hears}
+use Rattle.fw_node.specs.Nodes.{device_hears, device_judges}
 use Rattle.fw_node.specs.Packets.{all_packets}
 use Rattle.fw_steps.specs.Worlds.{SiteOf, activated_at, node_becomes, sent_now}
 
@@ -29,7 +26,6 @@ pub record Hears (now : ℕ) (old : SiteOf) (bytes : List ℕ) (new : SiteOf) : 
   pub packets : new.packets ≡ old.packets ++ sent_now now (all_packets old.node.half.unit (device_hears works old.node bytes).sent)
   pub worked : works ≡ true → new.node.faults ≡ old.node.faults
   pub failed : works ≡ false → Rose old.node.faults new.node.faults
-  pub told : IsTold U64 (half_hears device_core works old.node.half bytes)
 
 -- and of the history: what is activated is noted
 pub record HearsNoting (now : ℕ) (old : SiteOf) (bytes : List ℕ) (new : SiteOf) (before after : List NotedOf) : Type 0 where

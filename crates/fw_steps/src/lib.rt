@@ -4,10 +4,12 @@
 
 mod dead;
 mod fault;
+mod fitting;
 mod headline;
 mod isolation;
 mod links;
 mod packets;
+mod processes;
 mod recorded;
 mod site;
 mod sites;
@@ -22,7 +24,11 @@ pub use fw_message::{
 };
 pub use headline::{clocks_keep_time, moments_are_tied, packets_are_messages, packets_are_safe};
 pub use isolation::{agreement_sees_the_pair, devices_are_isolated};
-pub use links::{links_are_lanes, links_are_messages};
+pub use links::{links_are_lanes, links_are_messages, messages_round_trip};
 pub use packets::{SentPacket, SentPackets};
+pub use processes::{
+    absences_are_deeds, nodes_are_alone, packets_are_theirs, plays_are_runs, plays_are_safe,
+    processes_are_safe, traces_are_cut, traces_are_plays, traces_are_safe,
+};
 pub use step::{LogRequest, Missed, Refusal, Step, StepFault};
 pub use world::World;

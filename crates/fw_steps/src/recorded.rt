@@ -1,14 +1,11 @@
 //! What the agent records of a packet that comes to it.
 
-ghost use Rattle.std.specs.Prelude.{[], ◌≡◌, ◌≤◌, ◌+◌, ◌++◌, IfSome, None, map, option_to_list, true};
+ghost use Rattle.std.specs.Prelude.{[], ◌≡◌, ◌≤◌, ◌+◌, ◌++◌, IfSome, None, map, option_to_list};
 ghost use Rattle.std.specs.Vec.{vec_capacity, vec_len};
 ghost use Rattle.fw_message.specs.Entries.{entry_of};
 ghost use Rattle.fw_message.specs.History.{EntryOf};
 ghost use Rattle.fw_message.specs.Worlds.{noted_of};
-ghost use Rattle.fw_node.specs.Agents.{agent_hears, any_packet, half_for, hearer};
-ghost use Rattle.fw_node.specs.Cores.{session_core};
-ghost use Rattle.fw_node.specs.Halves.{half_hears};
-ghost use Rattle.fw_node.specs.Nodes.{IsTold};
+ghost use Rattle.fw_node.specs.Agents.{agent_hears, any_packet, half_for};
 ghost use Rattle.fw_steps.specs.Worlds.{made_by, record_behind, recorded_from, sender_of};
 
 use fw_message::{Entry, Event};
@@ -31,7 +28,6 @@ pub(crate) fn hear_noting<'p>(
     requires room { vec_len history.old + 1 ≤ vec_capacity history.old }
     ensures after { agent.new ≡ (agent_hears packages.now agent.old bytes.now now).agent }
     ensures sent { outbox.new ≡ (agent_hears packages.now agent.old bytes.now now).sent }
-    ensures told { IfSome (hearer agent.old bytes.now) (λ h. IsTold h.core.session.unit (half_hears (session_core packages.now) true h bytes.now)) }
     ensures history { map entry_of history.new.items ≡ map entry_of history.old.items ++ recorded_from agent.old agent.new (sender_of (any_packet bytes.now)) }
 {
     let sender = sender_of(bytes);

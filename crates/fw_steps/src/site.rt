@@ -1,17 +1,14 @@
 //! A device's node in the world, and the packets between it and the agent.
 
-ghost use Rattle.std.specs.Prelude.{[], ◌≡◌, ◌≤◌, ◌<◌, ◌+◌, ◌++◌, ◌∷◌, ◌⊎◌, Bool, IfErr, IfOk, IfSome, None, OnErr, OnOk, Some, is_some, length, map, option_map, option_to_list, true};
+ghost use Rattle.std.specs.Prelude.{[], ◌≡◌, ◌≤◌, ◌<◌, ◌+◌, ◌++◌, ◌∷◌, ◌⊎◌, Bool, IfErr, IfOk, IfSome, None, OnErr, OnOk, Some, is_some, map, option_map, option_to_list, true};
 ghost use Rattle.std.specs.Vec.{vec_capacity, vec_len};
 ghost use Rattle.exch_lane.specs.Lanes.{numbered};
 ghost use Rattle.exch_lane.specs.Steps.{sent_at};
 ghost use Rattle.fd_core.specs.Components.{HasComponents};
-ghost use Rattle.fw_node.specs.Halves.{half_ticks};
-ghost use Rattle.fw_node.specs.Cores.{device_core};
 ghost use Rattle.fw_node.specs.Nodes.{device_restarts};
 ghost use Rattle.fw_steps.specs.Dead.{AreDead, dead_count};
 ghost use Rattle.fw_steps.specs.Headline.{may_site_beat, packet_fault, verdict_fault};
 ghost use Rattle.fw_steps.specs.Replays.{adds_entry};
-ghost use Rattle.fw_steps.specs.Sayable.{SiteSpeaks, SiteSpeaksIn};
 ghost use Rattle.fw_steps.specs.Sites.{Hears, HearsNoting, IsCopyOf, Judges, JudgesNoting, is_activated, is_ready};
 ghost use Rattle.fw_steps.specs.Worlds.{site_goes_on, site_ticks};
 ghost use Rattle.fd_core.specs.Images.{puts};
@@ -411,7 +408,6 @@ impl<'a, B: Bank> Site<'a, B> {
         requires outbox { outbox.old ≡ [] }
         ensures site { self.new.site ≡ site_ticks now self.old.site }
         ensures outbox { outbox.new ≡ [] }
-        ensures spoken { SiteSpeaks self.old.site }
     {
         self.node.on_tick(outbox);
         self.since_miss = since_after(true, self.since_miss);
@@ -430,7 +426,6 @@ impl<'a, B: Bank> Site<'a, B> {
         requires outbox { outbox.old ≡ [] }
         ensures site { self.new.site ≡ site_goes_on missed.now now self.old.site }
         ensures outbox { outbox.new ≡ [] }
-        ensures spoken { SiteSpeaksIn missed.now self.old.site }
     {
         if !counts(missed, self.eid()) {
             self.miss();

@@ -6,9 +6,8 @@ ghost use Rattle.fd_core.specs.Components.{HasComponents};
 ghost use Rattle.fw_message.specs.Entries.{entry_of};
 ghost use Rattle.fw_steps.specs.Headline.{may_site_beat, new_site, unit_of, verdict_fault};
 ghost use Rattle.fw_steps.specs.Replays.{adds_entry};
-ghost use Rattle.fw_steps.specs.Sayable.{SiteSpeaksIn};
 ghost use Rattle.fw_steps.specs.Sites.{HaveRoom, HeardAt, JudgedAt, LacksRoom, sites_of};
-ghost use Rattle.fw_steps.specs.Worlds.{place_for, place_of, post, posts, site_at, site_for, site_goes_on, site_restarts};
+ghost use Rattle.fw_steps.specs.Worlds.{place_for, place_of, post, posts, site_for, site_goes_on, site_restarts};
 
 use crate::site::Site;
 use crate::step::StepFault;
@@ -155,7 +154,6 @@ pub(crate) fn pass_all<B: Bank>(
     requires outbox { outbox.old ≡ [] }
     ensures sites { sites_of sites.new ≡ map (site_goes_on missed.now now) (sites_of sites.old) }
     ensures outbox { outbox.new ≡ [] }
-    ensures spoken { AllByRecursion (SiteSpeaksIn missed.now) (sites_of sites.old) }
     ensures count { length sites.new ≡ length sites.old }
 {
     for site in sites.iter_mut() {

@@ -3,19 +3,16 @@
 ghost use Rattle.std.specs.Prelude.{[], ◌≡◌, ◌≤◌, ◌<◌, ◌+◌, ◌∷◌, Err, IfErr, IfOk, IfSome, None, OnErr, OnOk, Ok, Some, false, is_some, length, map, option_map, slice_get, true};
 ghost use Rattle.exch_lane.specs.Lanes.{numbered};
 ghost use Rattle.fw_message.specs.Entries.{entry_of};
-ghost use Rattle.fw_node.specs.Agents.{HalfMaySpeak, agent_restarts, agent_ticks, cancels, hearer, starts};
-ghost use Rattle.fw_node.specs.Cores.{session_core};
-ghost use Rattle.fw_node.specs.Halves.{half_hears};
-ghost use Rattle.fw_node.specs.Nodes.{IsTold};
+ghost use Rattle.fw_node.specs.Agents.{agent_restarts, cancels, starts};
 ghost use Rattle.fw_steps.specs.Dead.{AreDead, dead_count};
 ghost use Rattle.fw_steps.specs.Deliveries.{ComesTo};
 ghost use Rattle.fw_steps.specs.Headline.{AreNewNodes, IsOpeningWorld, Leads, is_device, is_node, may_all_beat, may_step, new_world};
 ghost use Rattle.fw_steps.specs.Replays.{Refuses};
-ghost use Rattle.fw_steps.specs.Sayable.{AgentSpeaksIn, SiteSpeaksIn};
 ghost use Rattle.fw_steps.specs.Sites.{HaveRoom, sites_of};
 ghost use Rattle.fw_steps.specs.Worlds.{agent_pass_sends, agent_passes, asks_log, at_agent, packets_of, place_of, posts, site_for, site_restarts, ticks};
-ghost use Rattle.std.specs.List.{AllByRecursion, list_all};
+ghost use Rattle.std.specs.List.{list_all};
 
+use crate::fitting::{devices_fit, packages_fit};
 use crate::packets::SentPackets;
 use crate::recorded::hear_noting;
 use crate::site::Site;
@@ -101,6 +98,8 @@ impl<'a, B: Bank + Drop> State<'a, B> {
         ensures made { IfOk result (λ w. w ≡ new_world agent devices.items packages.now) }
         ensures opens { IfOk result (λ w. IsOpeningWorld w) }
     {
+        packages_fit(packages);
+        devices_fit(devices.as_slice());
         let eids = eids_of(alloc, devices.as_slice())?;
         let unit = unit_of(devices.as_slice());
         let agent = AgentNode::new(alloc, unit, agent, eids.as_slice())?;
@@ -312,7 +311,6 @@ impl<'a, B: Bank + Drop> State<'a, B> {
     /// A packet comes to the agent.
     fn deliver_to_agent(&mut self, bytes: &[u8]) -> Result<(), StepFault>
         ensures after { OnOk result (self.new ≡ at_agent self.old bytes.now) }
-        ensures told { OnOk result (IfSome (hearer self.old.agent bytes.now) (λ h. IsTold h.core.session.unit (half_hears (session_core self.old.packages) true h bytes.now))) }
         ensures memory { IfErr result (λ e. e ≡ StepFault.Memory) }
         ensures same { OnErr result (self.new ≡ self.old) }
     {
@@ -382,8 +380,6 @@ impl<'a, B: Bank + Drop> State<'a, B> {
     fn pass(&mut self, missed: &[u8], time: u32) -> Result<(), StepFault>
         requires { time ≡ self.old.now + 1 }
         ensures after { OnOk result (self.new ≡ ticks missed.now self.old) }
-        ensures agent { OnOk result (AgentSpeaksIn missed.now self.old) }
-        ensures sites { OnOk result (AllByRecursion (SiteSpeaksIn missed.now) self.old.sites) }
         ensures memory { IfErr result (λ e. e ≡ StepFault.Memory) }
         ensures same { OnErr result (self.new ≡ self.old) }
     {
@@ -539,7 +535,6 @@ fn pass_agent<'p, B: Bank>(
     requires outbox { outbox.old ≡ [] }
     ensures agent { agent.new ≡ agent_passes counts packages.now now agent.old }
     ensures sites { sites_of sites.new ≡ posts now (sites_of sites.old) (agent_pass_sends counts packages.now agent.old) }
-    ensures speaks { counts ≡ true → agent.old.deaf ≤ 1 → AllByRecursion (HalfMaySpeak packages.now) (agent_ticks packages.now now agent.old).halves }
     ensures room { HaveRoom 64 sites.new }
     ensures outbox { outbox.new ≡ [] }
     ensures count { length sites.new ≡ length sites.old }

@@ -6,4 +6,4 @@ pub mod ParameterLaws
 pub mod Parts
 pub mod SameCommands
 mod Written
-mod WrittenAnswers
+pub mod WrittenAnswers

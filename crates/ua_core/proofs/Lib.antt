@@ -1,6 +1,6 @@
 mod AllApplied
-mod Answering
-mod Fitting
+pub mod Answering
+pub mod Fitting
 pub mod Padding
 pub mod Known
 pub mod Lawful

@@ -195,11 +195,11 @@ tick_node missed w eid x site =
 
 -- THE OPERATOR, A VERDICT, A RESTART, THE LOG
 
-activates_sites : (w : WorldOf) (device : ℕ) (o : Option SessionOf) → (activates_on w device o).sites ≡ w.sites
+pub activates_sites : (w : WorldOf) (device : ℕ) (o : Option SessionOf) → (activates_on w device o).sites ≡ w.sites
 activates_sites w device None = refl
 activates_sites w device (Some s) = refl
 
-log_sites : (w : WorldOf) (bytes : List ℕ) → (asks_log w bytes).sites ≡ w.sites
+pub log_sites : (w : WorldOf) (bytes : List ℕ) → (asks_log w bytes).sites ≡ w.sites
 log_sites w [] = refl
 log_sites w (command ∷ bytes) = refl
 

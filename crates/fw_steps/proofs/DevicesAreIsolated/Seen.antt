@@ -53,11 +53,11 @@ seen_then now packages p (Some s) = seen_by p s (link_after now packages p.link 
 
 -- THE HISTORY
 
-history_own : (eid : ℕ) (es : List EntryOf) → history_of eid (map (noted_of eid) es) ≡ es
+pub history_own : (eid : ℕ) (es : List EntryOf) → history_of eid (map (noted_of eid) es) ≡ es
 history_own eid [] = refl
 history_own eid (e ∷ es) = rw (eq-eqb eid eid refl) (ap (λ xs. e ∷ xs) (history_own eid es))
 
-history_other : (device eid : ℕ) (es : List EntryOf) → (device == eid) ≡ false → history_of eid (map (noted_of device) es) ≡ []
+pub history_other : (device eid : ℕ) (es : List EntryOf) → (device == eid) ≡ false → history_of eid (map (noted_of device) es) ≡ []
 history_other device eid [] e = refl
 history_other device eid (x ∷ es) e = rw e (history_other device eid es e)
 
@@ -116,7 +116,7 @@ pub record FoundIn {A : Type 0} (o : Option A) (P : A → Type 0) : Type 0 where
   pub is : o ≡ Some value
   pub fact : P value
 
-found_in : {A : Type 0} (P : A → Type 0) (o : Option A) → IsSomeAnd o P → FoundIn o P
+pub found_in : {A : Type 0} (P : A → Type 0) (o : Option A) → IsSomeAnd o P → FoundIn o P
 found_in P None k = absurd k
 found_in P (Some x) k = record { value = x; is = refl; fact = k }
 

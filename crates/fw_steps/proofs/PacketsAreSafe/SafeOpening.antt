@@ -18,6 +18,8 @@ use Rattle.fw_package.specs.Package.{PackageText}
 use Rattle.ua_core.specs.Session.{TimedOf}
 use Rattle.fw_steps.specs.Headline.{AreDifferent, AreNewNodes, IsNewNode, IsOpeningWorld, new_site, new_world, unit_of}
 use Rattle.fw_steps.specs.Links.{LinkOf}
+use Rattle.fw_message.specs.Worlds.{NodeOf}
+use Rattle.fw_steps.specs.Widths.{HasDeviceWidths, HavePackageWidths, HasPairWidths}
 use Rattle.fw_steps.specs.Worlds.{SiteOf, WorldOf}
 use Rattle.fw_steps.proofs.LinksAreMessages.Each.{eid_of}
 use Rattle.fw_steps.proofs.LinksAreMessages.Worlds.{AreNewLinks, IsNewLink, new_world_stands, opening_node, reaches_first}
@@ -118,6 +120,14 @@ opening_nodes u agent (n ∷ ns) k =
     All-cons IsOpeningNode (opening_node (link_for u agent n)) (map opening_node (links_for u agent ns))
     (opening_by u agent n (new_device_node n.endpoint agent k.0.device) k.0.is (ap (λ (m : DeviceNodeOf). m.half.core.device.unit) k.0.is ∙ k.0.unit) k.0.idle k.0.unapplied) (opening_nodes u agent ns k.1)
 
+-- all can be said of what is made of them
+new_speak : (packages : List PackageText) (u : «Unit») (agent : ℕ) (nodes : List DeviceNodeOf) → AllByRecursion (λ (n : DeviceNodeOf). HasDeviceWidths n.half.core.device) nodes → AllByRecursion (λ (n : NodeOf). HasPairWidths packages n.pair) (map opening_node (links_for u agent nodes))
+new_speak packages u agent [] k = tt
+new_speak packages u agent (n ∷ ns) k = (
+  record { device = k.0; session = tt; down = tt },
+  new_speak packages u agent ns k.1,
+)
+
 -- THE WORLD
 
 new_own : (agent : Endpoint) (nodes : List DeviceNodeOf) (packages : List PackageText) → AreNewNodes agent.eid nodes → AreOwn (new_world agent nodes packages)
@@ -125,8 +135,8 @@ new_own agent nodes packages k = λ i eid l e is.
     let o = own_new (unit_of nodes) agent.eid nodes k.new i eid l e is in
     record { agent = o.agent_is; device = o.device_is; asking = o.hears }
 
-new_stands : LaneIsACell → (agent : Endpoint) (nodes : List DeviceNodeOf) (packages : List PackageText) → AreNewNodes agent.eid nodes → Stand (new_world agent nodes packages) (new_world agent nodes packages)
-new_stands law agent nodes packages k =
+new_stands : LaneIsACell → (agent : Endpoint) (nodes : List DeviceNodeOf) (packages : List PackageText) → AreNewNodes agent.eid nodes → HavePackageWidths packages → AllByRecursion (λ (n : DeviceNodeOf). HasDeviceWidths n.half.core.device) nodes → Stand (new_world agent nodes packages) (new_world agent nodes packages)
+new_stands law agent nodes packages k speak devices =
     let w = new_world agent nodes packages in
     let apart : AreDifferent (agent.eid ∷ map site_eid (sites_for nodes)) = subst (λ es. AreDifferent (agent.eid ∷ es)) (sym (same_eids nodes)) k.apart in
     record {
@@ -143,11 +153,12 @@ new_stands law agent nodes packages k =
       history = refl;
       eids = same_nodes (unit_of nodes) agent.eid nodes k.new;
       reaches = reaches_first (messages_of w);
+      speaks = record { packages = speak; pairs = new_speak packages (unit_of nodes) agent.eid nodes devices };
     }
 
 -- A world as it is made stands.
 pub opening_stands : LaneIsACell → (w : WorldOf) → IsOpeningWorld w → Stand w w
-opening_stands law w k = subst (λ x. Stand x x) (sym k.is) (new_stands law k.agent k.nodes w.packages k.are)
+opening_stands law w k = subst (λ x. Stand x x) (sym k.is) (new_stands law k.agent k.nodes w.packages k.are k.packages k.devices)
 
 -- And the world of messages with it is one as it begins.
 pub opening_messages : (w : WorldOf) → IsOpeningWorld w → IsOpeningMessages (messages_of w)

@@ -4,6 +4,7 @@ use Rattle.std.specs.Option.{option_map}
 use Rattle.fw_package.specs.Package.{PackageText}
 use Rattle.fw_message.specs.Worlds.{NodeOf, NotedOf, noted_of}
 use Rattle.fw_message.specs.Worlds.{WorldOf as MessageWorld}
+use Rattle.fw_steps.specs.Widths.{HaveMessageWidths}
 use Rattle.fw_steps.specs.Headline.{AreDifferent}
 use Rattle.fw_steps.specs.LinksAreMessages.{LinksAreMessages}
 use Rattle.fw_steps.specs.Lanes.{LinkExplained}
@@ -52,6 +53,7 @@ pub record Stand (opening w : WorldOf) : Type 0 where
   pub history : messages.history ≡ w.history
   pub eids : map eid_of messages.nodes ≡ eids_of w
   pub reaches : Reaches (messages_of opening) messages
+  pub speaks : HaveMessageWidths (messages_of opening)
 
 -- What is known of a world after a step. What is added to the history is what the link that goes a step notes.
 pub record Follows (works : Bool) (s : Step) (w v : WorldOf) : Type 0 where
@@ -196,6 +198,7 @@ stand_moved lanes opening w v works s now ls notes k f m links time noted = reco
   history = m.history ∙ ap (λ h. h ++ notes) k.history ∙ sym noted;
   eids = m.same ∙ k.eids ∙ sym f.eids;
   reaches = reaches_on (messages_of opening) k.messages now ls notes k.reaches m;
+  speaks = k.speaks;
 }
 
 -- nothing went a step

@@ -30,9 +30,9 @@ use Rattle.fw_steps.proofs.LinksAreLanes.Projection.{link_at, on_agent}
 use Rattle.fw_steps.proofs.LinksAreLanes.WorldSteps.{AreLinked, projection}
 use Rattle.fw_steps.proofs.PacketsAreSafe.HistoryGrows.{history_grows}
 use Rattle.fw_steps.proofs.PacketsAreSafe.KnownDeaf.{agent_stays, deaf_goes}
-use Rattle.fw_steps.proofs.PacketsAreSafe.KnownSaid.{links_can_say}
 use Rattle.fw_steps.proofs.PacketsAreSafe.SafeStands.{Follows, Stand, known_links, stand_none, stand_one}
 use Rattle.fw_steps.proofs.PacketsAreSafe.SafeTicks.{stand_all, stand_anew}
+use Rattle.fw_steps.proofs.ReadingBack.WorldRoundTrips.{links_say}
 
 -- THE PACKAGES AND THE TIME
 
@@ -124,8 +124,8 @@ world_follows law opening w v s k h =
       eids = eids_stay h.works h.faults w s;
       agent = agent_stays h.works h.faults w s;
       deaf = λ eid. deaf_goes h.works h.faults w s eid;
-      goes = λ eid l is. projection law h.works h.faults w s eid l linked h.may (λ device d there. links_can_say h.works w s device d linked h.may h.said there) is;
-      said = λ eid l is. links_can_say h.works w s eid l linked h.may h.said is;
+      goes = λ eid l is. projection law h.works h.faults w s eid l linked h.may (λ device d there. links_say opening w device d (link_step h.works w.agent.endpoint.eid s device) k there) is;
+      said = λ eid l is. links_say opening w eid l (link_step h.works w.agent.endpoint.eid s eid) k is;
       taken = λ eid l step t is mine after. notes.taken eid l step t is mine after;
       untaken = λ none. notes.untaken none;
     }

@@ -3,8 +3,7 @@ use Rattle.std.proofs.lemmas.List.{length-map, length-set}
 use Rattle.fw_node.specs.AgentViews.{half_in}
 use Rattle.fw_node.specs.Agents.{IsAddressed, again_packets, begins, grown}
 use Rattle.fw_node.proofs.AgentTicks.{notes_more}
-use Rattle.fw_node.proofs.Loops.{done_more, fits_all, fits_more, half_was, sends_more}
-use Rattle.fw_node.proofs.Speaking.{said_next, said_of_all}
+use Rattle.fw_node.proofs.Loops.{done_more, fits_all, fits_more, half_was, holds_next, holds_of_all, sends_more}
 use Rattle.fw_node.proofs.agent_node.grow_all.Goals as goal
 
 pub loop-half-preserved : goal.loop-half-preserved
@@ -20,7 +19,7 @@ loop-half-preserved c =
       sent = sends_more again_packets xs i (half_in 0 x) c.args.outbox.now c.loop-half.outbox c.grow.new.outbox (omega (arith, long)) was c.loop-half.invariant.sent c.grow.ensures.packets;
       log = notes_more (grown c.args.packages.now) c.args.now c.args.log.now c.loop-half.log c.grow.new.log xs i (half_in 0 x) (omega (arith, long)) was c.loop-half.invariant.log c.grow.ensures.log;
       room = fits_more (begins c.args.packages.now) (grown c.args.packages.now) xs i (half_in 0 x) (length c.args.outbox.now) (length c.loop-half.outbox) (length c.grow.new.outbox) (omega (arith, long)) was c.loop-half.invariant.room c.grow.ensures.few;
-      addressed = said_next (IsAddressed c.args.packages.now) xs i (half_in 0 x) (omega (arith, long)) was c.loop-half.invariant.addressed c.grow.ensures.addressed;
+      addressed = holds_next (IsAddressed c.args.packages.now) xs i (half_in 0 x) (omega (arith, long)) was c.loop-half.invariant.addressed c.grow.ensures.addressed;
       count = length-set c.loop-half.halves i c.grow.new.half ∙ c.loop-half.invariant.count;
     }
 
@@ -35,4 +34,4 @@ returns-clause-few c =
 pub returns-clause-addressed : goal.returns-clause-addressed
 returns-clause-addressed c =
     let long = length-map c.args.halves.now (half_in 0) in
-    said_of_all (IsAddressed c.args.packages.now) (map (half_in 0) c.args.halves.now) c.loop-half.half-index (omega (arith, long, c.loop-half-test.false)) c.loop-half.invariant.addressed
+    holds_of_all (IsAddressed c.args.packages.now) (map (half_in 0) c.args.halves.now) c.loop-half.half-index (omega (arith, long, c.loop-half-test.false)) c.loop-half.invariant.addressed

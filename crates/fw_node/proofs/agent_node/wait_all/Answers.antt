@@ -1,10 +1,9 @@
-use Rattle.std.proofs.Common.{◌∙◌, ap, arith, get_or, length, map, subst}
+use Rattle.std.proofs.Common.{◌∙◌, ap, arith, get_or, length, map}
 use Rattle.std.proofs.lemmas.List.{length-map, length-set}
 use Rattle.fw_node.specs.AgentViews.{half_in}
-use Rattle.fw_node.specs.Agents.{HalfMaySpeak, begins, ended, ended_packets, waited}
+use Rattle.fw_node.specs.Agents.{begins, ended, ended_packets, waited}
 use Rattle.fw_node.proofs.AgentTicks.{notes_more}
 use Rattle.fw_node.proofs.Loops.{done_more, half_was, room_for, room_more, sends_more}
-use Rattle.fw_node.proofs.Speaking.{said_all, said_taken}
 use Rattle.fw_node.proofs.agent_node.wait_all.Goals as goal
 
 pub wait-requires : goal.wait-requires
@@ -30,12 +29,5 @@ loop-half-preserved c =
       sent = sends_more (ended_packets c.args.packages.now) xs i (half_in 0 x) c.args.outbox.now c.loop-half.outbox c.wait.new.outbox (omega (arith, long)) was c.loop-half.invariant.sent c.wait.ensures.packets;
       log = notes_more (waited c.args.packages.now) c.args.now c.args.log.now c.loop-half.log c.wait.new.log xs i (half_in 0 x) (omega (arith, long)) was c.loop-half.invariant.log c.wait.ensures.log;
       room = room_more (begins c.args.packages.now) xs i (half_in 0 x) (length c.args.outbox.now) (length c.loop-half.outbox) (length c.wait.new.outbox) (omega (arith, long)) was c.loop-half.invariant.room c.wait.ensures.few;
-      spoken = said_taken (HalfMaySpeak c.args.packages.now) (ended c.args.packages.now) xs i (half_in 0 x) (omega (arith, long)) was c.loop-half.invariant.spoken (subst (HalfMaySpeak c.args.packages.now) c.wait.ensures.half c.wait.ensures.spoken);
       count = length-set c.loop-half.halves i c.wait.new.half ∙ c.loop-half.invariant.count;
     }
-
-pub returns-clause-spoken : goal.returns-clause-spoken
-returns-clause-spoken c =
-    let long = length-map c.args.halves.now (half_in 0) in
-    said_all (HalfMaySpeak c.args.packages.now) (ended c.args.packages.now) (map (half_in 0) c.args.halves.now) (map (half_in 0) c.loop-half.halves) c.loop-half.half-index
-    (omega (arith, long, c.loop-half-test.false)) c.loop-half.invariant.halves c.loop-half.invariant.spoken

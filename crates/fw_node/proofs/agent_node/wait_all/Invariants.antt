@@ -1,7 +1,6 @@
 use Rattle.std.proofs.Common.{◌≡◌, ◌≤◌, ◌+◌, ◌*◌, ◌++◌, drop, flat_map, length, map, take}
-use Rattle.std.specs.List.{AllByRecursion}
 use Rattle.fw_node.specs.AgentViews.{half_in}
-use Rattle.fw_node.specs.Agents.{HalfMaySpeak, begins, ended, ended_packets, notes, waited}
+use Rattle.fw_node.specs.Agents.{begins, ended, ended_packets, notes, waited}
 use Rattle.fw_node.proofs.agent_node.wait_all.Given as goal
 
 -- the parts so far have waited, and what they send is sent and what happened is noted
@@ -12,6 +11,5 @@ invariant-loop-half l =
       sent : l.outbox ≡ l.fn.outbox ++ flat_map (ended_packets l.packages) (take l.half-index (map (half_in 0) l.fn.halves));
       log : l.log ≡ notes (waited l.packages) l.now l.fn.log (take l.half-index (map (half_in 0) l.fn.halves));
       room : length l.outbox ≤ length l.fn.outbox + 4 * length (flat_map (begins l.packages) (take l.half-index (map (half_in 0) l.fn.halves)));
-      spoken : AllByRecursion (HalfMaySpeak l.packages) (map (ended l.packages) (take l.half-index (map (half_in 0) l.fn.halves)));
       count : length l.halves ≡ length l.fn.halves;
     }

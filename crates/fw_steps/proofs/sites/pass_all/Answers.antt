@@ -1,9 +1,8 @@
 use Rattle.std.proofs.Common.{◌∙◌, ap, arith, get_or}
-use Rattle.std.proofs.lemmas.List.{length-map, length-set}
-use Rattle.fw_node.proofs.Loops.{done_more, half_was}
-use Rattle.fw_steps.specs.Sites.{sites_of}
+use Rattle.std.proofs.lemmas.List.{length-set}
+use Rattle.fw_node.proofs.Loops.{done_more}
 use Rattle.fw_steps.specs.Worlds.{site_goes_on}
-use Rattle.fw_steps.proofs.Places.{room_later, room_left, spoken_more}
+use Rattle.fw_steps.proofs.Places.{room_later, room_left}
 use Rattle.fw_steps.proofs.sites.pass_all.Goals as goal
 
 pub pass-requires-clause-room : goal.pass-requires-clause-room
@@ -19,9 +18,6 @@ loop-site-preserved g c =
     record {
       sites = done_more (λ s. s.site) (site_goes_on c.args.missed.now c.args.now) c.args.sites.now ss i (get_or ss i c.site-item.result) c.pass.new.self (omega arith) (ap (get_or ss i) c.site-item.is) c.loop-site.invariant.sites c.pass.ensures.site;
       room = room_later 64 ss i c.pass.new.self c.loop-site.invariant.room;
-      spoken = spoken_more c.args.missed.now (sites_of c.args.sites.now) i (get_or ss i c.site-item.result).site (omega (arith, length-map c.args.sites.now (λ s. s.site)))
-          (half_was (λ s. s.site) (site_goes_on c.args.missed.now c.args.now) c.args.sites.now ss i (get_or ss i c.site-item.result) (omega arith) (ap (get_or ss i) c.site-item.is) c.loop-site.invariant.sites)
-          c.loop-site.invariant.spoken c.pass.ensures.spoken;
       outbox = c.pass.ensures.outbox;
       count = length-set ss i c.pass.new.self ∙ c.loop-site.invariant.count;
     }

@@ -1,6 +1,4 @@
 use Rattle.std.proofs.Common.{◌≡◌, ◌++◌, [], drop, length, map, take}
-use Rattle.std.specs.List.{AllByRecursion}
-use Rattle.fw_steps.specs.Sayable.{SiteSpeaksIn}
 use Rattle.fw_steps.specs.Sites.{HaveRoom, sites_of}
 use Rattle.fw_steps.specs.Worlds.{site_goes_on}
 use Rattle.fw_steps.proofs.sites.pass_all.Given as goal
@@ -11,7 +9,6 @@ invariant-loop-site g l =
     record {
       sites : sites_of l.sites ≡ map (site_goes_on l.missed l.now) (take l.site-index (sites_of l.fn.sites)) ++ drop l.site-index (sites_of l.fn.sites);
       room : HaveRoom 64 (drop l.site-index l.sites);
-      spoken : AllByRecursion (SiteSpeaksIn l.missed) (take l.site-index (sites_of l.fn.sites));
       outbox : l.outbox ≡ [];
       count : length l.sites ≡ length l.fn.sites;
     }

@@ -3,7 +3,7 @@ use Rattle.std.proofs.lemmas.List.{with_items_is}
 use Rattle.std.specs.Vec.{with_items}
 use Rattle.std.specs.List.{AllByRecursion}
 use Rattle.fw_node.specs.AgentViews.{half_in}
-use Rattle.fw_node.specs.Agents.{HalfMaySpeak, IsAddressed, agent_tick_sends, agent_ticks}
+use Rattle.fw_node.specs.Agents.{IsAddressed, agent_tick_sends, agent_ticks}
 use Rattle.fw_node.specs.Cores.{session_core}
 use Rattle.fw_node.specs.Halves.{half_ticks}
 use Rattle.fw_node.proofs.AgentTicks.{addressed_any, deaf_ticks, hearing_sends, hearing_ticks, ticks_halves}
@@ -35,18 +35,6 @@ returns-clause-sent c =
     (rw c.as_mut_slice.ensures.value at c.grow_all.ensures.halves)
     (rw (c.requires, c.as_mut_slice.ensures.value) at c.grow_all.ensures.sent) (rw first at c.wait_all.ensures.sent)
     ∙ ap (agent_tick_sends c.args.packages.now) c.self.view_is
-
-pub returns-then-self-gt1-clause-spoken : goal.returns-then-self-gt1-clause-spoken
-returns-then-self-gt1-clause-spoken c few =
-    let deaf : c.self.inside.deaf ≤ 1 = subst (λ n. n.deaf ≤ 1) (sym c.self.view_is) few in
-    absurd (omega (arith, deaf, c.if-self-gt1.true))
-
-pub returns-clause-spoken : goal.returns-clause-spoken
-returns-clause-spoken c few =
-    let v = c.self.inside.halves in
-    let once = with_items v c.grow_all.new.halves in
-    let last = with_items_is once c.wait_all.new.halves (c.wait_all.ensures.count ∙ c.as_mut_slice-2.ensures.len) in
-    subst (λ ps. AllByRecursion (HalfMaySpeak c.args.packages.now) (map (half_in 0) ps)) (sym last) c.wait_all.ensures.spoken
 
 pub returns-then-self-gt1-clause-halves : goal.returns-then-self-gt1-clause-halves
 returns-then-self-gt1-clause-halves c =

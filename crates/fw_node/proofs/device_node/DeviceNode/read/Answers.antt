@@ -1,11 +1,8 @@
-use Rattle.std.proofs.Common.{◌∙◌, ap, subst, sym}
-use Rattle.mctp_wire.specs.declared.unit.Unit.TheVariants.{U64}
+use Rattle.std.proofs.Common.{◌∙◌, ap, sym}
 use Rattle.mctp_wire.specs.Packet.{spelling}
 use Rattle.mctp_wire.proofs.Spelled.{spelled_alike}
-use Rattle.fw_node.specs.Cores.{device_core}
-use Rattle.fw_node.specs.Nodes.{IsTold}
 use Rattle.fw_node.specs.Packets.{all_packets}
-use Rattle.fw_node.proofs.Readings.{device_alike, half_alike}
+use Rattle.fw_node.proofs.Readings.{device_alike}
 use Rattle.fw_node.proofs.device_node.DeviceNode.read.Goals as goal
 
 pub returns-clause-half : goal.returns-clause-half
@@ -25,8 +22,3 @@ returns-clause-packets g c =
     c.hear.ensures.packets
     ∙ ap (λ heard. all_packets c.args.self.now.half.unit heard.sent) (sym (device_alike c.hear.result c.args.self.now c.args.bytes.now (spelling c.in-Ok.packet)
     (λ u. spelled_alike c.unit.result u c.args.bytes.now c.in-Ok.packet c.in-Ok.ensures.value)))
-
-pub returns-clause-told : goal.returns-clause-told
-returns-clause-told g c =
-    subst (IsTold U64) (sym (half_alike device_core c.hear.result c.args.self.now.half c.args.bytes.now (spelling c.in-Ok.packet)
-    (λ u. spelled_alike c.unit.result u c.args.bytes.now c.in-Ok.packet c.in-Ok.ensures.value))) c.hear.ensures.told

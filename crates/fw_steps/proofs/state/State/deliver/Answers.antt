@@ -1,8 +1,4 @@
-use Rattle.std.proofs.Common.{◌∙◌, IfSome, ap, subst, sym, true}
-use Rattle.fw_node.specs.Agents.{hearer}
-use Rattle.fw_node.specs.Cores.{session_core}
-use Rattle.fw_node.specs.Halves.{half_hears}
-use Rattle.fw_node.specs.Nodes.{IsTold}
+use Rattle.std.proofs.Common.{◌∙◌, ap, subst, sym}
 use Rattle.fw_steps.specs.Deliveries.{ComesTo}
 use Rattle.fw_steps.specs.Worlds.{at_agent}
 use Rattle.fw_steps.proofs.Leading.{agent_leads, device_leads, differs, equals}
@@ -13,7 +9,6 @@ returns-then-node-eid-clause-taken g c =
     agent_leads c.args.self.now c.deliver_to_agent.new.self c.args.device c.args.number c.args.node c.in-Ok.bytes.items c.in-Ok.ensures.ok c.in-Ok.ensures.found
     (equals _ _ (c.if-node-eid.true ∙ c.eid.ensures ∙ ap (λ w. w.agent.endpoint.eid) c.self.view_is))
     (c.in-Ok-deliver_to_agent.ensures.after ∙ ap (at_agent c.args.self.now) c.as_slice.ensures.value)
-    (subst (λ b. IfSome (hearer c.args.self.now.agent b) (λ h. IsTold h.core.session.unit (half_hears (session_core c.args.self.now.packages) true h b))) c.as_slice.ensures.value c.in-Ok-deliver_to_agent.ensures.told)
 
 pub returns-clause-taken : goal.returns-clause-taken
 returns-clause-taken g c =

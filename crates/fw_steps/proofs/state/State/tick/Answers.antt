@@ -1,8 +1,7 @@
-use Rattle.std.proofs.Common.{◌<◌, ◌≡◌, ◌∙◌, ap, arith, subst, sym, true}
+use Rattle.std.proofs.Common.{◌<◌, ◌≡◌, ◌∙◌, ap, arith, sym, true}
 use Rattle.std.proofs.lemmas.Bool.{lt-ltb}
-use Rattle.std.specs.List.{AllByRecursion, list_all}
+use Rattle.std.specs.List.{list_all}
 use Rattle.fw_steps.specs.Headline.{is_node, may_all_beat}
-use Rattle.fw_steps.specs.Sayable.{AgentSpeaksIn, SiteSpeaksIn}
 use Rattle.fw_steps.specs.Worlds.{ticks}
 use Rattle.fw_steps.proofs.Leading.{tick_goes, tick_leads}
 use Rattle.fw_steps.proofs.state.State.tick.Goals as goal
@@ -16,5 +15,3 @@ returns-clause-taken g c =
     let may : may_all_beat c.args.missed.now.items w ≡ true = sym (c.if-not-may_all_beat.ensures ∙ ap (λ m. may_all_beat m w) c.as_slice-2.ensures.value) in
     tick_leads w c.pass.new.self c.args.missed.now (tick_goes known (lt-ltb w.now 4294967295 soon) may)
     (c.in-Ok.ensures.after ∙ ap (λ m. ticks m w) c.as_slice-3.ensures.value)
-    (subst (λ m. AgentSpeaksIn m w) c.as_slice-3.ensures.value c.in-Ok.ensures.agent)
-    (subst (λ m. AllByRecursion (SiteSpeaksIn m) w.sites) c.as_slice-3.ensures.value c.in-Ok.ensures.sites)

@@ -1,3 +1,0 @@
-pub mod Banks
-pub mod Held
-pub mod Lending

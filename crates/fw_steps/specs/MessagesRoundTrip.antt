@@ -1,0 +1,33 @@
+-- What is said in a run reads back. A node answers only what decodes to the same answer again and
+-- fits a message, and wishes to ask only what can be encoded. Nothing is assumed of this but that
+-- the packages and devices of the opening world fit the fields of messages (`packages` and
+-- `devices` of `IsOpeningWorld`). That an encoded command reads back is `commands_read_back` of
+-- `fwup_wire`.
+use Rattle.std.specs.Prelude.{ℕ, ◌≡◌, Bool, true, List, IfSome, IsSomeAnd}
+use Rattle.mctp_wire.specs.declared.unit.Unit.TheVariants.{U64}
+use Rattle.fw_package.specs.Package.{PackageText}
+use Rattle.fwup_wire.specs.Commands.{IsSpoken}
+use Rattle.ua_core.specs.Session.{TimedOf}
+use Rattle.fw_node.specs.Agents.{half_for}
+use Rattle.fw_node.specs.Cores.{TimedDevice, device_core, session_core}
+use Rattle.fw_node.specs.Halves.{HalfOf, half_hears, half_ticks}
+use Rattle.fw_node.specs.Nodes.{IsTold}
+use Rattle.fw_steps.specs.Headline.{IsOpeningWorld, Run, is_device}
+use Rattle.fw_steps.specs.Worlds.{WorldOf, site_for}
+use Rattle.fw_steps.specs.declared.step.Step.{Step}
+
+-- The agent's half for a device and the device's half for the agent. An answer is to any packet,
+-- also one that was never sent (`agent_answers`, `device_answers`). A request is what the half
+-- wishes to ask after its next tick (`agent_asks`, `device_asks`).
+pub record RoundTrips (packages : List PackageText) (agent : HalfOf TimedOf) (device : HalfOf TimedDevice) : Type 0 where
+  pub agent_answers : (bytes : List ℕ) → IsTold agent.core.session.unit (half_hears (session_core packages) true agent bytes)
+  pub device_answers : (works : Bool) (bytes : List ℕ) → IsTold U64 (half_hears device_core works device bytes)
+  pub agent_asks : IfSome ((session_core packages).wish (half_ticks (session_core packages) true agent).half.core) IsSpoken
+  pub device_asks : IfSome (device_core.wish (half_ticks device_core true device).half.core) IsSpoken
+
+-- Along every run, each device of the opening world is there, the agent has a half for it, and what
+-- is said between the two reads back.
+abbrev pub MessagesRoundTrip : Type 0
+MessagesRoundTrip =
+    (opening w : WorldOf) (steps : List Step) → IsOpeningWorld opening → Run opening steps w → (eid : ℕ) → is_device opening eid ≡ true
+    → IsSomeAnd (half_for w.agent eid) (λ agent. IsSomeAnd (site_for w.sites eid) (λ x. RoundTrips w.packages agent x.node.half))
