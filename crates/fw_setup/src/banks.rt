@@ -1,6 +1,6 @@
 //! Where the banks of a configuration's devices are made.
 
-ghost use Rattle.std.specs.Prelude.{◌≡◌, [], IfOk, map};
+ghost use Rattle.std.specs.Prelude.{◌≡◌, [], IfErr, IfOk, map};
 ghost use Rattle.fd_core.specs.Banks.{AreApart};
 ghost use Rattle.fd_core.specs.Images.{key_of};
 ghost use Rattle.fw_script.specs.Seen.{component_of};
@@ -36,6 +36,30 @@ pub trait Banks<B: Bank + Drop> {
         ensures rows { IfOk result (λ b. B.rows b ≡ map row_made (map component_of components.now)) }
         ensures apart { IfOk result (λ b. AreApart (map key_of (B.rows b))) }
         ensures faults { IfOk result (λ b. B.faults b ≡ 0) };
+}
+
+/// Makes banks in memory.
+#[derive(Clone, Copy)]
+pub struct MemBanks;
+
+impl Banks<MemBank> for MemBanks {
+    fn make(
+        &mut self,
+        alloc: Global,
+        _device: u8,
+        components: &[ComponentConfig],
+    ) -> Result<MemBank, BanksFault>
+        requires new { AreNew [] (keys_of (map component_of components.now)) }
+        ensures rows { IfOk result (λ b. b.rows ≡ map row_made (map component_of components.now)) }
+        ensures apart { IfOk result (λ b. AreApart (map key_of b.rows)) }
+        ensures faults { IfOk result (λ b. b.faults ≡ 0) }
+        ensures memory { IfErr result (λ e. e ≡ BanksFault.Memory) }
+    {
+        match mem_bank(alloc, components) {
+            Ok(bank) => Ok(bank),
+            Err(_) => Err(BanksFault::Memory),
+        }
+    }
 }
 
 /// A bank in memory of these components, each with the image that runs.

@@ -5,19 +5,17 @@ mod banks;
 mod forecast_laws;
 mod forecast_text;
 mod foretold;
-mod lent_banks;
 mod nodes;
 mod stocks;
 mod store_banks;
 mod stores;
 
-pub use banks::{Banks, BanksFault, mem_bank};
+pub use banks::{Banks, BanksFault, MemBanks, mem_bank};
 pub use forecast_laws::foretells_sessions;
 pub use forecast_text::{forecast, known};
 pub use foretold::{
     component_word, first_lacked, key, passed, plan_word, running, sent_stamp, update_word,
 };
-pub use lent_banks::LentBanks;
 pub use nodes::{opening_world, opening_world_over};
 pub use stocks::{configured_images, stock};
 pub use store_banks::StoreBanks;

@@ -8,11 +8,9 @@ ghost use Rattle.fw_script.specs.Whole.{AreWhole, IsDevice};
 ghost use Rattle.fw_steps.specs.Headline.{AreNewNodes, IsNewNode, IsOpeningWorld, new_world};
 ghost use Rattle.fw_setup.specs.Nodes.{device_made, node_made, nodes_made};
 
-use crate::banks::{Banks, BanksFault};
-use crate::lent_banks::LentBanks;
+use crate::banks::{Banks, BanksFault, MemBanks};
 use arrayvec::ArrayVec;
-use fd_core::{Bank, Component, Device, MAX_COMPONENTS};
-use fw_lent::LentBank;
+use fd_core::{Bank, Component, Device, MAX_COMPONENTS, MemBank};
 use fw_node::DeviceNode;
 use fw_package::Package;
 use fw_script::{ComponentConfig, DeviceConfig};
@@ -149,7 +147,7 @@ pub fn opening_world_over<'a, B: Bank + Drop, M: Banks<B>>(
     }
 }
 
-/// The same over banks in memory that lend from the packages.
+/// The same over banks in memory.
 ///
 /// # Errors
 /// `AllocError` where memory for it is refused.
@@ -159,13 +157,12 @@ pub fn opening_world<'a>(
     agent: Endpoint,
     devices: Vec<DeviceConfig>,
     packages: &'a [Package<'a>],
-) -> Result<World<'a, LentBank<'a>>, AllocError>
+) -> Result<World<'a, MemBank>, AllocError>
     requires { AreWhole agent.eid (map device_of devices.items) }
     ensures made { IfOk result (λ w. w ≡ new_world agent (nodes_made unit agent.eid (map device_of devices.items)) packages.now) }
     ensures opens { IfOk result (λ w. IsOpeningWorld w) }
 {
-    let mut banks = LentBanks::new(packages);
-    match opening_world_over(alloc, unit, agent, &devices, packages, &mut banks) {
+    match opening_world_over(alloc, unit, agent, &devices, packages, &mut MemBanks) {
         Ok(world) => Ok(world),
         Err(_) => Err(AllocError),
     }

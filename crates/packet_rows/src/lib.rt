@@ -1,4 +1,4 @@
-//! Tests of packets, messages, and PLDM headers and base commands. `tests/program` asks the built program the rest: what is
+//! Tests of packets, frames, messages, and PLDM headers and base commands. `tests/program` asks the built program the rest: what is
 //! refused as no packet, and each control message and base command.
 #![tactic(auto)]
 
@@ -14,3 +14,5 @@ mod headers;
 mod messages;
 #[cfg(test)]
 mod packets;
+#[cfg(test)]
+mod serial;

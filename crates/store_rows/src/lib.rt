@@ -1,4 +1,4 @@
-//! Tests of banks over a store, of stores, and of banks that lend from packages.
+//! Tests of banks over a store, and of stores.
 #![tactic(auto)]
 
 #[cfg(test)]
@@ -7,5 +7,3 @@ mod banks;
 mod failing;
 #[cfg(test)]
 mod lasting;
-#[cfg(test)]
-mod lending;

@@ -1,0 +1,4 @@
+pub mod Check
+pub mod Frames
+pub mod Reader
+pub mod Laws
