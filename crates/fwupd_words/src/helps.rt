@@ -40,7 +40,8 @@ Faults of a package. The first that holds is printed:
   Checksum      the header's checksum isn't that of the bytes before it
   ImageRange    a component's image goes past the file's end
 
-Limits: the file's path is UTF-8 text, and the file fits into memory.
+Limits: the file's path is UTF-8 text. Of a plain file no more than 65535 bytes are read. A pipe is
+read whole, and has to fit into memory.
 
 Status: 0; 1 if standard error says 'fwupd: package: ' and a fault, 'fwupd: FILE: unreadable',
 'fwupd: output' or 'fwupd: memory'; 2 for wrong usage.";
