@@ -223,8 +223,27 @@ $work/a.pipe: it is no plain file, or another file of this command, or in its st
         "$(shown_by build "$work/no.spec" "$work/a.pipe" | tr -d '\r')"
     compare 'which line a step stands in' "fwupd: step 4: Refused:NotNow
 $work/late.schedule: line 4: verdict 9 verify-ok" "$(shown_by replay data/worlds/one.config "$work/late.schedule" | tr -d '\r')"
+    explained_pipes
     compare 'nothing is said elsewhere' 'fwupd: none: unreadable' "$(fwupd inspect none 2>&1)"
     compare 'help whose reader is gone' 0 "$({ { sleep 0.2; fwupd --help 2>&3; echo $? >&3; } | true; } 3>&1)"
+}
+
+# What a command line prints on a terminal, where the bytes of a file are given once, through the pipe that it names.
+piped() {
+    local file=$1
+    shift
+    timeout 10 cat "$file" > "$work/once" &
+    shown_by "$@" | tr -d '\r'
+    wait
+}
+
+# What came through a pipe isn't opened again to explain a fault: nobody may write into it a second time.
+explained_pipes() {
+    mkfifo "$work/once"
+    compare 'a configuration through a pipe' 'fwupd: package: Short' "$(piped "$work/pair.config" plan "$work/once")"
+    compare 'a schedule through a pipe' 'fwupd: step 4: Refused:NotNow' "$(piped "$work/late.schedule" replay data/worlds/one.config "$work/once")"
+    { grep -v '^package' "$work/pair.config"; echo "package $work/once"; } > "$work/once.config"
+    compare 'a package through a pipe' 'fwupd: package: Short' "$(piped "$work/short" plan "$work/once.config")"
 }
 
 # What is shown of a longer run, in which four devices load three images of a MiB each: how far the first device is, again and
@@ -248,12 +267,13 @@ far_on_a_terminal() {
     compare 'by the ends of requests' '' "$(awk '$1 % 240 != 0 && $1 != 1048576' <<< "$shown")"
 }
 
-# What a command line prints on a terminal that is its standard error.
+# What a command line prints on a terminal that is its standard error. It gets a minute.
 shown_by() {
     (cd crates/fwupd && python3 -c '
-import os, pty, sys
+import os, pty, signal, sys
 own, other = pty.openpty()
 if os.fork() == 0:
+    signal.alarm(60)
     os.dup2(os.open("/dev/null", os.O_WRONLY), 1)
     os.dup2(other, 2)
     os.execvp("fwupd", ["fwupd"] + sys.argv[1:])

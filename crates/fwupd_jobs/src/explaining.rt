@@ -1,6 +1,7 @@
 //! What helps to find why a job failed, beneath the line that says so. It is said on a terminal alone.
 
-ghost use Rattle.std.specs.Prelude.{◌≡◌, IfOk, IfSome, length};
+ghost use Rattle.std.specs.Prelude.{◌≡◌, IfOk, IfSome, is_err, length};
+ghost use Rattle.fw_package.specs.Reading.{package_of};
 ghost use Rattle.fw_script.specs.Schedules.{script_of};
 
 use crate::clues::{Clue, clue_to};
@@ -22,17 +23,36 @@ fn explain_unreadable(rt: &HostRuntime, path: &str) {
     }
 }
 
-/// Whether the file of a path holds no package.
-fn is_no_package(rt: &HostRuntime, path: &str) -> bool {
-    match SystemFiles::new(rt).read(rt.alloc(), path) {
-        Ok(bytes) => Package::read(&bytes).is_err(),
+/// Whether a path names a pipe, a device or a socket, which may wait when it is opened.
+fn is_special(rt: &HostRuntime, path: &str) -> bool {
+    match fs::metadata(rt, path) {
+        Ok(found) => !found.is_file() && !found.is_dir(),
+        Err(_) => false,
+    }
+}
+
+/// The bytes of a file, read once more. A pipe, a device or a socket isn't read again: it may have nothing more to give, and wait.
+fn read_again(rt: &HostRuntime, path: &str) -> Option<Vec<u8>> {
+    if is_special(rt, path) {
+        return None;
+    }
+    SystemFiles::new(rt).read(rt.alloc(), path).ok()
+}
+
+/// Whether bytes are no package.
+fn is_no_package(bytes: &[u8]) -> bool
+    ensures { result ≡ is_err (package_of bytes.now) }
+{
+    match Package::read(bytes) {
+        Ok(_) => false,
         Err(_) => true,
     }
 }
 
-/// Which package of a configuration is none: the first, and its line there.
+/// Which package of a configuration is none: the first, and its line there. Nothing is said where a package before it can't be read
+/// again.
 fn explain_package(rt: &HostRuntime, config: &str) {
-    let Ok(bytes) = SystemFiles::new(rt).read(rt.alloc(), config) else {
+    let Some(bytes) = read_again(rt, config) else {
         return;
     };
     let Ok(text) = str::from_utf8(&bytes) else {
@@ -42,7 +62,10 @@ fn explain_package(rt: &HostRuntime, config: &str) {
     for line in text.split('\n') {
         number = number.saturating_add(1);
         if let Some(path) = line.strip_prefix("package ") {
-            if is_no_package(rt, path) {
+            let Some(package) = read_again(rt, path) else {
+                return;
+            };
+            if is_no_package(&package) {
                 let _ = eprintln!(rt; "{config}: line {number}: {path}");
                 return;
             }
@@ -63,7 +86,7 @@ fn steps_of(alloc: Global, line: &str) -> Option<usize>
 
 /// The line of a schedule in which a step stands, numbered from 1.
 fn explain_step(rt: &HostRuntime, schedule: &str, step: usize) {
-    let Ok(bytes) = SystemFiles::new(rt).read(rt.alloc(), schedule) else {
+    let Some(bytes) = read_again(rt, schedule) else {
         return;
     };
     let Ok(text) = str::from_utf8(&bytes) else {
@@ -81,14 +104,6 @@ fn explain_step(rt: &HostRuntime, schedule: &str, step: usize) {
             let _ = eprintln!(rt; "{schedule}: line {number}: {line}");
             return;
         }
-    }
-}
-
-/// Whether a path names a pipe, a device or a socket, which may wait when it is opened.
-fn is_special(rt: &HostRuntime, path: &str) -> bool {
-    match fs::metadata(rt, path) {
-        Ok(found) => !found.is_file() && !found.is_dir(),
-        Err(_) => false,
     }
 }
 
