@@ -106,7 +106,7 @@ static int is_unsynced(void) {
 }
 
 int fdatasync(int file) {
-    return is_failed() || is_unsynced() ? -1 : syscall(SYS_fdatasync, file);
+    return is_stopped() || is_failed() || is_unsynced() ? -1 : syscall(SYS_fdatasync, file);
 }
 
 int rename(const char *from, const char *to) {

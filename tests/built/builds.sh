@@ -86,9 +86,46 @@ built_texts() {
     : > "$work/spec"
     row '' '0||' build "$work/spec" "$work/made"
     compare 'the size of an empty package' 43 "$(wc -c < "$work/made" | tr -d ' ')"
-    : > "$work/made.new"
-    row '' '1||fwupd: output' build "$work/spec" "$work/made"
-    rm "$work/made.new"
+    built_beside
+    built_by_links
+}
+
+# What an interrupted build left isn't in the way, and stays. A package has the permissions of the file in whose place it comes.
+built_beside() {
+    local folder=$work/beside
+    mkdir -p "$folder"
+    echo left | tee "$folder/made.new" > "$folder/made.4321.new"
+    install -m 640 /dev/null "$folder/made"
+    row '' '0||' build "$work/spec" "$folder/made"
+    compare 'what stands beside a package' 'made made.4321.new made.new left left 43 640' \
+        "$(ls "$folder" | xargs) $(cat "$folder/made.new" "$folder/made.4321.new" | xargs) $(stat -c '%s %a' "$folder/made")"
+}
+
+# A package comes to the place to which a link leads, and each link stays: to a file, to no file, to a link of another folder, and
+# the one to standard output. Two links that lead to each other lead to no place, and one whose text isn't UTF-8 isn't followed.
+built_by_links() {
+    local folder=$work/links name
+    mkdir -p "$folder/in"
+    echo before | tee "$folder/whole" > "$folder/in/far"
+    ln -s whole "$folder/named"
+    ln -s fresh "$folder/loose"
+    ln -s in/near "$folder/long"
+    ln -s far "$folder/in/near"
+    ln -s round "$folder/ring"
+    ln -s ring "$folder/round"
+    ln -s /proc/self/fd/1 "$folder/printed"
+    ln -s $'\xFF' "$folder/odd"
+    for name in named loose long; do
+        row '' '0||' build "$work/spec" "$folder/$name"
+    done
+    row '' '1||fwupd: output' build "$work/spec" "$folder/ring"
+    row '' '1||fwupd: output' build "$work/spec" "$folder/odd"
+    row '' '1||fwupd: output' build "$work/spec" "$folder/printed"
+    (fwupd build "$work/spec" "$folder/printed" > "$folder/out")
+    compare 'what links name is built' '43 43 43 43' "$(cd "$folder" && stat -c %s whole fresh in/far out | xargs)"
+    compare 'and the links stay' $'whole fresh in/near far round ring /proc/self/fd/1 \xFF' \
+        "$(cd "$folder" && for name in named loose long in/near ring round printed odd; do readlink $name; done | xargs)"
+    compare 'nothing is left beside' '' "$(ls "$folder" "$folder/in" | grep new)"
 }
 
 # A package isn't built over what it is built of, by whatever name, nor in the place of what is no file.

@@ -155,6 +155,7 @@ logs() {
     compare 'the log of a replay that stops' '' "$(cmp "$work/log" "$work/other" 2>&1)"
     holds "cd crates/fwupd && fwupd run --sel /dev/full $config '$work' 2>&1" 1 'session Done' 'fwupd: sel'
     holds "cd crates/fwupd && fwupd run --sel '$work/none/log' $config '$work' 2>&1" 1 'fwupd: sel'
+    kept_logs
     for size in 1 15 17 2049 2064; do
         head -c "$size" /dev/zero > "$work/cut"
         row '' '1||fwupd: sel: Size' sel "$work/cut"
@@ -244,6 +245,28 @@ explained_pipes() {
     compare 'a schedule through a pipe' 'fwupd: step 4: Refused:NotNow' "$(piped "$work/late.schedule" replay data/worlds/one.config "$work/once")"
     { grep -v '^package' "$work/pair.config"; echo "package $work/once"; } > "$work/once.config"
     compare 'a package through a pipe' 'fwupd: package: Short' "$(piped "$work/short" plan "$work/once.config")"
+}
+
+# The log of an earlier run stays until the records of this one are whole: where the run ends by a fault before, by a signal, or
+# where its log can't come to its place. It comes to the place to which a link leads, and to a pipe as it is.
+kept_logs() {
+    local folder=$work/logs config=data/worlds/one.config
+    mkdir -p "$folder/taken" "$folder/off"
+    touch "$folder/taken/9.sock"
+    echo earlier > "$folder/log"
+    ln -s log "$folder/link"
+    ln -s off/new "$folder/loose"
+    compare 'a log of a run without sockets' 'fwupd: socket: 9 earlier' "$(cd crates/fwupd && fwupd run --sel "$folder/log" "$config" "$folder/taken" 2>&1) $(< "$folder/log")"
+    compare 'a log in a folder that is none' 'fwupd: sel earlier' "$(cd crates/fwupd && fwupd run --sel "$folder/log/" "$config" "$folder" 2>&1) $(< "$folder/log")"
+    compare 'no socket is made for it' '' "$(find "$folder" -maxdepth 1 -name '*.sock')"
+    mkfifo "$folder/steps"
+    # nobody reads the steps, so the run waits there until the signal comes
+    (cd crates/fwupd && exec timeout -s INT 1 fwupd run --sel "$folder/log" --record "$folder/steps" "$config" "$folder" > "$work/report" 2>&1)
+    compare 'the log of a run that is interrupted' earlier "$(< "$folder/log")"
+    (cd crates/fwupd && fwupd run --sel "$folder/link" "$config" "$folder" && fwupd run --sel "$folder/loose" "$config" "$folder") > "$work/report"
+    compare 'logs by links' '48 48 log off/new' "$(stat -c %s "$folder/log" "$folder/off/new" | xargs) $(readlink "$folder/link") $(readlink "$folder/loose")"
+    compare 'a log into a pipe' 48 "$(cd crates/fwupd && { fwupd run --sel /dev/fd/3 "$config" "$folder" 3>&1 > "$work/report"; } | wc -c)"
+    compare 'nothing is left beside a log' '' "$(find "$folder" -name '*.new')"
 }
 
 # What is shown of a longer run, in which four devices load three images of a MiB each: how far the first device is, again and

@@ -10,7 +10,7 @@ soaks() {
     compare 'the words of a soak' "$(printf 'runs\nactivations\nlosses\nrestarts\nlongest\nviolations')" "$(cut -d ' ' -f 1 <<< "$first")"
     compare 'its runs' 'runs 20' "$(head -n 1 <<< "$first")"
     compare 'its violations' 'violations 0' "$(tail -n 1 <<< "$first")"
-    compare 'no run is kept' '' "$(cd "$folder" && ls kept kept.new 2> /dev/null)"
+    compare 'no run is kept' '' "$(cd "$folder" && ls | grep "^kept")"
     compare 'the same again' "$first" "$(cd "$folder" && fwupd soak --runs 20 --seed 7 $rough one.config 2>&1)"
     holds "cd '$folder' && fwupd soak --runs 20 --seed 7 $rough one.config 2>&1" 0 'violations 0'
     holds "cd '$folder' && fwupd soak --runs 3 --loss 100 one.config 2>&1" 0 "$(printf 'runs 3\nactivations 0\n')" "$(printf 'longest 0\nviolations 0')"

@@ -1,6 +1,6 @@
 -- Images that are read one after the other, and what is built of them.
 use Rattle.std.proofs.Common.{◌≡◌, ◌<◌, ◌+◌, ◌++◌, ◌⊎◌, ◌∙◌, ℕ, zero, suc, Bool, true, List, [], ◌∷◌, Option, Some, None, OnOk, Result, Ok, Err, inl, inr, length, map, take, get_or, Vec, Global, refl, sym, ap, subst, append_assoc, append-nil, arith}
-use Rattle.std.specs.Prelude.{IsSomeAnd, drop, slice_get}
+use Rattle.std.specs.Prelude.{IfSome, IsSomeAnd, drop, slice_get}
 use Rattle.std.specs.Io.KnownBytes.{Appends}
 use Rattle.std.specs.List.{concat}
 use Rattle.std.proofs.KnownBytes.{Appends-trans}
@@ -11,6 +11,7 @@ use Rattle.fw_script.specs.PackageSpecs.{PackageSpecOf, SpecComponentOf, package
 use Rattle.fw_script.specs.declared.package_spec.SpecComponent.{SpecComponent}
 use Rattle.fwupd_jobs.specs.Built.{AreImages, Builds, ImageFails, ImagesFail, IsBuilt, IsImage, asked_by, components_by}
 use Rattle.fwupd_watch.specs.Files.{FileOf}
+use Rattle.fwupd_watch.specs.Places.{IsPut}
 use Rattle.fwupd_jobs.specs.Setups.{Says}
 use Rattle.fwupd_watch.specs.declared.faults.RunFault.{RunFault}
 use Rattle.fwupd_watch.specs.declared.faults.RunFault.TheVariants as faults
@@ -86,14 +87,14 @@ sizes_of files (c ∷ cs) [] h = absurd h
 sizes_of files (c ∷ cs) (i ∷ is) h = ap (λ ns. length i ∷ ns) (sizes_of files cs is h.1)
 
 -- what is put in its place is the package
-put_whole : (files : List ℕ → FileOf) (path : List ℕ) (w held : Option (List ℕ)) (bytes : List ℕ) → IsBuilt files path bytes → Appends (Some []) w bytes → held ≡ w
+put_whole : (files : List ℕ → FileOf) (path : List ℕ) (w held : Option (List ℕ)) (bytes : List ℕ) → IsBuilt files path bytes → Appends (Some []) w bytes → IfSome w (λ b. held ≡ Some b)
     → IsSomeAnd held (λ b. IsBuilt files path b)
 put_whole files path None held bytes h p e = absurd p
 put_whole files path (Some x) held bytes h p e = subst (λ o. IsSomeAnd o (λ b. IsBuilt files path b)) (sym e) (subst (IsBuilt files path) (sym p) h)
 
 pub built : (files : List ℕ → FileOf) (path : List ℕ) (spec : PackageSpecOf) (images : List (List ℕ)) (header : List ℕ) (known : Bool) (begun w held : Option (List ℕ))
     → Says package_spec_of (files path) spec → AreImages files spec.components images → header ≡ header_bytes (asked_by spec images) → IsHeaderOf (asked_by spec images) header
-    → (known ≡ true → begun ≡ Some []) → Appends begun w (header ++ concat images) → (known ≡ true → held ≡ w) → Builds files path known held
+    → (known ≡ true → begun ≡ Some []) → Appends begun w (header ++ concat images) → (known ≡ true → IfSome w (λ b. held ≡ Some b)) → Builds files path known held
 built files path spec images header known begun w held says are is of begins written put = λ yes.
     let sizes = sizes_of files spec.components images are in
     put_whole files path w held (header ++ concat images)
@@ -108,10 +109,27 @@ built files path spec images header known begun w held says are is of begins wri
     })
     (subst (λ o. Appends o w (header ++ concat images)) (begins yes) written) (put yes)
 
+-- what a file at its place holds, and what it holds after a loss of power
+put_held : (w held lasting : Option (List ℕ)) → IsPut w held lasting → IfSome w (λ b. held ≡ Some b)
+put_held None held lasting p = tt
+put_held (Some x) held lasting p = p.0
+
+put_lasting : (w held lasting : Option (List ℕ)) → IsPut w held lasting → IfSome w (λ b. lasting ≡ Some b)
+put_lasting None held lasting p = tt
+put_lasting (Some x) held lasting p = p.1
+
 pub built_on : {A : Type 0} (files : List ℕ → FileOf) (path : List ℕ) (spec : PackageSpecOf) (images : List (List ℕ)) (header : List ℕ) (known still : Bool)
-    (begun w held : Option (List ℕ)) (end : Result A RunFault)
+    (begun w held lasting : Option (List ℕ)) (end : Result A RunFault)
     → Says package_spec_of (files path) spec → AreImages files spec.components images → header ≡ header_bytes (asked_by spec images) → IsHeaderOf (asked_by spec images) header
-    → (known ≡ true → begun ≡ Some []) → still ≡ known → Appends begun w (header ++ concat images) → OnOk end (still ≡ true → held ≡ w) → OnOk end (Builds files path known held)
-built_on files path spec images header known still begun w held (Ok a) says are is of begins same written put =
-    built files path spec images header known begun w held says are is of begins written (λ yes. put (same ∙ yes))
-built_on files path spec images header known still begun w held (Err fault) says are is of begins same written put = tt
+    → (known ≡ true → begun ≡ Some []) → still ≡ known → Appends begun w (header ++ concat images) → OnOk end (still ≡ true → IsPut w held lasting) → OnOk end (Builds files path known held)
+built_on files path spec images header known still begun w held lasting (Ok a) says are is of begins same written put =
+    built files path spec images header known begun w held says are is of begins written (λ yes. put_held w held lasting (put (same ∙ yes)))
+built_on files path spec images header known still begun w held lasting (Err fault) says are is of begins same written put = tt
+
+pub built_lasting : {A : Type 0} (files : List ℕ → FileOf) (path : List ℕ) (spec : PackageSpecOf) (images : List (List ℕ)) (header : List ℕ) (known still : Bool)
+    (begun w held lasting : Option (List ℕ)) (end : Result A RunFault)
+    → Says package_spec_of (files path) spec → AreImages files spec.components images → header ≡ header_bytes (asked_by spec images) → IsHeaderOf (asked_by spec images) header
+    → (known ≡ true → begun ≡ Some []) → still ≡ known → Appends begun w (header ++ concat images) → OnOk end (still ≡ true → IsPut w held lasting) → OnOk end (Builds files path known lasting)
+built_lasting files path spec images header known still begun w held lasting (Ok a) says are is of begins same written put =
+    built files path spec images header known begun w lasting says are is of begins written (λ yes. put_lasting w held lasting (put (same ∙ yes)))
+built_lasting files path spec images header known still begun w held lasting (Err fault) says are is of begins same written put = tt

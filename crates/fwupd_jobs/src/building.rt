@@ -10,7 +10,6 @@ ghost use Rattle.fw_script.specs.PackageSpecs.{package_spec_of, spec_component_o
 ghost use Rattle.fwupd_jobs.specs.Built.{AreImages, BuildEnds, Builds, BuildsApart, ImageFails, ImagesFail, IsApartFromImages, IsImage, IsOverImage, IsRefused, asked_by, component_by, components_by, record_by, refusal_told};
 ghost use Rattle.fwupd_jobs.specs.Setups.{Says, TextFails, TextFault};
 
-use crate::places::Places;
 use crate::setups::{read_fault, text_fault};
 use fw_package::{AskedComponent, AskedFault, AskedPackage, AskedRecord, Descriptor, Header};
 use fw_script::{
@@ -18,7 +17,7 @@ use fw_script::{
     read_package_spec,
 };
 use fwupd_base::write_whole;
-use fwupd_watch::{Files, RunFault, is_same_file};
+use fwupd_watch::{Files, Places, RunFault, is_same_file};
 use std::alloc::Global;
 use std::io::Write;
 
@@ -314,7 +313,9 @@ pub fn build_file<F: Files, W: Write + Drop, P: Places<W>>(
     places: &mut P,
 ) -> Result<(), RunFault>
     ensures ok { OnOk result (Builds (F.holds files.now) path.now (P.is_known places.old) (P.held places.new file.now)) }
+    ensures lasting { OnOk result (Builds (F.holds files.now) path.now (P.is_known places.old) (P.lasting places.new file.now)) }
     ensures kept { OnErr result (P.held places.new ≡ P.held places.old) }
+    ensures stays { OnErr result (P.lasting places.new ≡ P.lasting places.old) }
     ensures apart { OnOk result (BuildsApart (F.holds files.now) path.now file.now) }
     ensures left { P.is_begun places.old ≡ false → P.is_begun places.new ≡ false }
     ensures fault { IfErr result (λ e. BuildEnds (F.holds files.now) path.now e) }

@@ -7,10 +7,10 @@ ghost use Rattle.fw_script.specs.Schedules.{script_of};
 use crate::clues::{Clue, clue_to};
 use fw_package::Package;
 use fw_script::{ScriptCause, read_schedule};
-use fwupd_watch::{Files, RunFault, SystemFiles, folder_and_name};
+use fwupd_watch::{Files, RunFault, SystemFiles, folder_and_name, is_special};
 use fwupd_words::Job;
 use std::alloc::Global;
-use std::fs::{self, OpenOptions};
+use std::fs::OpenOptions;
 use std::io::{self, IsTerminal};
 use std::str;
 
@@ -20,14 +20,6 @@ fn explain_unreadable(rt: &HostRuntime, path: &str) {
         if error.kind() != io::ErrorKind::OutOfMemory {
             let _ = eprintln!(rt; "{path}: {error}");
         }
-    }
-}
-
-/// Whether a path names a pipe, a device or a socket, which may wait when it is opened.
-fn is_special(rt: &HostRuntime, path: &str) -> bool {
-    match fs::metadata(rt, path) {
-        Ok(found) => !found.is_file() && !found.is_dir(),
-        Err(_) => false,
     }
 }
 

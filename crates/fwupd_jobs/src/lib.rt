@@ -8,7 +8,6 @@ mod explaining;
 mod inspecting;
 mod jobs;
 mod numbering;
-mod places;
 mod planning;
 mod program;
 mod read_ahead;
@@ -28,13 +27,12 @@ mod write_behind;
 pub use building::build_file;
 pub use checking::update_checked;
 pub use fwupd_watch::{
-    Beginning, Durable, FileFault, FileIdentity, Files, HistoryFile, Output, Recording, RunFault,
-    Watch, WatchFault, texts_are_lines,
+    Beginning, Durable, FileCalls, FileFault, FileIdentity, Files, HistoryFile, Output, Places,
+    Recording, RunFault, Watch, WatchFault, WholeFiles, texts_are_lines,
 };
 pub use fwupd_words::{Job, Order, Show, SoakOrder, TraceForm, parse};
 pub use inspecting::{inspect_file, inspection_fault};
 pub use jobs::perform_job;
-pub use places::Places;
 pub use planning::plan_file;
 pub use program::perform;
 pub use recording_laws::records_replay;

@@ -10,7 +10,6 @@ ghost use Rattle.fwupd_jobs.specs.Jobs.{StatusSays, SystemSays};
 
 use crate::explaining::explain;
 use crate::jobs::perform_job;
-use crate::places::{Places, SystemPlaces};
 use crate::soak_progress::SoakProgress;
 use crate::sockets::Sockets;
 use crate::updating::Wires;
@@ -19,7 +18,7 @@ use fw_edge::Link;
 use fw_setup::{Stores, SystemStores};
 use fw_soak::Onlooker;
 use fw_store::Folder;
-use fwupd_watch::{Files, Onlookers, Output, RunFault, SystemFiles, Watch};
+use fwupd_watch::{Files, Onlookers, Output, Places, RunFault, SystemFiles, Watch, system_places};
 use fwupd_words::{Job, parse};
 use std::io::{self, ErrorKind, Read, Write};
 use std::process::ExitCode;
@@ -111,7 +110,7 @@ fn run<W: Write + Drop>(rt: &HostRuntime, job: &Job<'_>, output: &mut Output<W>)
         &mut sockets,
         &mut onlookers,
         &mut progress,
-        &mut SystemPlaces::new(rt),
+        &mut system_places(rt),
         output,
     );
     progress.end();

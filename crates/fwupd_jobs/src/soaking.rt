@@ -5,13 +5,11 @@ ghost use Rattle.fw_script.specs.ScheduleTexts.{schedule_text};
 ghost use Rattle.fwupd_jobs.specs.Soaked.{IsJudged, SoakEnds, SoaksClean};
 
 use crate::numbering::is_numbered;
-use crate::places::Places;
 use crate::setups::{configuration, package_files, packages_in};
 use fw_script::{Config, write_schedule};
 use fw_soak::{Onlooker, Setup, soak, summary_text};
 use fw_world::Step;
-use fwupd_base::write_whole;
-use fwupd_watch::{Files, Output, RunFault, is_over_read};
+use fwupd_watch::{Files, Output, Places, RunFault, is_over_read, write_file};
 use fwupd_words::SoakOrder;
 use std::alloc::Global;
 use std::io::Write;
@@ -38,25 +36,16 @@ fn keep<W: Write + Drop, P: Places<W>>(
     places: &mut P,
 ) -> Result<(), RunFault>
     ensures ok { OnOk result (P.is_known places.old ≡ true → P.held places.new path.now ≡ Some (schedule_text steps.now)) }
+    ensures lasting { OnOk result (P.is_known places.old ≡ true → P.lasting places.new path.now ≡ Some (schedule_text steps.now)) }
     ensures kept { OnErr result (P.held places.new ≡ P.held places.old) }
+    ensures stays { OnErr result (P.lasting places.new ≡ P.lasting places.old) }
     ensures left { P.is_begun places.old ≡ false → P.is_begun places.new ≡ false }
     ensures fault { IfErr result (λ e. (e ≡ RunFault.Memory) ⊎ (e ≡ RunFault.Record)) }
 {
     let Ok(text) = write_schedule(alloc, steps) else {
         return Err(RunFault::Memory);
     };
-    let mut beside = match places.begin(path) {
-        Ok(beside) => beside,
-        Err(fault) => return Err(unrecorded(fault)),
-    };
-    match write_whole(&mut beside, &text) {
-        Ok(()) => {}
-        Err(_) => {
-            places.discard(path);
-            return Err(RunFault::Record);
-        }
-    }
-    match places.publish(path, beside) {
+    match write_file(places, path, &text) {
         Ok(()) => Ok(()),
         Err(fault) => Err(unrecorded(fault)),
     }

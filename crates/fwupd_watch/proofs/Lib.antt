@@ -5,6 +5,7 @@ mod Answering
 mod Begun
 mod Noted
 mod Overs
+mod Put
 mod Refused
 mod Shown
 mod Traced

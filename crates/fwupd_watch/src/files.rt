@@ -242,6 +242,14 @@ pub fn folder_and_name(path: &str) -> (&str, &str) {
     }
 }
 
+/// Whether a path names a pipe, a device or a socket, which may wait when it is opened.
+pub fn is_special(rt: &HostRuntime, path: &str) -> bool {
+    match fs::metadata(rt, path) {
+        Ok(found) => !found.is_file() && !found.is_dir(),
+        Err(_) => false,
+    }
+}
+
 /// Whether two paths are of one file: they are spelled alike, or both name the same, or one place where there is none yet; or may be,
 /// since one of them is a link to none.
 pub fn is_same_file<F: Files>(files: &F, one: &str, other: &str) -> bool

@@ -3,6 +3,7 @@
 
 mod apart;
 mod beginnings;
+mod beside;
 mod durable;
 mod faults;
 mod files;
@@ -10,6 +11,7 @@ mod history;
 mod history_opening;
 mod logging;
 mod output;
+mod places;
 mod progress;
 mod recording;
 mod running;
@@ -19,14 +21,16 @@ mod watching;
 
 pub use apart::begin_apart;
 pub use beginnings::Beginning;
+pub use beside::{SystemCalls, system_places};
 pub use durable::Durable;
 pub use faults::RunFault;
 pub use files::{
     FileFault, FileIdentity, Files, SystemFiles, folder_and_name, is_one_path, is_over_read,
-    is_same_file,
+    is_same_file, is_special,
 };
 pub use history::HistoryFile;
 pub use output::Output;
+pub use places::{FileCalls, Places, WholeFiles, write_file};
 pub use recording::Recording;
 pub use running::{Watch, WatchFault, update_watched, watch_fault};
 pub use tracing_laws::texts_are_lines;

@@ -111,8 +111,9 @@ If standard error is a terminal, it shows the progress of the first device that 
 --trace writes a line for each packet: the turn, the device, to-device or to-agent, and the packet
 in hexadecimal digits; with --trace-format text what each packet says, with its number, which
 'deliver' of a schedule takes; with pcap a capture, as Linux makes it on an MCTP interface, in which
-a turn is a second. --sel writes the event log's records, 16 bytes each, for 'fwupd sel'. --record
-writes a line for each step, as a schedule: 'fwupd replay CONFIG FILE' then prints the same report.
+a turn is a second. --sel writes the event log's records at the end, 16 bytes each, for 'fwupd sel':
+until they are whole FILE stays as it is, also if the run is interrupted. --record writes a line for
+each step, as a schedule: 'fwupd replay CONFIG FILE' then prints the same report.
 
 --store makes images last: each that is activated is a file in STORE/EID, which is made, and the text
 STORE/EID/active says which of them run. A run begins with what the runs before it have left, where
@@ -162,8 +163,8 @@ In the end these lines are printed:
 
 If standard error is a terminal, it shows how many runs are made. --record writes the steps of the
 first run that goes wrong, as a schedule: 'fwupd replay CONFIG FILE' shows what happened, where no
-call of a bank failed. Without such a run FILE isn't made. It is written beside its place, as
-FILE.new, and comes there when it is whole.
+call of a bank failed. Without such a run FILE isn't made. It is written beside its place,
+as FILE.N.new, N being the process's number, and comes there when it is whole.
 
 Faults: 'soak: Violation' if the checker found something wrong; 'package: none' if CONFIG names no
 package; 'record' if FILE can't be written, or is one that is read.
@@ -213,9 +214,9 @@ Faults of a text. The first line with one is printed, with the first fault of it
              more than 255 records; at the line after the last: the header has more than 65535
              bytes, or the package more than 4294967295
 
-FILE is written beside its place, as FILE.new, and comes there when it is whole. Where that fails
-FILE is as it was. A file FILE.new that is there already, as a run that was killed leaves it, isn't
-written over: 'fwupd: output'.
+FILE is written beside its place, as FILE.N.new, N being the process's number, and comes there when
+it is whole. If that fails, FILE is as it was: 'fwupd: output'. If FILE is a symbolic link, the file
+that it names is replaced, and the link stays. A folder, a device or a pipe is refused.
 
 Limits: paths are UTF-8 text, and the images fit into memory.
 

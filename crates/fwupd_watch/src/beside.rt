@@ -1,0 +1,148 @@
+//! The system's calls by which a file comes to its place whole.
+
+ghost use Rattle.std.specs.Prelude.{◌≡◌, None, OnErr, false, is_some};
+
+use crate::faults::RunFault;
+use crate::files::{Files, SystemFiles, folder_and_name};
+use crate::places::{FileCalls, WholeFiles};
+use std::alloc::Global;
+use std::fs::{self, File, OpenOptions};
+use std::io::{self, ErrorKind};
+use std::process;
+
+/// How many links are followed, one behind the other, as Linux does.
+const MOST_LINKS: usize = 40;
+
+/// A file that was made beside its place.
+#[derive(Drop)]
+struct Made {
+    name: String,
+    place: String,
+}
+
+/// The system's files, of which nothing is known.
+///
+/// A file is made beside the place to which a path leads: that of the file itself, where the path names a symbolic link, so no link is
+/// replaced. Its name is that of the place, with the number of this process and `.new` behind it, so what an interrupted process
+/// left isn't in the way. It has the permissions of the file that it replaces.
+#[derive(Drop)]
+pub struct SystemCalls<'a> {
+    rt: &'a HostRuntime,
+    /// The file that was made last, until it comes to its place. Its paths are kept so that the end needs no memory.
+    made: Option<Made>,
+}
+
+/// The system's places.
+pub fn system_places(rt: &HostRuntime) -> WholeFiles<SystemCalls<'_>> {
+    WholeFiles::new(SystemCalls { rt, made: None })
+}
+
+/// A path of two pieces of text.
+fn joined(alloc: Global, first: &str, second: &str) -> io::Result<String> {
+    match format!(in alloc; "{first}{second}") {
+        Ok(path) => Ok(path),
+        Err(_) => Err(io::Error::from(ErrorKind::OutOfMemory)),
+    }
+}
+
+/// The path that a symbolic link names, if this is the path of one.
+fn named_by(rt: &HostRuntime, link: &str) -> io::Result<Option<String>> {
+    if !SystemFiles::new(rt).is_link(link) {
+        return Ok(None);
+    }
+    let next = fs::read_link(rt, link)?;
+    if next.is_absolute() {
+        return Ok(Some(joined(rt.alloc(), next.as_str(), "")?));
+    }
+    let (folder, _) = folder_and_name(link);
+    let folder = joined(rt.alloc(), folder, "/")?;
+    Ok(Some(joined(rt.alloc(), &folder, next.as_str())?))
+}
+
+/// The place to which a path leads, which is no link.
+fn place_of(rt: &HostRuntime, path: &str) -> io::Result<String> {
+    let mut place = joined(rt.alloc(), path, "")?;
+    for _ in 0..MOST_LINKS {
+        match named_by(rt, &place)? {
+            Some(next) => place = next,
+            None => return Ok(place),
+        }
+    }
+    Err(io::Error::from(ErrorKind::Other))
+}
+
+/// Whether a file may come to the place to which a path leads: nothing is there, or a plain file that can be written.
+fn can_replace(rt: &HostRuntime, path: &str, place: &str) -> bool {
+    let files = SystemFiles::new(rt);
+    if files.identity(path) != files.identity(place) {
+        return false;
+    }
+    match fs::metadata(rt, place) {
+        Ok(found) => { found.is_file() && OpenOptions::new().append(true).open(rt, place).is_ok() }
+        Err(_) => true,
+    }
+}
+
+/// Makes a file of this name, with the permissions of the file at a place, if there is one.
+fn make_like(rt: &HostRuntime, name: &str, place: &str) -> io::Result<File> {
+    let file = File::create_new(rt, name)?;
+    if let Ok(found) = fs::metadata(rt, place) {
+        let _ = file.set_permissions(found.permissions());
+    }
+    Ok(file)
+}
+
+impl<'a> SystemCalls<'a> {
+    /// Makes a file beside the place to which a path leads.
+    fn make_beside(&mut self, path: &str) -> io::Result<File>
+        ensures made { OnErr result (self.new.made ≡ self.old.made) }
+    {
+        let place = place_of(self.rt, path)?;
+        if !can_replace(self.rt, path, &place) {
+            return Err(io::Error::from(ErrorKind::Other));
+        }
+        let id = process::id(self.rt.process());
+        let Ok(name) = format!(in self.rt.alloc(); "{place}.{id}.new") else {
+            return Err(io::Error::from(ErrorKind::OutOfMemory));
+        };
+        let file = make_like(self.rt, &name, &place)?;
+        self.made = Some(Made { name, place });
+        Ok(file)
+    }
+}
+
+impl<'a> FileCalls<File> for SystemCalls<'a> {
+    ghost is_known = { λ c. false };
+
+    ghost held = { λ c path. None };
+
+    ghost lasting = { λ c path. None };
+
+    ghost is_made = { λ c. is_some c.made };
+
+    fn make(&mut self, path: &str) -> Result<File, RunFault> {
+        match self.make_beside(path) {
+            Ok(file) => Ok(file),
+            Err(error) if error.kind() == ErrorKind::OutOfMemory => Err(RunFault::Memory),
+            Err(_) => Err(RunFault::Output),
+        }
+    }
+
+    fn rename(&mut self, _path: &str, _file: &File) -> Result<(), RunFault> {
+        let Some(made) = &self.made else {
+            return Err(RunFault::Output);
+        };
+        match fs::rename(self.rt, made.name.as_str(), made.place.as_str()) {
+            Ok(()) => {}
+            Err(_) => return Err(RunFault::Output),
+        }
+        self.made = None;
+        Ok(())
+    }
+
+    fn remove(&mut self) {
+        if let Some(made) = self.made.take() {
+            let _ = fs::remove_file(self.rt, made.name.as_str());
+        }
+    }
+}
