@@ -1,6 +1,6 @@
 -- Devices with what their stores keep, one after another.
-use Rattle.std.proofs.Common.{◌≡◌, ◌≢◌, ◌≤◌, ◌<◌, ◌+◌, ◌∙◌, ◌++◌, ℕ, suc, zero, false, true, List, [], ◌∷◌, Some, None, get_or, length, map, slice_set, take, drop, arith, ap, sym, subst, refl}
-use Rattle.std.specs.Prelude.{IsOk, Option}
+use Rattle.std.proofs.Common.{◌≡◌, ◌≢◌, ◌≤◌, ◌<◌, ◌+◌, ◌∙◌, ◌++◌, ◌⊎◌, inl, inr, ℕ, suc, zero, false, true, List, [], ◌∷◌, Some, None, get_or, length, map, slice_set, take, drop, arith, ap, sym, subst, refl}
+use Rattle.std.specs.Prelude.{IsOk, IsSomeAnd, Option, slice_get}
 use Rattle.std.specs.List.{AllByRecursion}
 use Rattle.std.proofs.lemmas.List.{drop_all, drop_more, get_or-map, length-map, map-append, map-set, take_more}
 use Rattle.std.proofs.lemmas.List.Edits.{map_over_more}
@@ -13,10 +13,11 @@ use Rattle.fw_script.specs.Whole.{AreNew, AreWhole, IsDevice, eids_of, keys_of}
 use Rattle.fw_script.specs.declared.config.ComponentConfig.{ComponentConfig}
 use Rattle.fw_script.specs.declared.config.DeviceConfig.{DeviceConfig}
 use Rattle.fw_store.specs.Kept.{KeptOf, all_running, image_for}
+use Rattle.fw_store.specs.declared.faults.OpenFault.{OpenFault}
 use Rattle.fw_store.specs.declared.faults.OpenFault.TheVariants as reasons
 use Rattle.fw_steps.specs.Headline.{AreDifferent}
 use Rattle.fw_setup.specs.Nodes.{row_made}
-use Rattle.fw_setup.specs.Stocks.{AreStocked, CanOpen, IsFaulty, IsStocked, IsUnopened, StoresOf, image_configured, images_configured, stocked, stocked_by, stocked_device}
+use Rattle.fw_setup.specs.Stocks.{AreStocked, CanOpen, IsFaulty, IsStocked, IsUnmade, IsUnopened, StoresOf, image_configured, images_configured, stocked, stocked_by, stocked_device}
 use Rattle.fw_setup.specs.declared.stores.Unopened.{Unopened}
 
 -- the image of a component is found where its key stands first, and not before
@@ -181,3 +182,52 @@ eids_more os xs i x s lt within is h =
 -- want of memory is no fault of a folder
 pub memory_so : (s : StoresOf) (x : DeviceConfigOf) → IsFaulty s x reasons.Memory
 memory_so s x = record { damaged = λ e known. absurd (cc); foreign = λ e known. absurd (cc) }
+
+-- nor is a folder that can't be made
+made_so : (s : StoresOf) (x : DeviceConfigOf) (why : OpenFault) → (why ≡ reasons.Unreadable) ⊎ (why ≡ reasons.Memory) → IsFaulty s x why
+made_so s x why (inl e) = record { damaged = λ d known. absurd (cc); foreign = λ d known. absurd (cc) }
+made_so s x why (inr e) = record { damaged = λ d known. absurd (cc); foreign = λ d known. absurd (cc) }
+
+-- the device whose folder can't be made is among those that are configured, and each store before it can be opened
+stocked_at : (s : StoresOf) (xs ys : List DeviceConfigOf) (i : ℕ) (y : DeviceConfigOf) → AreStocked s xs ys → slice_get ys i ≡ Some y → IsSomeAnd (slice_get xs i) (λ x. y.endpoint.eid ≡ x.endpoint.eid)
+stocked_at s [] [] i y h at = absurd (cc)
+stocked_at s [] (z ∷ zs) i y h at = absurd h
+stocked_at s (x ∷ xs) [] i y h at = absurd h
+stocked_at s (x ∷ xs) (z ∷ zs) zero y h at =
+    let same : z ≡ y = cc in
+    ap (λ (v : DeviceConfigOf). v.endpoint.eid) (sym same) ∙ ap (λ (v : DeviceConfigOf). v.endpoint.eid) h.0.is
+stocked_at s (x ∷ xs) (z ∷ zs) (suc i) y h at = stocked_at s xs zs i y h.1 at
+
+opened_before : (s : StoresOf) (xs ys : List DeviceConfigOf) (i : ℕ) → AreStocked s xs ys → AllByRecursion (CanOpen s) (take i xs)
+opened_before s xs ys zero h = tt
+opened_before s [] ys (suc i) h = tt
+opened_before s (x ∷ xs) [] (suc i) h = absurd h
+opened_before s (x ∷ xs) (y ∷ ys) (suc i) h = (λ known. subst IsOk (sym (h.0.found known)) refl, opened_before s xs ys i h.1)
+
+unmade_at : (s : StoresOf) (xs ys : List DeviceConfigOf) (e : Unopened) (o : Option DeviceConfigOf) (u : IsUnmade ys e) → AreStocked s xs ys → slice_get xs u.place ≡ o
+    → IsSomeAnd o (λ x. u.device.endpoint.eid ≡ x.endpoint.eid) → IsUnopened s xs e
+unmade_at s xs ys e None u h is same = absurd same
+unmade_at s xs ys e (Some x) u h is same = record {
+  place = u.place;
+  device = x;
+  at = is;
+  before = opened_before s xs ys u.place h;
+  its = u.its ∙ same;
+  so = made_so s x e.why u.why;
+}
+
+pub unmade_so : (s : StoresOf) (xs ys : List DeviceConfigOf) (e : Unopened) → AreStocked s xs ys → IsUnmade ys e → IsUnopened s xs e
+unmade_so s xs ys e h u = unmade_at s xs ys e (slice_get xs u.place) u h refl (stocked_at s xs ys u.place u.device h u.at)
+
+-- the first whose folder can't be made
+pub unmade_next : (os : List DeviceConfig) (i : ℕ) (x : DeviceConfig) (e : Unopened) → i < length os → x ≡ get_or os i x → e.device ≡ x.endpoint.eid
+    → (e.why ≡ reasons.Unreadable) ⊎ (e.why ≡ reasons.Memory) → IsUnmade (map device_of os) e
+unmade_next os i x e lt is its why =
+    let far : i < length (map device_of os) = subst (λ n. i < n) (sym (length-map os device_of)) lt in
+    record {
+      place = i;
+      device = device_of x;
+      at = slice_get-get_or (map device_of os) i (device_of x) far ∙ ap (λ v. Some v) (sym (seen_at os i x lt is));
+      its = its;
+      why = why;
+    }

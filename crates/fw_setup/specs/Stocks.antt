@@ -1,5 +1,5 @@
 -- What the stores of devices keep, in the places of the images that a configuration says.
-use Rattle.std.specs.Prelude.{ℕ, ◌≡◌, Bool, true, Err, IsOk, List, [], ◌∷◌, None, Ok, Option, Some, map, slice_get, take}
+use Rattle.std.specs.Prelude.{ℕ, ◌≡◌, ◌⊎◌, Bool, true, Err, IsOk, List, [], ◌∷◌, None, Ok, Option, Some, map, slice_get, take}
 use Rattle.std.specs.List.{AllByRecursion}
 use Rattle.fd_core.specs.Images.{ImageOf}
 use Rattle.fw_script.specs.Configs.{ComponentConfigOf, DeviceConfigOf}
@@ -68,3 +68,11 @@ pub record IsUnopened (s : StoresOf) (xs : List DeviceConfigOf) (e : Unopened) :
   pub before : AllByRecursion (CanOpen s) (take place xs)
   pub its : e.device ≡ device.endpoint.eid
   pub so : IsFaulty s device e.why
+
+-- The first device whose folder can't be made.
+pub record IsUnmade (xs : List DeviceConfigOf) (e : Unopened) : Type 0 where
+  pub place : ℕ
+  pub device : DeviceConfigOf
+  pub at : slice_get xs place ≡ Some device
+  pub its : e.device ≡ device.endpoint.eid
+  pub why : (e.why ≡ reasons.Unreadable) ⊎ (e.why ≡ reasons.Memory)

@@ -7,12 +7,13 @@ ghost use Rattle.fw_script.specs.Seen.{component_of};
 ghost use Rattle.fw_script.specs.Whole.{AreNew, keys_of};
 ghost use Rattle.fw_setup.specs.Nodes.{row_made};
 ghost use Rattle.fw_setup.specs.Stocks.{image_configured, images_configured};
+ghost use Rattle.fw_store.specs.Opening.{IsUntouched};
 
 use crate::banks::{Banks, BanksFault, mem_bank};
 use crate::stocks::component_keys;
 use fd_core::{Label, MemBank};
 use fw_script::ComponentConfig;
-use fw_store::{Folder, FolderStore, KeptBank, Stored};
+use fw_store::{Folder, FolderStore, KeptBank, OpenFault, Stored};
 use std::alloc::{AllocError, Global};
 use std::collections::VecDeque;
 
@@ -23,7 +24,8 @@ struct DeviceStore<F: Folder + Drop> {
     store: FolderStore<F>,
 }
 
-/// Banks over the stores of devices, which are taken in their order: that of the first device is the first to be taken.
+/// Banks over the stores of devices, which are taken in their order: that of the first device is the first to be taken. What was left
+/// in the folder of a store is removed when it is taken: not before each store is opened.
 #[derive(Drop)]
 pub struct StoreBanks<F: Folder + Drop> {
     stores: VecDeque<DeviceStore<F>>,
@@ -85,6 +87,18 @@ fn kept_bank<F: Folder + Drop>(
     Ok(KeptBank::new(alloc, bank, keys, store))
 }
 
+/// A store from whose folder the files are removed that `active` doesn't name. They stay where the folder doesn't say which it has.
+fn swept<F: Folder + Drop>(store: FolderStore<F>) -> Result<FolderStore<F>, AllocError>
+    ensures kept { IfOk result (λ s. s.memory.images.items ≡ store.memory.images.items) }
+    ensures untouched { IfOk result (λ s. F.is_known store.folder ≡ true → IsUntouched store.entries.items (F.files store.folder) (F.files s.folder)) }
+{
+    let mut store = store;
+    match store.sweep() {
+        Err(OpenFault::Memory) => Err(AllocError),
+        _ => Ok(store),
+    }
+}
+
 impl<F: Folder + Drop> StoreBanks<F> {
     /// Banks over no stores.
     pub(crate) fn new(alloc: Global) -> StoreBanks<F>
@@ -128,7 +142,10 @@ impl<F: Folder + Drop> Banks<KeptBank<FolderStore<F>>> for StoreBanks<F> {
         if taken.device != device || !are_configured(taken.store.images(), components) {
             return Err(BanksFault::Device(device));
         }
-        match kept_bank(alloc, components, taken.store) {
+        let Ok(store) = swept(taken.store) else {
+            return Err(BanksFault::Memory);
+        };
+        match kept_bank(alloc, components, store) {
             Ok(bank) => Ok(bank),
             Err(_) => Err(BanksFault::Memory),
         }

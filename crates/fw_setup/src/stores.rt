@@ -3,7 +3,7 @@
 ghost use Rattle.std.specs.Prelude.{◌≡◌, ◌⊎◌, Bool, Err, IfErr, IfOk, List, None, Ok, OnOk, false, map, true, ℕ};
 ghost use Rattle.fw_script.specs.Seen.{component_of, device_of};
 ghost use Rattle.fw_script.specs.Whole.{AreWhole, eids_of};
-ghost use Rattle.fw_setup.specs.Stocks.{AreStocked, IsFaulty, IsStocked, IsUnopened, images_configured, stores_in};
+ghost use Rattle.fw_setup.specs.Stocks.{AreStocked, IsFaulty, IsStocked, IsUnmade, IsUnopened, images_configured, stores_in};
 ghost use Rattle.fw_store.specs.Opening.{found_in};
 
 use crate::stocks::{configured_images, stock};
@@ -98,6 +98,7 @@ fn open_over<F: Folder + Drop>(
     components: &[ComponentConfig],
 ) -> Result<FolderStore<F>, OpenFault>
     ensures found { IfOk result (λ s. F.is_known folder ≡ true → found_in (images_configured (map component_of components.now)) (F.files folder) ≡ Ok s.memory.images.items) }
+    ensures untouched { IfOk result (λ s. s.folder ≡ folder) }
     ensures damaged { IfErr result (λ e. e ≡ OpenFault.Damaged → F.is_known folder ≡ true → found_in (images_configured (map component_of components.now)) (F.files folder) ≡ Err OpenFault.Damaged) }
     ensures foreign { IfErr result (λ e. e ≡ OpenFault.Foreign → F.is_known folder ≡ true → found_in (images_configured (map component_of components.now)) (F.files folder) ≡ Err OpenFault.Foreign) }
 {
@@ -123,7 +124,8 @@ fn read_over<F: Folder + Drop>(
     }
 }
 
-/// Opens the store of a device, and puts the images that it keeps in the places of those that the device is configured with.
+/// Opens the store of a device, and puts the images that it keeps in the places of those that the device is configured with. Its
+/// folder is only read.
 fn open_device<F: Folder + Drop, S: Stores<F>>(
     alloc: Global,
     stores: &S,
@@ -131,11 +133,12 @@ fn open_device<F: Folder + Drop, S: Stores<F>>(
     device: &mut DeviceConfig,
 ) -> Result<FolderStore<F>, OpenFault>
     ensures stocked { OnOk result (IsStocked (stores_in (S.is_known stores.now) (S.files stores.now) root.now) (device_of device.old) (device_of device.new)) }
+    ensures untouched { IfOk result (λ s. S.is_known stores.now ≡ true → F.files s.folder ≡ S.files stores.now root.now device.old.endpoint.eid) }
     ensures fault { IfErr result (IsFaulty (stores_in (S.is_known stores.now) (S.files stores.now) root.now) (device_of device.old)) }
 {
-    let folder = match stores.make(alloc, root, device.endpoint.eid) {
+    let folder = match stores.at(alloc, root, device.endpoint.eid) {
         Ok(folder) => folder,
-        Err(fault) => return Err(fault),
+        Err(_) => return Err(OpenFault::Memory),
     };
     let store = match open_over(alloc, folder, device.components.as_slice()) {
         Ok(store) => store,
@@ -170,12 +173,35 @@ fn read_device<F: Folder + Drop, S: Stores<F>>(
     }
 }
 
+/// Makes the folder of the store of each of these devices, where there is none.
+///
+/// # Errors
+/// The first device whose folder can't be made, and why: `Unreadable` or `Memory`.
+fn make_folders<F: Folder + Drop, S: Stores<F>>(
+    alloc: Global,
+    stores: &S,
+    root: &str,
+    devices: &[DeviceConfig],
+) -> Result<(), Unopened>
+    ensures fault { IfErr result (IsUnmade (map device_of devices.now)) }
+{
+    for device in devices {
+        let eid = device.endpoint.eid;
+        match stores.make(alloc, root, eid) {
+            Ok(_) => {}
+            Err(why) => return Err(Unopened { device: eid, why }),
+        }
+    }
+    Ok(())
+}
+
 /// Opens the store of each of these devices, in a folder of its own below this one, and puts the images that it keeps in the places of
-/// those that the device is configured with. Where there is no folder one is made, and files of a store that don't run are removed.
+/// those that the device is configured with. Where there is no folder one is made, once each store is opened. Until then the folders
+/// are only read.
 ///
 /// # Errors
 /// The first device whose store isn't opened, and why: `Damaged` and `Foreign` as `found_in` says them, `Unreadable` where its folder
-/// can't be made or read, and `Memory`. Images of devices before it may be in their places.
+/// can't be read, and `Memory`; or the first whose folder can't be made. Images of devices before it may be in their places.
 pub fn open_stores<F: Folder + Drop, S: Stores<F>>(
     alloc: Global,
     stores: &S,
@@ -200,6 +226,10 @@ pub fn open_stores<F: Folder + Drop, S: Stores<F>>(
                 why: OpenFault::Memory,
             });
         };
+    }
+    match make_folders(alloc, stores, root, devices) {
+        Ok(()) => {}
+        Err(unopened) => return Err(unopened),
     }
     Ok(banks)
 }

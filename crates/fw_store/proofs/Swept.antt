@@ -77,6 +77,12 @@ before_swept f g es lines touched = record {
       ∙ sym (ap (λ o. option_and_then (λ es. images_of f es) o) lines);
 }
 
+pub before_self : (f : Files) → IsBefore f f
+before_self f = record { is = refl }
+
+pub passes_self : (f : Files) (past : List Files) → Passes (IsBefore f) past past
+passes_self f past = passes_none past
+
 pub passes_before : (f : Files) (es : List EntryOf) (past now : List Files) → lines_by (f active_name) ≡ Some es → Passes (IsUntouched es f) past now → Passes (IsBefore f) past now
 passes_before f es past now lines passes = passes_wider (λ g touched. before_swept f g es lines touched) passes
 
@@ -89,6 +95,31 @@ pub below_more : (es : List EntryOf) (i : ℕ) (d : EntryOf) (n m : ℕ) → i <
     → AllByRecursion (λ e. e.number < m) (take (i + 1) es)
 below_more es i d n m below all more here = rw (take_more es i d below) (all_push (λ e. e.number < m) (take i es) (get_or es i d) (all_up n m (take i es) more all) here)
 
-pub ruleset opening = (settled_swept, before_swept, passes_before, untouched_self)
+-- a store's folder stays settled where what no line names is removed
+pub settled_cleaned : (known still sure : Bool) (next : ℕ) (f g : Files) (es : List EntryOf) → still ≡ known → (known ≡ true → IsUntouched es f g) → Settled known sure next f es
+    → Settled still sure next g es
+settled_cleaned known still sure next f g es same touched settled = record {
+  when = λ k s.
+      let yes : known ≡ true = sym same ∙ k in
+      let at = settled.when yes s in
+      record {
+        lines = ap lines_by (touched yes).active ∙ at.lines;
+        entries = at.entries;
+        below = at.below;
+        there = ap (λ (o : Option (List KeptOf)). is_some o) (images_untouched f g es (touched yes).named) ∙ at.there;
+      };
+}
+
+pub before_cleaned : (known sure : Bool) (next : ℕ) (f g : Files) (es : List EntryOf) → (known ≡ true → IsUntouched es f g) → Settled known sure next f es → known ≡ true → sure ≡ true
+    → IsBefore f g
+before_cleaned known sure next f g es touched settled k s = before_swept f g es (settled.when k s).lines (touched k)
+
+pub passes_cleaned : (known sure : Bool) (next : ℕ) (f : Files) (es : List EntryOf) (past now : List Files) → (known ≡ true → Passes (IsUntouched es f) past now) → Settled known sure next f es
+    → known ≡ true → sure ≡ true → Passes (IsBefore f) past now
+passes_cleaned known sure next f es past now passes settled k s = passes_before f es past now (settled.when k s).lines (passes k)
+
+pub ruleset opening = (settled_swept, untouched_self)
+
+pub ruleset cleaning = (settled_cleaned, before_cleaned, passes_cleaned, before_self, passes_self, untouched_self, passes_none)
 
 pub ruleset sweeping = (untouched_self, passes_none)

@@ -1,16 +1,19 @@
 //! A store in a folder.
 
-ghost use Rattle.std.specs.Prelude.{◌≡◌, OnErr, OnOk, true};
+ghost use Rattle.std.specs.Prelude.{◌≡◌, ◌⊎◌, IfErr, OnErr, OnOk, true};
 ghost use Rattle.fw_store.specs.Folders.{IsAfter, IsBefore, IsBeforeOrAfter, Passes};
 ghost use Rattle.fw_store.specs.Keeping.{Settled};
 ghost use Rattle.fw_store.specs.Kept.{kept_after};
+ghost use Rattle.fw_store.specs.Opening.{IsUntouched};
 
 use crate::entry::Entry;
+use crate::faults::OpenFault;
 use crate::folder::{Folder, RenameFault};
 use crate::lines::{are_apart, entries_after};
 use crate::memory::{MemStore, Stored};
 use crate::putting::put_images;
 use crate::store::{Kept, Store, StoreFault};
+use crate::sweeping::sweep;
 use std::alloc::Global;
 
 /// A store over the files of a folder, and in memory what it keeps.
@@ -72,6 +75,41 @@ impl<F: Folder + Drop> FolderStore<F> {
         ensures { result.now ≡ self.now.memory.images.items }
     {
         self.memory.images()
+    }
+
+    /// Removes the files of a store that `active` doesn't name, as a crash leaves them. One that can't be removed stays.
+    ///
+    /// # Errors
+    /// `Unreadable` where the folder doesn't say which files it has: all stay then. `Memory`: some may be removed.
+    #[tactic(auto, using(crate::proofs::Swept::cleaning))]
+    pub fn sweep(&mut self) -> Result<(), OpenFault>
+        ensures kept { self.new.memory ≡ self.old.memory }
+        ensures lines { self.new.entries ≡ self.old.entries }
+        ensures next { self.new.next ≡ self.old.next }
+        ensures sure { self.new.is_sure ≡ self.old.is_sure }
+        ensures known { F.is_known self.new.folder ≡ F.is_known self.old.folder }
+        ensures untouched { F.is_known self.old.folder ≡ true → IsUntouched self.old.entries.items (F.files self.old.folder) (F.files self.new.folder) }
+        ensures settled { Settled (F.is_known self.old.folder) self.old.is_sure self.old.next (F.files self.old.folder) self.old.entries.items
+            → Settled (F.is_known self.new.folder) self.new.is_sure self.new.next (F.files self.new.folder) self.new.entries.items }
+        ensures same { Settled (F.is_known self.old.folder) self.old.is_sure self.old.next (F.files self.old.folder) self.old.entries.items
+            → F.is_known self.old.folder ≡ true → self.old.is_sure ≡ true → IsBefore (F.files self.old.folder) (F.files self.new.folder) }
+        ensures moments { Settled (F.is_known self.old.folder) self.old.is_sure self.old.next (F.files self.old.folder) self.old.entries.items
+            → F.is_known self.old.folder ≡ true → self.old.is_sure ≡ true → Passes (IsBefore (F.files self.old.folder)) (F.moments self.old.folder) (F.moments self.new.folder) }
+        ensures unread { IfErr result (λ e. e ≡ OpenFault.Unreadable → self.new ≡ self.old) }
+        ensures fault { IfErr result (λ e. (e ≡ OpenFault.Unreadable) ⊎ (e ≡ OpenFault.Memory)) }
+    {
+        let Ok(names) = self.folder.names(self.alloc) else {
+            return Err(OpenFault::Unreadable);
+        };
+        match sweep(
+            self.alloc,
+            &mut self.folder,
+            self.entries.as_slice(),
+            names.as_slice(),
+        ) {
+            Ok(()) => Ok(()),
+            Err(_) => Err(OpenFault::Memory),
+        }
     }
 
     /// Keeps images: their files first, and then the text that names them.

@@ -2,7 +2,6 @@
 
 ghost use Rattle.std.specs.Prelude.{◌≡◌, ◌<◌, Err, IfErr, IfOk, Ok, OnOk, true};
 ghost use Rattle.std.specs.List.{AllByRecursion};
-ghost use Rattle.fw_store.specs.Folders.{IsBefore, Passes};
 ghost use Rattle.fw_store.specs.Keeping.{Settled};
 ghost use Rattle.fw_store.specs.Opening.{found_in};
 
@@ -13,7 +12,6 @@ use crate::folder_store::FolderStore;
 use crate::lines::widths;
 use crate::looking::look;
 use crate::store::Kept;
-use crate::sweeping::sweep;
 use std::alloc::Global;
 
 /// A number above those of these lines.
@@ -29,11 +27,10 @@ fn next_after(entries: &[Entry]) -> u64
 }
 
 /// Opens the store of a folder over a configuration's images, each of which runs where the folder keeps none of its component.
-/// Files of a store that `active` doesn't name are removed. Nothing is written before the first images are kept.
+/// The folder is only read: `FolderStore::sweep` removes what was left in it. Nothing is written before the first images are kept.
 ///
 /// # Errors
-/// `Damaged` and `Foreign` as `found_in` says them: then nothing is touched. `Unreadable` where the folder can't be read, and
-/// `Memory`.
+/// `Damaged` and `Foreign` as `found_in` says them. `Unreadable` where the folder can't be read, and `Memory`.
 #[tactic(auto, using(crate::proofs::Swept::opening))]
 pub fn open_store<F: Folder + Drop>(
     alloc: Global,
@@ -43,21 +40,13 @@ pub fn open_store<F: Folder + Drop>(
     ensures found { IfOk result (λ s. F.is_known folder ≡ true → found_in components.now (F.files folder) ≡ Ok s.memory.images.items) }
     ensures sure { IfOk result (λ s. s.is_sure ≡ true) }
     ensures settled { IfOk result (λ s. Settled (F.is_known s.folder) s.is_sure s.next (F.files s.folder) s.entries.items) }
-    ensures same { IfOk result (λ s. F.is_known folder ≡ true → IsBefore (F.files folder) (F.files s.folder)) }
-    ensures moments { IfOk result (λ s. F.is_known folder ≡ true → Passes (IsBefore (F.files folder)) (F.moments folder) (F.moments s.folder)) }
+    ensures untouched { IfOk result (λ s. s.folder ≡ folder) }
     ensures damaged { IfErr result (λ e. e ≡ OpenFault.Damaged → F.is_known folder ≡ true → found_in components.now (F.files folder) ≡ Err OpenFault.Damaged) }
     ensures foreign { IfErr result (λ e. e ≡ OpenFault.Foreign → F.is_known folder ≡ true → found_in components.now (F.files folder) ≡ Err OpenFault.Foreign) }
 {
     let (entries, memory) = match look(alloc, &folder, components) {
         Ok(found) => found,
         Err(fault) => return Err(fault),
-    };
-    let Ok(names) = folder.names(alloc) else {
-        return Err(OpenFault::Unreadable);
-    };
-    let mut folder = folder;
-    let Ok(()) = sweep(alloc, &mut folder, entries.as_slice(), names.as_slice()) else {
-        return Err(OpenFault::Memory);
     };
     widths(entries.as_slice());
     let next = next_after(entries.as_slice());

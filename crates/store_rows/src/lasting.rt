@@ -296,7 +296,10 @@ fn what_active_does_not_name_is_removed(rt: HostRuntime) -> Result<(), Fail> {
     ] {
         folder.write(name, b"x")?;
     }
-    let store = open(alloc, folder)?;
+    let mut store = open(alloc, folder)?;
+    assert!(rt; are(store.images(), &[0xAA], &[0xBB, 0xBB]));
+    assert!(rt; count(alloc, store.folder())? == 5);
+    store.sweep()?;
     assert!(rt; are(store.images(), &[0xAA], &[0xBB, 0xBB]));
     assert!(rt; count(alloc, store.folder())? == 3);
     assert!(rt; store.folder().bytes(b"history").is_some());

@@ -4,7 +4,7 @@ use Rattle.fw_script.specs.Seen.{device_of}
 use Rattle.fw_script.specs.Whole.{eids_of}
 use Rattle.fw_setup.specs.Stocks.{stores_in}
 use Rattle.fw_setup.specs.declared.store_banks.DeviceStore.{DeviceStore}
-use Rattle.fw_setup.proofs.Stocking.{eids_more, memory_so, seen_all, seen_more, seen_unopened, whole_stocked}
+use Rattle.fw_setup.proofs.Stocking.{eids_more, memory_so, seen_all, seen_more, seen_unopened, unmade_so, whole_stocked}
 use Rattle.fw_setup.proofs.stores.open_stores.Goals as goal
 
 pub returns-in-Err-clause-fault : goal.returns-in-Err-clause-fault
@@ -52,3 +52,9 @@ returns-clause-whole g c agent whole =
 pub returns-clause-order : goal.returns-clause-order
 returns-clause-order g c =
     c.loop-device.invariant.order ∙ ap (λ ds. eids_of (map device_of ds)) (take_all c.loop-device.device-index c.args.devices.now (omega arith))
+
+pub returns-in-Err-make_folders-clause-fault : goal.returns-in-Err-make_folders-clause-fault
+returns-in-Err-make_folders-clause-fault g c =
+    let s = stores_in (g.S.Stores.is_known c.args.stores.now) (g.S.Stores.files c.args.stores.now) c.args.root.now in
+    unmade_so s (map device_of c.args.devices.now) (map device_of c.loop-device.devices) _
+    (seen_all s c.args.devices.now c.loop-device.devices c.loop-device.device-index (omega arith) c.loop-device.invariant.kept) c.in-Err-make_folders.ensures.fault
