@@ -1,6 +1,6 @@
 //! A link that is bad on purpose.
 
-ghost use Rattle.std.specs.Prelude.{[], ◌∷◌, ◌≡◌, ◌≤◌, ◌+◌, ◌-◌, ◌^◌, ◌⊎◌, false, true, IfOk, OnErr, OnOk, is_some, length, min, option_map, option_to_list, vec_capacity};
+ghost use Rattle.std.specs.Prelude.{[], ◌∷◌, ◌≡◌, ◌≤◌, ◌+◌, ◌-◌, ◌^◌, ◌<◌, ◌⊎◌, false, true, IfOk, OnErr, OnOk, is_some, length, min, option_map, option_to_list, vec_capacity};
 ghost use Rattle.std.specs.List.{filter};
 ghost use Rattle.rand_pcg.specs.Lcg.{increment_of, started};
 ghost use Rattle.rand_pcg.specs.Pcg.{multiplier_64};
@@ -17,7 +17,10 @@ use crate::tally::Tally;
 use fw_world::Side;
 use mctp_wire::{RawPacket, copy_of};
 use rand_pcg::Pcg32;
-use std::alloc::Global;
+use std::alloc::{AllocError, Global};
+
+/// For how many packets that are held back a link has room from the beginning: more than the frames of any turn.
+const MOST_HELD: usize = 1_024;
 
 /// A packet that is held back.
 #[derive(Drop)]
@@ -173,6 +176,39 @@ impl<L: Link + Drop> Rough<L> {
             is_idle: false,
             tally: Tally::new(),
         }
+    }
+
+    /// A rough link over this one, as `new` makes it. If it makes packets late, there is room for 1,024 of them: while fewer are held
+    /// back, it asks for no memory.
+    ///
+    /// # Errors
+    /// `AllocError` if memory is refused.
+    pub fn with_room(
+        alloc: Global,
+        link: L,
+        roughness: Roughness,
+        stream: u64,
+    ) -> Result<Rough<L>, AllocError>
+        ensures link { IfOk result (λ r. r.link ≡ link) }
+        ensures roughness { IfOk result (λ r. r.roughness ≡ roughness) }
+        ensures generator { IfOk result (λ r. r.generator ≡ started 64 multiplier_64 roughness.seed (increment_of 64 stream)) }
+        ensures held { IfOk result (λ r. r.held.items ≡ []) }
+        ensures room { IfOk result (λ r. 0 < roughness.delay → MOST_HELD ≤ vec_capacity r.held) }
+        ensures turn { IfOk result (λ r. r.turn ≡ 0) }
+        ensures idle { IfOk result (λ r. r.is_idle ≡ false) }
+        ensures failures { IfOk result (λ r. r.tally.failures ≡ 0) }
+        ensures sent { IfOk result (λ r. r.tally.sent ≡ 0) }
+        ensures asked { IfOk result (λ r. r.tally.asked ≡ 0) }
+        ensures given { IfOk result (λ r. r.tally.given ≡ 0) }
+    {
+        let mut rough = Rough::new(alloc, link, roughness, stream);
+        if roughness.delay > 0 {
+            match rough.held.reserve(MOST_HELD) {
+                Ok(()) => {}
+                Err(_) => return Err(AllocError),
+            }
+        }
+        Ok(rough)
     }
 
     /// An end was asked, and gave a frame or not: behind a turn what is due goes out.

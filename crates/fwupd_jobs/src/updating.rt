@@ -72,7 +72,11 @@ fn open_all<B: Bank + Drop, L: Link + Drop, S: Wires<L>>(
             Err(fault) => return Err(fault),
         };
         let stream = u64::from(node.eid());
-        let Ok(()) = links.push(Rough::new(alloc, link, roughness, stream)) else {
+        let rough = match Rough::with_room(alloc, link, roughness, stream) {
+            Ok(rough) => rough,
+            Err(_) => return Err(RunFault::Memory),
+        };
+        let Ok(()) = links.push(rough) else {
             return Err(RunFault::Memory);
         };
     }

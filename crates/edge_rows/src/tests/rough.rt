@@ -166,3 +166,19 @@ pub fn loses_all<'a>(alloc: Global, packages: &'a [Package<'a>]) -> Result<bool,
 fn an_update_over_a_link_that_loses_all_is_silent(rt: HostRuntime) {
     assert!(rt; holds(rt.alloc(), Trial::LosesAll));
 }
+
+#[test]
+fn refused_memory_is_asked_for_before_packets_are_late(rt: HostRuntime) -> Result<(), Fail> {
+    let alloc = rt.alloc();
+    // what isn't held back is lost below, where it needs no memory
+    let below = Rough::new(alloc, MemLink::new(alloc), roughness(100, 0, 0, 1), 9);
+    let Ok(mut link) = Rough::with_room(alloc, below, roughness(0, 100, 8, 1), 9) else {
+        return Ok(());
+    };
+    let mut packet = RawPacket::new();
+    packet.push(1);
+    for _ in 0..512 {
+        assert!(rt; link.send(Side::Agent, &packet).is_ok());
+    }
+    Ok(())
+}

@@ -13,13 +13,13 @@ pub loop-place-preserved : goal.loop-place-preserved
 loop-place-preserved g c = record {
   count = search rules;
   each =
-      linked_next (λ unit device link. g.S.Wires.is_to unit c.args.folder.now device link.link ≡ true) c.args.world.now.sites c.loop-place.links.items c.push.new.self.items c.new.result c.loop-place.place
+      linked_next (λ unit device link. g.S.Wires.is_to unit c.args.folder.now device link.link ≡ true) c.args.world.now.sites c.loop-place.links.items c.push.new.self.items c.in-Ok-with_room.rough c.loop-place.place
       c.eid.result c.unit.result c.in-Some.node.now (sym (rw c.in-Some.is at c.device_at.ensures)) c.unit.ensures c.eid.ensures.eid
-      (subst (λ link. g.S.Wires.is_to c.unit.result c.args.folder.now c.eid.result link ≡ true) (sym c.new.ensures.link) c.in-Ok.ensures.to) c.in-Ok-push.ensures.items c.loop-place.invariant.each;
+      (subst (λ link. g.S.Wires.is_to c.unit.result c.args.folder.now c.eid.result link ≡ true) (sym c.in-Ok-with_room.ensures.link) c.in-Ok.ensures.to) c.in-Ok-push.ensures.items c.loop-place.invariant.each;
   rough =
-      linked_next (λ unit device link. IsRough c.args.roughness device link.roughness link.generator) c.args.world.now.sites c.loop-place.links.items c.push.new.self.items c.new.result c.loop-place.place
+      linked_next (λ unit device link. IsRough c.args.roughness device link.roughness link.generator) c.args.world.now.sites c.loop-place.links.items c.push.new.self.items c.in-Ok-with_room.rough c.loop-place.place
       c.eid.result c.unit.result c.in-Some.node.now (sym (rw c.in-Some.is at c.device_at.ensures)) c.unit.ensures c.eid.ensures.eid
-      (c.new.ensures.roughness, search rules) c.in-Ok-push.ensures.items c.loop-place.invariant.rough;
+      (c.in-Ok-with_room.ensures.roughness, search rules) c.in-Ok-push.ensures.items c.loop-place.invariant.rough;
   same = c.open.ensures.same ∙ c.loop-place.invariant.same;
 }
 
