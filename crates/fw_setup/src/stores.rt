@@ -183,7 +183,7 @@ fn make_folders<F: Folder + Drop, S: Stores<F>>(
     root: &str,
     devices: &[DeviceConfig],
 ) -> Result<(), Unopened>
-    ensures fault { IfErr result (IsUnmade (map device_of devices.now)) }
+    ensures { IfErr result (IsUnmade (map device_of devices.now)) }
 {
     for device in devices {
         let eid = device.endpoint.eid;

@@ -111,7 +111,8 @@ fn lasts(alloc: Global, call: u32, failing: Failing) -> Result<bool, Fail> {
     let begun = keep(&mut store, &[1], &[2, 2]);
     let kept = keep(&mut store, &[3, 3, 3], &[4, 4, 4, 4]);
     let after = are(store.images(), &[3, 3, 3], &[4, 4, 4, 4]);
-    let again = open(alloc, sound(store.folder())?)?;
+    let mut again = open(alloc, sound(store.folder())?)?;
+    again.sweep()?;
     let found = are(again.images(), &[3, 3, 3], &[4, 4, 4, 4]);
     let before = are(again.images(), &[1], &[2, 2]);
     Ok(
