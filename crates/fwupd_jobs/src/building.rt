@@ -313,7 +313,8 @@ pub fn build_file<F: Files, W: Write + Drop, P: Places<W>>(
     places: &mut P,
 ) -> Result<(), RunFault>
     ensures ok { OnOk result (Builds (F.holds files.now) path.now (P.is_known places.old) (P.held places.new file.now)) }
-    ensures lasting { OnOk result (Builds (F.holds files.now) path.now (P.is_known places.old) (P.lasting places.new file.now)) }
+    ensures lasting { OnOk result (Builds (F.holds files.now) path.now (P.is_known places.old)
+        (P.lasting places.new file.now)) }
     ensures kept { OnErr result (P.held places.new ≡ P.held places.old) }
     ensures stays { OnErr result (P.lasting places.new ≡ P.lasting places.old) }
     ensures apart { OnOk result (BuildsApart (F.holds files.now) path.now file.now) }

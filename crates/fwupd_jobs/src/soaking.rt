@@ -36,7 +36,8 @@ fn keep<W: Write + Drop, P: Places<W>>(
     places: &mut P,
 ) -> Result<(), RunFault>
     ensures ok { OnOk result (P.is_known places.old ≡ true → P.held places.new path.now ≡ Some (schedule_text steps.now)) }
-    ensures lasting { OnOk result (P.is_known places.old ≡ true → P.lasting places.new path.now ≡ Some (schedule_text steps.now)) }
+    ensures lasting { OnOk result (P.is_known places.old ≡ true
+        → P.lasting places.new path.now ≡ Some (schedule_text steps.now)) }
     ensures kept { OnErr result (P.held places.new ≡ P.held places.old) }
     ensures stays { OnErr result (P.lasting places.new ≡ P.lasting places.old) }
     ensures left { P.is_begun places.old ≡ false → P.is_begun places.new ≡ false }
