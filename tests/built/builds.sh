@@ -126,6 +126,8 @@ built_by_links() {
     compare 'and the links stay' $'whole fresh in/near far round ring /proc/self/fd/1 \xFF' \
         "$(cd "$folder" && for name in named loose long in/near ring round printed odd; do readlink $name; done | xargs)"
     compare 'nothing is left beside' '' "$(ls "$folder" "$folder/in" | grep new)"
+    built_by_chains
+    built_beside_a_link
 }
 
 # A package isn't built over what it is built of, by whatever name, nor in the place of what is no file.
@@ -145,4 +147,28 @@ built_apart() {
     done
     compare 'what is no file is left' '/dev/null fifo' "$(readlink "$work/apart/device") $(stat -c %F "$work/apart/pipe")"
     compare 'nothing is begun' '' "$(ls "$work/apart" | grep new)"
+}
+
+# A package comes to the place at the end of 40 links, as many as Linux follows, and not of 41.
+built_by_chains() {
+    local folder=$work/chain number
+    mkdir -p "$folder"
+    echo before > "$folder/0"
+    for number in {1..41}; do
+        ln -s $((number - 1)) "$folder/$number"
+    done
+    row '' '1||fwupd: output' build "$work/spec" "$folder/41"
+    compare 'behind 41 links' before "$(< "$folder/0")"
+    row '' '0||' build "$work/spec" "$folder/40"
+    compare 'behind 40 links' 43 "$(stat -c %s "$folder/0")"
+}
+
+# A link that somebody left under the very name of the file beside a package isn't followed.
+built_beside_a_link() {
+    local folder=$work/planted
+    mkdir -p "$folder"
+    echo before > "$folder/other"
+    compare 'a link under the name beside' '1 fwupd: output before other' \
+        "$(bash -c 'ln -s other "$1/made.$$.new"; exec "$2" build "$3" "$1/made"' - "$folder" "$top/crates/fwupd/out/fwupd" "$work/spec" 2> "$work/err"
+            echo "$? $(< "$work/err") $(< "$folder/other") $(readlink "$folder"/made.*.new)")"
 }

@@ -45,6 +45,7 @@ refused_stores() {
     cp "$folder/store/10/active" "$folder/active"
     printf x >> "$folder/store/10/active"
     before=$(cd "$folder/store" && find . -type f -exec cksum {} + | sort)
+    compare 'an image has the number after the last' '10-1.1.image 10-1.2.image active' "$(ls "$folder/store/10" | xargs)"
     compare 'an image is left' ./9/10-1.1.image "$(cd "$folder/store" && find . -name '10-1.1.image' -path '*/9/*')"
     compare 'a damaged store behind another' 'fwupd: store: 10: damaged' "$(cd "$folder" && fwupd run --store store two.config . 2>&1)"
     compare 'what a refused run leaves' "$before" "$(cd "$folder/store" && find . -type f -exec cksum {} + | sort)"

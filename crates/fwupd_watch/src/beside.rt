@@ -4,6 +4,7 @@ ghost use Rattle.std.specs.Prelude.{◌≡◌, None, OnErr, false, is_some};
 
 use crate::faults::RunFault;
 use crate::files::{Files, SystemFiles, folder_and_name};
+use crate::history_opening::sync_names;
 use crate::places::{FileCalls, WholeFiles};
 use std::alloc::Global;
 use std::fs::{self, File, OpenOptions};
@@ -62,7 +63,7 @@ fn named_by(rt: &HostRuntime, link: &str) -> io::Result<Option<String>> {
 /// The place to which a path leads, which is no link.
 fn place_of(rt: &HostRuntime, path: &str) -> io::Result<String> {
     let mut place = joined(rt.alloc(), path, "")?;
-    for _ in 0..MOST_LINKS {
+    for _ in 0..MOST_LINKS + 1 {
         match named_by(rt, &place)? {
             Some(next) => place = next,
             None => return Ok(place),
@@ -136,6 +137,9 @@ impl<'a> FileCalls<File> for SystemCalls<'a> {
             Ok(()) => {}
             Err(_) => return Err(RunFault::Output),
         }
+        // (the file is in its place: that its name couldn't be put on the disk too is no fault of it)
+        let (folder, _) = folder_and_name(&made.place);
+        let _ = sync_names(self.rt, folder);
         self.made = None;
         Ok(())
     }
