@@ -14,8 +14,8 @@ pub fn frames_are_unique()
     ensures only { HasOneFrame }
 {}
 
-/// A reader between frames gives the packet of a frame with the frame's last byte, once, and is
-/// between frames again. So does a reader in any other state in which a flag begins a frame.
+/// A reader between frames gives the packet of a frame once, and no other packet, and is between
+/// frames again. So does a reader in any other state in which a flag begins a frame.
 pub fn frames_are_read_back()
     ensures read { ReadsFrame }
 {}

@@ -53,7 +53,8 @@ fn push_data(frame: &mut SerialFrame, packet: &[u8])
 #[tactic(auto, using(crate::proofs::Steps::steps))]
 pub fn write(packet: &[u8], frame: &mut SerialFrame)
     requires { HasFrame packet.now }
-    ensures { frame.new.items ≡ frame_of packet.now }
+    ensures frame { frame.new.items ≡ frame_of packet.now }
+    ensures size { FRAME_MAX ≡ 270 }
 {
     let check = check_of(packet);
     frame.clear();
