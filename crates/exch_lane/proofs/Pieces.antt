@@ -12,7 +12,7 @@ use Rattle.mctp_wire.specs.Packet.{packet_of}
 use Rattle.mctp_reasm.specs.Pieces.{IsMessage, MessageOf, PacketOf, Route, message_route, piece, pieces, pieces_from, spelled}
 use Rattle.mctp_reasm.specs.Held.{Held, fed, held_after}
 use Rattle.mctp_reasm.specs.Laws.{holding}
-use Rattle.mctp_reasm.specs.declared.messages.TheConstants.{MAX_PACKETS}
+use Rattle.mctp_wire.specs.declared.unit.TheConstants.{MAX_PACKETS}
 use Rattle.mctp_reasm.specs.declared.outcomes.Fed.{Fed}
 use Rattle.mctp_reasm.specs.declared.outcomes.Fed.TheVariants.{Dropped, Open, Whole}
 use Rattle.exch_lane.proofs.Below.{Laws}

@@ -13,7 +13,7 @@ use std::marker::Model;
 pub const MAX_TEXT: usize = 12;
 
 /// What an image calls itself, as a bank keeps it.
-#[derive(Drop)]
+#[derive(PartialEq, Eq, Drop)]
 pub struct Label {
     /// The comparison stamp.
     pub stamp: u32,
@@ -29,6 +29,8 @@ impl Model for Label {
     ghost Value = { LabelOf };
 
     ghost view = { λ a. record { stamp = a.stamp; text_type = a.text_type; text = a.text.items } };
+
+    ghost inverse = { λ v. record { stamp = v.stamp; text_type = v.text_type; text = record { items = v.text } } };
 }
 
 impl Label {

@@ -7,7 +7,7 @@ use Rattle.fwup_wire.specs.Commands.{command_bytes, command_code}
 use Rattle.fwup_wire.specs.Values.{CommandOf}
 use Rattle.mctp_wire.specs.declared.unit.Unit.{«Unit»}
 use Rattle.mctp_wire.specs.Units.{bytes_of}
-use Rattle.mctp_reasm.specs.declared.messages.TheConstants.{MAX_PACKETS}
+use Rattle.mctp_wire.specs.declared.unit.TheConstants.{MAX_PACKETS}
 use Rattle.mctp_reasm.specs.Pieces.{MessageOf, Route, message_route, piece, pieces_from, spelled}
 use Rattle.pldm_exch.specs.Caller.{CallerState, Open, begun, caller_tick, may_begin, sends_at, ticked}
 use Rattle.fw_node.specs.AgentViews.{half_in}

@@ -4,8 +4,8 @@ ghost use Rattle.std.specs.Prelude.{◌≡◌, ◌≤◌, ◌+◌, ◌++◌, ◌
 ghost use Rattle.fw_node.specs.Packets.{packets_of};
 
 use circular_buffer::HeapCircularBuffer;
-use mctp_reasm::{MAX_PACKETS, Message, piece_at};
-use mctp_wire::{RawPacket, Unit};
+use mctp_reasm::{Message, piece_at};
+use mctp_wire::{MAX_PACKETS, RawPacket, Unit};
 use std::alloc::{AllocError, Global};
 use std::marker::Model;
 

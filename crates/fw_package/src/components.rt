@@ -14,7 +14,7 @@ use crate::texts::Text;
 use std::marker::Model;
 
 /// A component and its image, lent from its package's file.
-#[derive(Clone, Copy)]
+#[derive(Clone, Copy, PartialEq, Eq)]
 pub struct Component<'a> {
     /// The classification, the first part of the key.
     pub classification: u16,

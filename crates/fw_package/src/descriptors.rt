@@ -4,7 +4,7 @@ ghost use Rattle.std.specs.Iterator.{YieldsFirstBy, item_count};
 ghost use Rattle.std.specs.Prelude.{◌≡◌, ◌==◌, length, map, IfOk};
 ghost use Rattle.std.specs.List.{list_all, list_any};
 ghost use Rattle.std.specs.Result.{result_map_both};
-ghost use Rattle.fw_package.specs.Choice.{is_among, same_descriptor};
+ghost use Rattle.fw_package.specs.Choice.{is_among};
 ghost use Rattle.fw_package.specs.Package.{descriptor_of};
 ghost use Rattle.fw_package.specs.Records.{descriptor_split, descriptors_split, split_after};
 
@@ -108,18 +108,11 @@ fn is_among(descriptor: Descriptor<'_>, device: &[Descriptor<'_>]) -> bool
     ensures { result ≡ is_among (map descriptor_of device.now) (descriptor_of descriptor.entry) }
 {
     for other in device {
-        if is_same(descriptor, *other) {
+        if descriptor == *other {
             return true;
         }
     }
     false
-}
-
-/// Whether these have the same type and the same data.
-fn is_same(descriptor: Descriptor<'_>, other: Descriptor<'_>) -> bool
-    ensures { result ≡ same_descriptor (descriptor_of descriptor.entry) (descriptor_of other.entry) }
-{
-    descriptor.kind == other.kind && descriptor.bytes == other.bytes
 }
 
 /// The first descriptor, and what stands after it.

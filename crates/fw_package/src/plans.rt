@@ -10,7 +10,7 @@ use std::marker::Model;
 pub const PLAN_LIMIT: usize = 8;
 
 /// The numbers of the components that a device is offered, at most eight, rising.
-#[derive(Drop)]
+#[derive(PartialEq, Eq, Drop)]
 pub struct Plan {
     numbers: ArrayVec<usize, PLAN_LIMIT>,
 }
@@ -23,6 +23,8 @@ impl Model for Plan {
     ghost view = { λ p. p.numbers.items };
 
     ghost invariant = { λ p. length p.numbers.items ≤ 8 };
+
+    ghost inverse = { λ ns. record { numbers = record { items = ns } } };
 }
 
 impl Plan {

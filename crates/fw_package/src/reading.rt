@@ -2,18 +2,21 @@
 
 ghost use Rattle.std.specs.Prelude.{◌≡◌, ◌≤◌, ◌<◌, length, IfOk};
 ghost use Rattle.std.specs.Result.{result_map_both};
-ghost use Rattle.fw_package.specs.Reading.{bitmap_size_of, checked, header_of};
+ghost use Rattle.fw_package.specs.Reading.{bitmap_size_of, checked, header_of, package_identifier};
 
 use crate::crc::crc32;
 use crate::fault::PackageFault;
 use crate::layout::{CHECKSUM_SIZE, FIXED_SIZE, HEADER_SIZE, REVISION};
 use crate::numbers::u16_at;
 use byteorder::{ByteOrder, LittleEndian};
+use uuid::Uuid;
 
-/// The package header identifier of revision 1, F018878C-CB7D-4943-9800-A02F059ACA02.
-pub const PACKAGE_IDENTIFIER: [u8; 16] = [
-    0xF0, 0x18, 0x87, 0x8C, 0xCB, 0x7D, 0x49, 0x43, 0x98, 0x00, 0xA0, 0x2F, 0x05, 0x9A, 0xCA, 0x02,
-];
+/// The package header identifier of revision 1 (DSP0267, "Package header information").
+pub fn package_identifier() -> Uuid
+    ensures { result ≡ package_identifier }
+{
+    Uuid::from_u128(0xF018878C_CB7D_4943_9800_A02F059ACA02)
+}
 
 /// The header revision that this is.
 pub const HEADER_REVISION: u8 = 1;
@@ -30,7 +33,7 @@ pub fn header(bytes: &[u8]) -> Result<&[u8], PackageFault>
     if bytes.len() < FIXED_SIZE {
         return Err(PackageFault::Short);
     }
-    if !bytes.starts_with(&PACKAGE_IDENTIFIER) {
+    if !bytes.starts_with(package_identifier().as_bytes()) {
         return Err(PackageFault::Identifier);
     }
     if bytes[REVISION] != HEADER_REVISION {

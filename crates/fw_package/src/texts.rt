@@ -1,7 +1,7 @@
 //! Texts and descriptors, as a package lends them.
 
 /// A text that a package lends.
-#[derive(Clone, Copy)]
+#[derive(Clone, Copy, PartialEq, Eq)]
 pub struct Text<'a> {
     /// The string type (1 is ASCII, 2 is UTF-8). It isn't checked.
     pub kind: u8,
@@ -10,7 +10,7 @@ pub struct Text<'a> {
 }
 
 /// A descriptor of a device, or of those that a record is for.
-#[derive(Clone, Copy)]
+#[derive(Clone, Copy, PartialEq, Eq)]
 pub struct Descriptor<'a> {
     /// The descriptor type.
     pub kind: u16,

@@ -13,7 +13,7 @@ use crate::asked::{AskedComponent, AskedFault, AskedPackage, AskedRecord};
 use crate::bitmaps::{bitmap_size, put_bitmap};
 use crate::crc::crc32;
 use crate::measures::{HEADER_LIMIT, header_size, record_size, refusal};
-use crate::reading::{HEADER_REVISION, PACKAGE_IDENTIFIER};
+use crate::reading::{HEADER_REVISION, package_identifier};
 use crate::texts::Descriptor;
 use crate::uses::BYTE_BITS;
 use arrayvec::ArrayVec;
@@ -174,7 +174,7 @@ fn put_opening(header: &mut Header, asked: &AskedPackage<'_>)
     ensures release { length asked.now.release ≡ 13 }
 {
     let bitmap_size = bitmap_size(asked.components.len());
-    put(header, &PACKAGE_IDENTIFIER);
+    put(header, package_identifier().as_bytes());
     header.push(HEADER_REVISION);
     put_u16(header, header_size(asked) as u16);
     put(header, &asked.release);

@@ -18,7 +18,7 @@ use mctp_wire::Unit;
 use std::alloc::Global;
 
 /// A configuration.
-#[derive(Drop)]
+#[derive(PartialEq, Eq, Drop)]
 pub struct Config {
     /// The agent's end of the links.
     pub agent: Endpoint,
@@ -31,7 +31,7 @@ pub struct Config {
 }
 
 /// A device as it is configured.
-#[derive(Drop)]
+#[derive(PartialEq, Eq, Drop)]
 pub struct DeviceConfig {
     /// Its end of the links.
     pub endpoint: Endpoint,
@@ -42,7 +42,7 @@ pub struct DeviceConfig {
 }
 
 /// A component as it is configured.
-#[derive(Drop)]
+#[derive(PartialEq, Eq, Drop)]
 pub struct ComponentConfig {
     /// The component.
     pub component: Component,

@@ -3,7 +3,7 @@
 use fwup_wire::Key;
 
 /// What is asked of a package.
-#[derive(Drop)]
+#[derive(PartialEq, Eq, Drop)]
 pub struct PackageSpec {
     /// The release time (timestamp104 of DSP0240, as it is written); zeros where none is said.
     pub release: [u8; 13],
@@ -18,7 +18,7 @@ pub struct PackageSpec {
 }
 
 /// A record that is asked for.
-#[derive(Drop)]
+#[derive(PartialEq, Eq, Drop)]
 pub struct SpecRecord {
     /// The number of the line that begins it, from 1 on.
     pub line: usize,
@@ -33,7 +33,7 @@ pub struct SpecRecord {
 }
 
 /// A descriptor that is asked for.
-#[derive(Drop)]
+#[derive(PartialEq, Eq, Drop)]
 pub struct SpecDescriptor {
     /// Its type.
     pub kind: u16,
@@ -42,7 +42,7 @@ pub struct SpecDescriptor {
 }
 
 /// A component that is asked for.
-#[derive(Drop)]
+#[derive(PartialEq, Eq, Drop)]
 pub struct SpecComponent {
     /// Its numbers.
     pub numbers: SpecNumbers,
@@ -53,7 +53,7 @@ pub struct SpecComponent {
 }
 
 /// The numbers of a component that is asked for.
-#[derive(Clone, Copy)]
+#[derive(Clone, Copy, PartialEq, Eq)]
 pub struct SpecNumbers {
     /// Classification and identifier.
     pub key: Key,

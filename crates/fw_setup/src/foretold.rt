@@ -2,7 +2,7 @@
 
 ghost use Rattle.std.specs.Prelude.{◌≡◌, ◌<◌, All, length, map, option_map};
 ghost use Rattle.fd_core.specs.Images.{row_of};
-ghost use Rattle.fw_package.specs.Choice.{is_among, same_descriptor};
+ghost use Rattle.fw_package.specs.Choice.{is_among};
 ghost use Rattle.fw_package.specs.Lent.{component_seen};
 ghost use Rattle.fw_package.specs.Package.{descriptor_of};
 ghost use Rattle.fw_script.specs.Seen.{component_of};
@@ -143,19 +143,12 @@ pub fn plan_word(fault: PlanFault) -> &'static str
     }
 }
 
-/// Whether these have the same type and the same data.
-fn is_same(descriptor: Descriptor<'_>, other: Descriptor<'_>) -> bool
-    ensures { result ≡ same_descriptor (descriptor_of descriptor.entry) (descriptor_of other.entry) }
-{
-    descriptor.kind == other.kind && descriptor.bytes == other.bytes
-}
-
 /// Whether this is one of the device's descriptors.
 fn is_among(device: &[Descriptor<'_>], descriptor: Descriptor<'_>) -> bool
     ensures { result ≡ is_among (map descriptor_of device.now) (descriptor_of descriptor.entry) }
 {
     for other in device {
-        if is_same(descriptor, *other) {
+        if descriptor == *other {
             return true;
         }
     }

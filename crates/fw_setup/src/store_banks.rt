@@ -11,7 +11,7 @@ ghost use Rattle.fw_store.specs.Opening.{IsUntouched};
 
 use crate::banks::{Banks, BanksFault, mem_bank};
 use crate::stocks::component_keys;
-use fd_core::{Label, MemBank};
+use fd_core::MemBank;
 use fw_script::ComponentConfig;
 use fw_store::{Folder, FolderStore, KeptBank, OpenFault, Stored};
 use std::alloc::{AllocError, Global};
@@ -31,16 +31,6 @@ pub struct StoreBanks<F: Folder + Drop> {
     stores: VecDeque<DeviceStore<F>>,
 }
 
-/// Whether two labels are the same.
-fn is_same_label(one: &Label, other: &Label) -> bool
-    ensures same { result ≡ true → one.now ≡ other.now }
-    ensures differ { result ≡ false → one.now ≢ other.now }
-{
-    one.stamp == other.stamp
-        && one.text_type == other.text_type
-        && one.text.as_slice() == other.text.as_slice()
-}
-
 /// Whether an image is the one that a component is configured with.
 fn is_configured(stored: &Stored, config: &ComponentConfig) -> bool
     ensures same { result ≡ true → stored.now ≡ image_configured (component_of config.now) }
@@ -48,7 +38,7 @@ fn is_configured(stored: &Stored, config: &ComponentConfig) -> bool
 {
     let image = stored.image();
     image.key == config.component.key
-        && is_same_label(image.label, &config.label)
+        && image.label == &config.label
         && image.bytes == config.image.as_slice()
 }
 

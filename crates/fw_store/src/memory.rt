@@ -2,7 +2,7 @@
 
 ghost use Rattle.std.specs.Prelude.{◌≡◌, IfOk, None, OnErr, OnOk, map, option_map};
 ghost use Rattle.fd_core.specs.Banks.{AreApart};
-ghost use Rattle.fd_core.specs.Images.{key_of, same_key};
+ghost use Rattle.fd_core.specs.Images.{key_of};
 ghost use Rattle.fw_store.specs.Kept.{KeptOf, all_running, image_for, kept_after, replaced_by};
 
 use crate::store::{Kept, Store, StoreFault};
@@ -52,20 +52,13 @@ pub(crate) fn copied(
     })
 }
 
-/// Whether two keys are the same.
-fn is_same(one: Key, other: Key) -> bool
-    ensures { result ≡ same_key one other }
-{
-    one.classification == other.classification && one.identifier == other.identifier
-}
-
 /// The image of a component among these, if it is there.
 #[tactic(auto, using(crate::proofs::Keeping::finding))]
 pub(crate) fn find<'a, 'b>(images: &'a [Kept<'b>], key: Key) -> Option<&'a Kept<'b>>
     ensures { option_map (λ k. k.now.image) result ≡ image_for images.now key }
 {
     for image in images {
-        if is_same(image.key, key) {
+        if image.key == key {
             return Some(image);
         }
     }
@@ -170,7 +163,7 @@ impl MemStore {
         ensures { option_map (λ b. b.now) result ≡ option_map (λ i. i.bytes) (image_for self.now.images.items key) }
     {
         for image in &self.images {
-            if is_same(image.key, key) {
+            if image.key == key {
                 return Some(&image.bytes);
             }
         }

@@ -59,7 +59,7 @@ pub struct Status {
 
 /// An answer (DSP0267 1.0), its texts and data lent. An answer with another code than `SUCCESS` ends at the code and is
 /// `Refused`, whatever the command; the others carry what follows the code.
-#[derive(Drop)]
+#[derive(PartialEq, Eq, Drop)]
 pub enum Answer<'a> {
     /// The command wasn't carried out.
     Refused {

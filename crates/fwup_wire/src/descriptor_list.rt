@@ -1,6 +1,10 @@
 //! Lists of descriptors, put together.
 
-ghost use Rattle.std.specs.Prelude.{[], ◌+◌, ◌++◌, ◌≡◌, ◌≤◌, ◌∷◌, length};
+ghost use Rattle.std.proofs.Common.{rules};
+ghost use Rattle.std.specs.Cmp.Lexicographic.{pointwise};
+ghost use Rattle.std.specs.Cmp.Rules.{comparing};
+ghost use Rattle.std.specs.Ordering.{eq_of_both, on};
+ghost use Rattle.std.specs.Prelude.{[], ◌+◌, ◌++◌, ◌==◌, ◌≡◌, ◌≤◌, ◌∷◌, length};
 ghost use Rattle.fwup_wire.specs.Descriptors.{HasDescriptorWidths, descriptor_bytes, descriptor_size, descriptors_bytes};
 ghost use Rattle.fwup_wire.specs.Lent.{descriptor_of};
 
@@ -31,6 +35,21 @@ impl Model for DescriptorList {
     ghost view = { λ d. unwrap_or (descriptors_in d.count d.bytes.items) [] };
 
     ghost invariant = { λ d. HoldsDescriptors d.count d.bytes.items (unwrap_or (descriptors_in d.count d.bytes.items) []) × (4 * d.count ≤ length d.bytes.items) };
+}
+
+/// Two lists are equal if they are as long and are sent as the same bytes.
+impl PartialEq for DescriptorList {
+    ghost eq = { eq_of_both (on length ◌==◌) (on descriptors_bytes (pointwise ◌==◌)) };
+
+    ghost laws = { Prim.search (comparing, rules) };
+
+    fn eq(&self, other: &DescriptorList) -> bool {
+        self.lent() == other.lent()
+    }
+}
+
+impl Eq for DescriptorList {
+    ghost laws = { Prim.search (comparing, rules) };
 }
 
 impl DescriptorList {

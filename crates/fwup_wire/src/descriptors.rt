@@ -1,7 +1,11 @@
 //! Lists of descriptors as they are sent.
 
+ghost use Rattle.std.proofs.Common.{rules};
+ghost use Rattle.std.specs.Cmp.Lexicographic.{pointwise};
+ghost use Rattle.std.specs.Cmp.Rules.{comparing};
 ghost use Rattle.std.specs.Iterator.{YieldsFirstBy, item_count};
-ghost use Rattle.std.specs.Prelude.{IsTrue, Some, List, [], drop, length, unwrap_or, ◌↔◌, ◌≡◌, ◌<◌, ◌≤◌, ℕ};
+ghost use Rattle.std.specs.Ordering.{eq_of_both, on};
+ghost use Rattle.std.specs.Prelude.{IsTrue, Some, List, [], drop, length, unwrap_or, ◌==◌, ◌↔◌, ◌≡◌, ◌<◌, ◌≤◌, ℕ};
 ghost use Rattle.fwup_wire.specs.Lent.{descriptor_of};
 ghost use Rattle.fwup_wire.specs.Descriptors.{AreDescriptors, descriptors_bytes, descriptors_in};
 
@@ -26,6 +30,21 @@ impl<'a> Model for Descriptors<'a> {
     ghost view = { λ d. unwrap_or (descriptors_in d.count d.bytes.now) [] };
 
     ghost invariant = { λ d. AreDescriptors d.count d.bytes.now (unwrap_or (descriptors_in d.count d.bytes.now) []) };
+}
+
+/// Two lists are equal if they are as long and are sent as the same bytes.
+impl<'a> PartialEq for Descriptors<'a> {
+    ghost eq = { eq_of_both (on length ◌==◌) (on descriptors_bytes (pointwise ◌==◌)) };
+
+    ghost laws = { Prim.search (comparing, rules) };
+
+    fn eq(&self, other: &Descriptors<'a>) -> bool {
+        self.len() == other.len() && self.as_bytes() == other.as_bytes()
+    }
+}
+
+impl<'a> Eq for Descriptors<'a> {
+    ghost laws = { Prim.search (comparing, rules) };
 }
 
 impl<'a> Descriptors<'a> {

@@ -15,7 +15,6 @@ mod descriptors;
 mod laws;
 mod parameter_list;
 mod parameters;
-mod same;
 mod transfers;
 mod values;
 mod writer;
@@ -26,13 +25,13 @@ pub use answer_writing::write_answer;
 pub use command::{Command, ComponentOffer, TableEntry, UpdateRequest, is_asked_of_agent};
 pub use command_reading::read;
 pub use command_writing::write;
-pub use descriptor_list::{DescriptorList, MAX_DESCRIPTOR_BYTES};
+pub use descriptor_list::DescriptorList;
 pub use descriptors::Descriptors;
 pub use laws::{
     answers_read_back, command_codes, commands_read_back, completion_codes, response_codes,
     text_types,
 };
-pub use parameter_list::{MAX_PARAMETER_BYTES, ParameterList};
+pub use parameter_list::ParameterList;
 pub use parameters::Parameters;
 pub use transfers::{MAX_TRANSFER, MIN_TRANSFER, transfer_size};
 pub use values::{ComponentParameters, Descriptor, Key, NO_STAMP, Text, TransferFlag, Version};

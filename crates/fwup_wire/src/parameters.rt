@@ -1,7 +1,11 @@
 //! Lists of components' parameters as they are sent.
 
+ghost use Rattle.std.proofs.Common.{rules};
+ghost use Rattle.std.specs.Cmp.Lexicographic.{pointwise};
+ghost use Rattle.std.specs.Cmp.Rules.{comparing};
 ghost use Rattle.std.specs.Iterator.{YieldsFirstBy, item_count};
-ghost use Rattle.std.specs.Prelude.{IsTrue, Some, List, [], drop, length, unwrap_or, ◌↔◌, ◌≡◌, ◌<◌, ℕ};
+ghost use Rattle.std.specs.Ordering.{eq_of_both, on};
+ghost use Rattle.std.specs.Prelude.{IsTrue, Some, List, [], drop, length, unwrap_or, ◌==◌, ◌↔◌, ◌≡◌, ◌<◌, ℕ};
 ghost use Rattle.fwup_wire.specs.Lent.{parameters_of};
 ghost use Rattle.fwup_wire.specs.Parameters.{AreParameters, all_parameters_bytes, parameters_in};
 
@@ -26,6 +30,21 @@ impl<'a> Model for Parameters<'a> {
     ghost view = { λ d. unwrap_or (parameters_in d.count d.bytes.now) [] };
 
     ghost invariant = { λ d. AreParameters d.count d.bytes.now (unwrap_or (parameters_in d.count d.bytes.now) []) };
+}
+
+/// Two lists are equal if they are as long and are sent as the same bytes.
+impl<'a> PartialEq for Parameters<'a> {
+    ghost eq = { eq_of_both (on length ◌==◌) (on all_parameters_bytes (pointwise ◌==◌)) };
+
+    ghost laws = { Prim.search (comparing, rules) };
+
+    fn eq(&self, other: &Parameters<'a>) -> bool {
+        self.len() == other.len() && self.as_bytes() == other.as_bytes()
+    }
+}
+
+impl<'a> Eq for Parameters<'a> {
+    ghost laws = { Prim.search (comparing, rules) };
 }
 
 impl<'a> Parameters<'a> {

@@ -4,7 +4,7 @@ use Rattle.mctp_wire.specs.declared.unit.Unit.{«Unit»}
 use Rattle.mctp_wire.specs.Units.{bytes_of}
 use Rattle.std.proofs.lemmas.Bool.{eq-eqb}
 use Rattle.std.proofs.lemmas.List.{length-append, take-append-le, drop-append-le, take_all, drop_all}
-use Rattle.mctp_reasm.specs.declared.messages.TheConstants.{MAX_PACKETS}
+use Rattle.mctp_wire.specs.declared.unit.TheConstants.{MAX_PACKETS}
 use Rattle.mctp_reasm.specs.Pieces.{MessageOf, IsMessage, PacketOf, Route, bodies, message_route, piece, pieces, pieces_from, route_of}
 use Rattle.mctp_reasm.specs.Held.{AreFirst, AreOpen, Held, IsHeld, IsOfSame, Joins, base_of, cause_of, fed, fed_as, joined, message_of, packets_of}
 use Rattle.mctp_reasm.specs.declared.outcomes.DropCause.{DropCause}

@@ -4,7 +4,7 @@ use Rattle.mctp_wire.specs.declared.unit.Unit.{«Unit»}
 use Rattle.mctp_wire.specs.Units.{bytes_of}
 use Rattle.std.proofs.lemmas.List.{length-drop, length-take-le, take-append-drop, take-append-le, drop-append-le, take_all}
 use Rattle.std.proofs.lemmas.Bool.{ne_eqb}
-use Rattle.mctp_reasm.specs.declared.messages.TheConstants.{MAX_PACKETS}
+use Rattle.mctp_wire.specs.declared.unit.TheConstants.{MAX_PACKETS}
 use Rattle.mctp_wire.specs.declared.layout.Head.{Head}
 use Rattle.mctp_reasm.specs.Pieces.{PacketOf, Route, bodies, piece, route_of}
 use Rattle.mctp_reasm.specs.Held.{AreFirst, AreOpen, IsHeld, IsOfSame, held_of, opened, packets_of}

@@ -5,7 +5,7 @@ use Rattle.mctp_wire.specs.declared.unit.Unit.TheVariants.{U64, U128}
 use Rattle.mctp_wire.specs.Units.{bytes_of}
 use Rattle.mctp_reasm.specs.Held.{AssemblyOf, held_tick}
 use Rattle.mctp_reasm.specs.Inboxes.{AreOf, held_in, ticked}
-use Rattle.mctp_reasm.specs.declared.messages.TheConstants.{MAX_PACKETS}
+use Rattle.mctp_wire.specs.declared.unit.TheConstants.{MAX_PACKETS}
 
 -- three packets and one more body fit the longest message
 pub body_fits : (u : «Unit») (count size : ℕ) → count < MAX_PACKETS → size ≤ bytes_of u → bytes_of u * count + size ≤ 512

@@ -3,7 +3,7 @@ use Rattle.std.specs.Prelude.{◌≡◌, ◌<◌, ◌≤◌, ℕ, zero, suc, ◌
 use Rattle.mctp_wire.specs.declared.unit.Unit.{«Unit»}
 use Rattle.mctp_wire.specs.Units.{bytes_of}
 use Rattle.mctp_wire.specs.declared.layout.Head.{Head}
-use Rattle.mctp_reasm.specs.declared.messages.TheConstants.{MAX_PACKETS}
+use Rattle.mctp_wire.specs.declared.unit.TheConstants.{MAX_PACKETS}
 use Rattle.mctp_reasm.specs.Pieces.{MessageOf, PacketOf, Route, bodies, piece, route_of}
 use Rattle.mctp_reasm.specs.declared.outcomes.DropCause.{DropCause}
 use Rattle.mctp_reasm.specs.declared.outcomes.DropCause.TheVariants as causes

@@ -6,7 +6,7 @@ use Rattle.mctp_reasm.specs.Pieces.{MessageOf, IsMessage, PacketOf, Route, bodie
 use Rattle.mctp_reasm.specs.Held.{Held, fed, held_after}
 use Rattle.mctp_reasm.specs.declared.outcomes.DropCause.TheVariants as causes
 use Rattle.mctp_reasm.specs.declared.outcomes.Fed.TheVariants as outcomes
-use Rattle.mctp_reasm.specs.declared.messages.TheConstants.{MAX_PACKETS}
+use Rattle.mctp_wire.specs.declared.unit.TheConstants.{MAX_PACKETS}
 
 -- what is known of piece n of a message of so many pieces
 pub record IsPieceAt (u : «Unit») (r : Route) (n count : ℕ) (p : PacketOf) : Type 0 where

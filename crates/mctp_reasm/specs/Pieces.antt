@@ -1,10 +1,10 @@
 -- Messages, and the packets that they are cut into (DSP0236, section 8).
 use Rattle.std.specs.Prelude.{◌≤◌, ℕ, zero, suc, ◌+◌, ◌*◌, ◌==◌, nat_le, Bool, true, false, if◌then◌else◌, List, [], ◌∷◌, ◌++◌, length, take, drop}
 use Rattle.mctp_wire.specs.declared.unit.Unit.{«Unit»}
-use Rattle.mctp_wire.specs.Units.{bytes_of}
+use Rattle.mctp_wire.specs.Units.{bytes_of, message_limit}
 use Rattle.mctp_wire.specs.declared.layout.Head.{Head}
 use Rattle.mctp_wire.specs.Packet.{packet_bytes}
-use Rattle.mctp_reasm.specs.declared.messages.TheConstants.{MAX_PACKETS}
+use Rattle.mctp_wire.specs.declared.unit.TheConstants.{MAX_PACKETS}
 
 -- a message between two endpoints
 pub record MessageOf : Type 0 where
@@ -18,11 +18,7 @@ pub record MessageOf : Type 0 where
 abbrev pub blank : MessageOf
 blank = record { dest = 0; source = 0; to = false; tag = 0; bytes = 0 ∷ [] }
 
--- the most bytes of a message: four packets
-abbrev pub message_limit : «Unit» → ℕ
-message_limit u = MAX_PACKETS * bytes_of u
-
--- a message has 1 byte to that
+-- a message has 1 byte to four packets' bodies
 abbrev pub IsMessage : «Unit» → MessageOf → Type 0
 IsMessage u m = (1 ≤ length m.bytes) × (length m.bytes ≤ message_limit u)
 

@@ -5,10 +5,10 @@ ghost use Rattle.mctp_reasm.specs.Pieces.{IsMessage, MessageOf, packet_of, piece
 ghost use Rattle.mctp_reasm.specs.Held.{IsHeld, IsOfSame, Joins, LiesThere, base_of, cause_of, fed, held_after, held_tick, joined, message_of, next_cause, packets_of, start_cause, told};
 ghost use Rattle.mctp_wire.specs.Units.{bytes_of};
 
-use crate::messages::{MAX_MESSAGE, MAX_PACKETS, Message};
+use crate::messages::Message;
 use crate::outcomes::{DropCause, Fed, Taken};
 use arrayvec::ArrayVec;
-use mctp_wire::{Packet, Unit};
+use mctp_wire::{MAX_MESSAGE, MAX_PACKETS, Packet, Unit};
 use std::marker::Model;
 
 /// Sequence numbers are counted modulo this.
@@ -34,7 +34,7 @@ pub struct Assembly {
 impl Model for Assembly {
     ghost use Rattle.std.specs.Prelude.{◌≡◌, ◌≤◌, ◌*◌, length};
     ghost use Rattle.mctp_reasm.specs.Held.{AssemblyOf, held_of};
-    ghost use Rattle.mctp_reasm.specs.declared.messages.TheConstants.{MAX_PACKETS};
+    ghost use Rattle.mctp_wire.specs.declared.unit.TheConstants.{MAX_PACKETS};
     ghost use Rattle.mctp_wire.specs.Units.{bytes_of};
 
     ghost Value = { AssemblyOf };

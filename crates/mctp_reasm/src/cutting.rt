@@ -3,9 +3,9 @@
 ghost use Rattle.std.specs.Prelude.{◌≡◌, ◌<◌, ◌≤◌, length, map, option_map, slice_get};
 ghost use Rattle.mctp_reasm.specs.Pieces.{message_route, pieces, piece, spelled};
 
-use crate::messages::{MAX_PACKETS, Message};
+use crate::messages::Message;
 use arrayvec::ArrayVec;
-use mctp_wire::{Head, MAX_BODY, RawPacket, Unit};
+use mctp_wire::{Head, MAX_BODY, MAX_PACKETS, RawPacket, Unit};
 
 /// The packet of one piece of a message.
 fn piece_of(message: &Message, number: u8, last: bool, body: &[u8]) -> RawPacket

@@ -12,5 +12,5 @@ pub use assembly::Assembly;
 pub use cutting::{piece_at, split};
 pub use inbox::{Inbox, TAGS};
 pub use laws::{feeds_next, feeds_other, pieces_of_a_message};
-pub use messages::{MAX_MESSAGE, MAX_PACKETS, Message, MessageFault};
+pub use messages::{Message, MessageFault};
 pub use outcomes::{DropCause, Fed, Taken};

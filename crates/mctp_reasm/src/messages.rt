@@ -1,19 +1,12 @@
 //! Messages of 1 byte to four packets' bodies.
 
 use arrayvec::ArrayVec;
-use mctp_wire::{MAX_BODY, Unit};
+use mctp_wire::{MAX_MESSAGE, MAX_PACKETS, Unit};
 use std::marker::Model;
 use thiserror::Error;
 
-/// The most packets of a message: their sequence numbers, which are counted modulo 4 (DSP0236, section 8.1), are then
-/// all different.
-pub const MAX_PACKETS: usize = 4;
-
-/// The most bytes of a message, its type byte included, whatever the transmission unit: what its packets carry.
-pub const MAX_MESSAGE: usize = MAX_PACKETS * MAX_BODY;
-
 /// A message between two endpoints.
-#[derive(Drop)]
+#[derive(PartialEq, Eq, Drop)]
 pub struct Message {
     pub(crate) dest: u8,
     pub(crate) source: u8,
@@ -25,13 +18,15 @@ pub struct Message {
 impl Model for Message {
     ghost use Rattle.std.specs.Prelude.{◌≤◌, length};
     ghost use Rattle.mctp_reasm.specs.Pieces.{MessageOf};
-    ghost use Rattle.mctp_reasm.specs.declared.messages.TheConstants.{MAX_MESSAGE};
+    ghost use Rattle.mctp_wire.specs.declared.unit.TheConstants.{MAX_MESSAGE};
 
     ghost Value = { MessageOf };
 
     ghost view = { λ m. record { dest = m.dest; source = m.source; to = m.to; tag = m.tag; bytes = m.bytes.items } };
 
     ghost invariant = { λ m. (m.tag ≤ 7) × (1 ≤ length m.bytes.items) × (length m.bytes.items ≤ MAX_MESSAGE) };
+
+    ghost inverse = { λ v. record { dest = v.dest; source = v.source; to = v.to; tag = v.tag; bytes = record { items = v.bytes } } };
 }
 
 /// Why bytes are no message.
@@ -47,8 +42,9 @@ pub enum MessageFault {
 
 impl Message {
     ghost use Rattle.std.specs.Prelude.{◌≡◌, ◌<◌, ◌≤◌, ◌↔◌, length, IfOk, IsErrOf};
-    ghost use Rattle.mctp_reasm.specs.Pieces.{blank, message_limit};
-    ghost use Rattle.mctp_reasm.specs.declared.messages.TheConstants.{MAX_MESSAGE};
+    ghost use Rattle.mctp_reasm.specs.Pieces.{blank};
+    ghost use Rattle.mctp_wire.specs.Units.{message_limit};
+    ghost use Rattle.mctp_wire.specs.declared.unit.TheConstants.{MAX_MESSAGE};
 
     /// A message of these bytes in a network with this transmission unit, its type byte first, under a tag of 0 to 7.
     /// `to` is set where its sender owns the tag, as that of a request does.

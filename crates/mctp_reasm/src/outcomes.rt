@@ -24,7 +24,7 @@ pub enum DropCause {
 }
 
 /// What comes of a packet that an assembly hears.
-#[derive(Drop)]
+#[derive(PartialEq, Eq, Drop)]
 pub enum Fed {
     /// The packet was taken; its message goes on.
     Open,

@@ -33,7 +33,7 @@ pub struct Head {
 }
 
 /// A packet that was read, whose body is lent by the bytes.
-#[derive(Clone, Copy)]
+#[derive(Clone, Copy, PartialEq, Eq)]
 pub struct Packet<'a> {
     /// The head.
     pub head: Head,

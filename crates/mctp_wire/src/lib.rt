@@ -11,4 +11,4 @@ pub use codec::{decode, encode};
 pub use fault::WireFault;
 pub use laws::reads_back;
 pub use layout::{HEAD_SIZE, Head, MAX_BODY, MAX_PACKET, Packet, RawPacket, copy_of};
-pub use unit::Unit;
+pub use unit::{MAX_MESSAGE, MAX_PACKETS, Unit};

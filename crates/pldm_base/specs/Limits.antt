@@ -1,7 +1,7 @@
 -- What a message carries after its header.
 use Rattle.std.specs.Prelude.{ℕ, ◌-◌}
 use Rattle.mctp_wire.specs.declared.unit.Unit.{«Unit»}
-use Rattle.mctp_reasm.specs.Pieces.{message_limit}
+use Rattle.mctp_wire.specs.Units.{message_limit}
 use Rattle.pldm_base.specs.declared.header.TheConstants.{HEADER_SIZE}
 
 -- the most bytes of request data, and of a reply with its code

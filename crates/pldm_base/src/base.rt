@@ -1,13 +1,15 @@
 //! The base commands: SetTID, GetTID, GetPLDMTypes and GetPLDMCommands.
 
 ghost use Rattle.std.specs.Prelude.{[], ◌++◌, ◌≡◌, ◌∷◌, ◌≤◌, length, replicate, ℕ};
+ghost use Rattle.byteorder.specs.Endian.{little_bytes};
 ghost use Rattle.pldm_base.specs.Base.{base_reply, tid_after};
 
 use crate::completion;
 use crate::header::{HEADER_SIZE, TYPE_BASE, TYPE_FIRMWARE_UPDATE};
 use crate::terminus::{Role, Tid};
 use arrayvec::ArrayVec;
-use mctp_reasm::MAX_MESSAGE;
+use byteorder::{ByteOrder, LittleEndian};
+use mctp_wire::MAX_MESSAGE;
 
 /// The most bytes of an answer, code included, and of request data: what the longest message holds after its header.
 pub const MAX_REPLY: usize = MAX_MESSAGE - HEADER_SIZE;
@@ -24,17 +26,17 @@ pub const GET_PLDM_TYPES: u8 = 0x04;
 /// GetPLDMCommands: asks which commands of a PLDM type the terminus has.
 pub const GET_PLDM_COMMANDS: u8 = 0x05;
 
-/// Types 0 and 5, as bits.
-const TYPES: [u8; 8] = [0x21, 0, 0, 0, 0, 0, 0, 0];
+/// The PLDM types 0 and 5: bit n is set for type n (DSP0240, "GetPLDMTypes").
+const TYPES: u64 = 0x21;
 
-/// The base commands 1, 2, 4 and 5, as the first four of their bytes of bits.
-const BASE_COMMANDS: [u8; 4] = [0x36, 0, 0, 0];
+/// The base commands 1, 2, 4 and 5: bit n is set for command n (DSP0240, "GetPLDMCommands").
+const BASE_COMMANDS: u32 = 0x36;
 
-/// The firmware update commands that a device takes: 0x01, 0x02, 0x10, 0x13, 0x14 and 0x1A to 0x1D.
-const DEVICE_COMMANDS: [u8; 4] = [0x06, 0x00, 0x19, 0x3C];
+/// The firmware update commands that a device takes, 0x01, 0x02, 0x10, 0x13, 0x14 and 0x1A to 0x1D.
+const DEVICE_COMMANDS: u32 = 0x3C19_0006;
 
-/// The firmware update commands that the update agent takes: 0x15 to 0x18.
-const AGENT_COMMANDS: [u8; 4] = [0x00, 0x00, 0xE0, 0x01];
+/// The firmware update commands that the update agent takes, 0x15 to 0x18.
+const AGENT_COMMANDS: u32 = 0x01E0_0000;
 
 /// The completion code of an answer and what follows it.
 pub type Reply = ArrayVec<u8, MAX_REPLY>;
@@ -103,7 +105,9 @@ fn get_types(fields: &[u8]) -> Reply
     if !fields.is_empty() {
         return code_alone(completion::ERROR_INVALID_LENGTH);
     }
-    success(&TYPES)
+    let mut bits = [0; 8];
+    LittleEndian::write_u64(&mut bits, TYPES);
+    success(&bits)
 }
 
 fn get_commands(role: Role, fields: &[u8]) -> Reply
@@ -113,18 +117,18 @@ fn get_commands(role: Role, fields: &[u8]) -> Reply
         return code_alone(completion::ERROR_INVALID_LENGTH);
     };
     match (*pldm_type, role) {
-        (TYPE_BASE, _) => command_bits(&BASE_COMMANDS),
-        (TYPE_FIRMWARE_UPDATE, Role::Device) => command_bits(&DEVICE_COMMANDS),
-        (TYPE_FIRMWARE_UPDATE, Role::Agent) => command_bits(&AGENT_COMMANDS),
+        (TYPE_BASE, _) => command_bits(BASE_COMMANDS),
+        (TYPE_FIRMWARE_UPDATE, Role::Device) => command_bits(DEVICE_COMMANDS),
+        (TYPE_FIRMWARE_UPDATE, Role::Agent) => command_bits(AGENT_COMMANDS),
         _ => code_alone(completion::INVALID_PLDM_TYPE_IN_REQUEST_DATA),
     }
 }
 
-/// The answer with 32 bytes of bits, of which all but the first four are 0.
-fn command_bits(first: &[u8; 4]) -> Reply
-    ensures { result.items ≡ 0 ∷ (first.now ++ replicate 28 0) }
+/// The answer with 32 bytes of bits, of which all but the first 32 bits are 0.
+fn command_bits(commands: u32) -> Reply
+    ensures { result.items ≡ 0 ∷ (little_bytes 4 commands ++ replicate 28 0) }
 {
     let mut bits = [0; 32];
-    bits[..4].copy_from_slice(first);
+    LittleEndian::write_u32(&mut bits, commands);
     success(&bits)
 }

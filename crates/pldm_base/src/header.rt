@@ -7,7 +7,7 @@ ghost use Rattle.pldm_base.specs.declared.header.PldmHead.{PldmHead};
 
 use crate::base::MAX_REPLY;
 use arrayvec::ArrayVec;
-use mctp_reasm::MAX_MESSAGE;
+use mctp_wire::MAX_MESSAGE;
 use thiserror::Error;
 
 /// The bytes of a PLDM header with its type byte (DSP0240, "PLDM message fields").

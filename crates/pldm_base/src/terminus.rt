@@ -52,14 +52,14 @@ impl Tid {
     }
 
     /// Whether a terminus may be given this identifier.
-    pub fn is_assignable(value: u8) -> bool
+    pub(crate) fn is_assignable(value: u8) -> bool
         ensures { IsTrue result ↔ ((value ≢ 0) × (value ≢ 255)) }
     {
         value != UNASSIGNED && value != RESERVED
     }
 
     /// Gives the terminus an identifier.
-    pub fn assign(&mut self, value: u8)
+    pub(crate) fn assign(&mut self, value: u8)
         requires not_none { value ≢ 0 }
         requires not_reserved { value ≢ 255 }
         ensures { self.new ≡ value }

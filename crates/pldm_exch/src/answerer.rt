@@ -24,7 +24,7 @@ impl Model for Answer {
 }
 
 /// What a request asks for.
-#[derive(Clone, Copy)]
+#[derive(Clone, Copy, PartialEq, Eq)]
 pub enum Asked<'k> {
     /// It is new: it is to be taken, and its answer to be kept.
     New,

@@ -70,7 +70,7 @@ impl OpenRequest {
 }
 
 /// What an answer brings.
-#[derive(Clone, Copy)]
+#[derive(Clone, Copy, PartialEq, Eq)]
 pub struct ReplyIn<'m> {
     /// The command that it answers.
     pub command: u8,

@@ -21,4 +21,4 @@ pub use laws::{
 pub use mctp_reasm::TAGS;
 pub use request::{Brought, Request, body_of};
 pub use taker::Taker;
-pub use times::{DEAF, GIVEN_UP, HOLD, LIFE, RETIRE, RETRY};
+pub use times::{DEAF, LIFE};

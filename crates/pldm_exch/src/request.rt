@@ -62,7 +62,7 @@ pub fn body_of(message: &Message) -> &[u8]
 }
 
 /// What a packet brings to the node that answers, which lays the message that it speaks of beside it.
-#[derive(Clone, Copy)]
+#[derive(Clone, Copy, PartialEq, Eq)]
 pub enum Brought {
     /// Nothing is to be done.
     Nothing,

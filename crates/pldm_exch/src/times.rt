@@ -1,25 +1,28 @@
-//! The times of an exchange, in ticks; a packet's life is in units of time. A packet may arrive until 8 units after its
-//! sending, and an assembly ends with the ninth tick after its last packet.
+//! The times of an exchange, in ticks of the node that counts them, and the life of a packet, in units of time.
+//!
+//! A node may miss one tick in nine, so `c` ticks take `c` to `c + c / 8 + 1` units: 9 ticks at most 11 units, 12 at
+//! most 14, and 25 at most 29. A packet may arrive until 8 units after its sending. An assembly ends with the ninth tick
+//! after its last packet.
 
-/// An open request is sent again each time so many ticks have passed, twice. So its last sending comes at most 12
-/// ticks after its first, and a copy of it arrives at most 20 after.
+/// The ticks after which an open request is sent again, twice. Its last sending comes 12 ticks after its first, at most
+/// 14 units, so its last copy arrives at most 22 units after the first sending.
 pub const RETRY: u8 = 6;
 
-/// An open request is given up so many ticks after it began: one more `RETRY` after its last sending.
+/// The ticks after which an open request is given up: one `RETRY` after its last sending.
 pub const GIVEN_UP: u8 = 3 * RETRY;
 
-/// An answer is kept so many ticks. No copy of its request arrives more than 20 ticks after that began, and so none more
-/// than 20 after the answer was given: each meets the kept answer.
+/// The ticks for which an answer is kept. The last copy of its request arrives at most 22 units after the request began,
+/// so every copy meets the kept answer.
 pub const HOLD: u8 = 24;
 
-/// A tag rests so many ticks after the last sending of a request under it. By then nothing of that request is left: a
-/// copy of it arrives within 8 ticks, an assembly of copies ends within 17, the answer arrives within 16, an assembly of
-/// answers ends within 25, and the answer is kept for at most 33.
+/// The ticks for which a tag rests after the last sending of a request under it: 40 units or more. By then nothing of
+/// that request is left: within 8 units its last copy arrives, within 16 the answer to that copy, within 19 an assembly
+/// of copies ends, within 27 an assembly of answers, and within 37 the kept answer is dropped.
 pub const RETIRE: u8 = 40;
 
-/// A packet may arrive while no more than so many units of time have passed since its sending.
+/// The units of time after its sending within which a packet may arrive.
 pub const LIFE: u32 = 8;
 
-/// A node that starts anew is deaf and silent for so many ticks: as long as a tag rests, so that nothing of its requests
-/// before is left when it hears again.
-pub const DEAF: u8 = 40;
+/// The ticks for which a node that starts anew is deaf and silent: those for which a tag rests, so that nothing of its
+/// earlier requests is left when it hears again.
+pub const DEAF: u8 = RETIRE;

@@ -3,7 +3,7 @@ use Rattle.std.proofs.Common.{◌≡◌, ◌∙◌, ◌+◌, ◌==◌, ℕ, zero
 use Rattle.std.specs.List.{AllByRecursion}
 use Rattle.mctp_wire.specs.declared.unit.Unit.{«Unit»}
 use Rattle.mctp_wire.specs.Units.{bytes_of}
-use Rattle.mctp_reasm.specs.declared.messages.TheConstants.{MAX_PACKETS}
+use Rattle.mctp_wire.specs.declared.unit.TheConstants.{MAX_PACKETS}
 use Rattle.mctp_reasm.specs.Held.{Held}
 use Rattle.mctp_reasm.specs.Pieces.{MessageOf, Route, message_route, piece, pieces_from, spelled}
 use Rattle.pldm_base.specs.declared.header.PldmHead.{PldmHead}

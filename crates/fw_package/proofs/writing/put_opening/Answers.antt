@@ -25,6 +25,8 @@ returns-clause-bytes c =
       c.put_u16.ensures.bytes,
       c.push.ensures.items,
       c.put.ensures,
+      c.as_bytes.ensures,
+      c.package_identifier.ensures,
       sized,
       c.bitmap_size-bitmap_size.ensures,
       length-map c.args.asked.now.components.now asked_component_of,
