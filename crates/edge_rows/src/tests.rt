@@ -1,5 +1,6 @@
 //! Frames, links and runs, worked.
 
+mod alike;
 mod failures;
 mod frames;
 mod hearing;
