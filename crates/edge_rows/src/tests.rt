@@ -9,6 +9,7 @@ mod packages;
 mod rough;
 mod runs;
 mod setup;
+mod silence;
 mod stories;
 mod trials;
 mod units;
