@@ -1,5 +1,6 @@
 //! Frames, links and runs, worked.
 
+mod alike;
 mod failures;
 mod frames;
 mod hearing;
@@ -8,6 +9,7 @@ mod packages;
 mod rough;
 mod runs;
 mod setup;
+mod silence;
 mod stories;
 mod trials;
 mod units;

@@ -1,5 +1,7 @@
 //! Runs of the programs over byte readers and writers.
 
+mod exchanges;
+mod inspected;
 mod inspection;
 mod jobs;
 mod traces;

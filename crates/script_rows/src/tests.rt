@@ -1,7 +1,8 @@
-//! Texts that are read, and texts that are none.
+//! Texts that are read, texts that are none, and the report of an update.
 
 mod configs;
 mod memory;
 mod noise;
 mod schedule_texts;
 mod schedules;
+mod updates;

@@ -4,4 +4,5 @@ mod drafts;
 mod outlining;
 mod planning;
 mod reading;
+mod refusing;
 mod writing;

@@ -8,6 +8,7 @@ mod kept;
 mod memory;
 mod packages;
 mod random;
+mod replays;
 mod seeing;
 mod setup;
 mod steps;

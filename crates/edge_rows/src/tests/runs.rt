@@ -1,5 +1,6 @@
 //! Runs over links.
 
+use crate::tests::alike::{are_alike, is_reported, sent_alike};
 use crate::tests::links::{BadLink, Trouble};
 use crate::tests::packages::{file, package};
 use crate::tests::setup::{
@@ -49,12 +50,26 @@ static ROWS: [Row; 4] = [
     ),
 ];
 
-/// Whether the worked world is updated at this time, by so many packets.
-fn is_updated_at(world: &Small<'_>, now: u32, sent: usize) -> bool {
-    world.now() == now
-        && tells(world, b"ARV")
-        && is_updated(world, DEVICE)
-        && stands(world, DEVICE, SessionState::Done, State::Activate, sent)
+/// The report of an update that is done at `now`, after `sent` packets.
+fn updated_text(alloc: Global, now: u32, sent: usize) -> Result<String, AllocError> {
+    format!(in alloc;
+        "now {now}\nagent 8 up\ndevice 9 up ACTIVATE session Done sent {sent}\n{UPDATED}"
+    )
+}
+
+/// The rest of that report.
+const UPDATED: &str = "active 9 10 1 241 000102030405060708090A0B0C0D0E0F..\n\
+    log 3 last -\n\
+    applied 9 10 1 241\n\
+    recorded 9 1 1\n\
+    activated 9 10 1 241\n";
+
+/// Whether the worked world's report is that of an update done at `now`, after `sent` packets, and the device runs the image.
+fn is_updated_at(alloc: Global, world: &Small<'_>, now: u32, sent: usize) -> bool {
+    let Ok(text) = updated_text(alloc, now, sent) else {
+        return false;
+    };
+    is_reported(alloc, world, text.as_bytes()) && is_updated(world, DEVICE)
 }
 
 /// Whether the worked world, driven over such a link, ends updated as the row says.
@@ -67,7 +82,7 @@ pub fn updates<'a>(
     let mut world = started(alloc, packages)?;
     let mut links = [BadLink::new(alloc, trouble)];
     let driven = driven_over(alloc, &mut world, &mut links, 100);
-    Ok(driven == Some(Driven { turns, foreign }) && is_updated_at(&world, turns, sent))
+    Ok(driven == Some(Driven { turns, foreign }) && is_updated_at(alloc, &world, turns, sent))
 }
 
 #[test]
@@ -76,6 +91,13 @@ fn an_update_takes_so_many_turns_over_each_link(rt: HostRuntime) {
         assert!(rt; holds(rt.alloc(), Trial::Updates(row)), "{}", row.0);
     }
 }
+
+/// The report where in three ticks the agent's first request was sent and nothing came.
+const THIRD_TICK: &[u8] = b"now 3\n\
+    agent 8 up\n\
+    device 9 up IDLE session Query sent 1\n\
+    active 9 10 1 1 AA\n\
+    log 1 last -\n";
 
 /// Whether a link that gives forged frames whenever it is asked lets three ticks pass and nothing else.
 pub fn passes_ticks<'a>(alloc: Global, packages: &'a [Package<'a>]) -> Result<bool, AllocError> {
@@ -89,7 +111,11 @@ pub fn passes_ticks<'a>(alloc: Global, packages: &'a [Package<'a>]) -> Result<bo
         Step::Tick(Missed::new()),
         Step::Tick(Missed::new()),
     ];
-    Ok(driven == Ok(Driven { turns, foreign }) && steps.as_slice() == ticks.as_slice())
+    Ok(
+        driven == Ok(Driven { turns, foreign })
+            && steps.as_slice() == ticks.as_slice()
+            && is_reported(alloc, &world, THIRD_TICK),
+    )
 }
 
 #[test]
@@ -97,7 +123,20 @@ fn a_link_that_gives_forged_frames_without_end_stops_no_turn(rt: HostRuntime) {
     assert!(rt; holds(rt.alloc(), Trial::PassesTicks));
 }
 
-/// Whether a fresh world that takes these steps is this world, as far as it shows.
+/// Whether another world takes the steps, and both worlds then show the same.
+fn becomes(
+    alloc: Global,
+    other: &mut Small<'_>,
+    steps: &[Step],
+    world: &Small<'_>,
+) -> Result<bool, AllocError> {
+    if replay(other, steps).is_err() {
+        return Ok(false);
+    }
+    are_alike(alloc, other, world)
+}
+
+/// Whether a fresh world that takes the steps is this world.
 fn is_replay<'a>(
     alloc: Global,
     packages: &'a [Package<'a>],
@@ -105,18 +144,7 @@ fn is_replay<'a>(
     steps: &[Step],
 ) -> Result<bool, AllocError> {
     let mut other = started(alloc, packages)?;
-    let taken = replay(&mut other, steps).is_ok();
-    let same = sent_alike(&other, world, DEVICE);
-    let (Some(device), Some(there)) = (other.device(DEVICE), world.device(DEVICE)) else {
-        return Ok(false);
-    };
-    Ok(
-        taken
-            && same
-            && device.device().state() == there.device().state()
-            && other.now() == world.now()
-            && other.history().len() == world.history().len(),
-    )
+    becomes(alloc, &mut other, steps, world)
 }
 
 /// Drives the worked world over a link that fails in its `k`-th call: whether it didn't; None where the outcome isn't right.
@@ -251,32 +279,6 @@ fn turns_of_three(alloc: Global, world: &mut Small<'_>, trouble: Trouble) -> Opt
 /// Whether a device runs the image, after an update over perfect links that left it in this state.
 fn is_done(world: &Small<'_>, device: u8, state: State) -> bool {
     stands(world, device, SessionState::Done, state, 27) && is_updated(world, device)
-}
-
-/// Whether the same packets were sent between the agent and a device in two worlds, each at the same tick.
-fn sent_alike(one: &Small<'_>, other: &Small<'_>, device: u8) -> bool {
-    match (one.packets(device), other.packets(device)) {
-        (Some(packets), Some(others)) => are_alike(&packets, &others),
-        _ => false,
-    }
-}
-
-/// Whether these packets are the others.
-fn are_alike(packets: &SentPackets<'_>, others: &SentPackets<'_>) -> bool {
-    for place in 0..packets.len() {
-        if !are_alike_at(packets, others, place) {
-            return false;
-        }
-    }
-    packets.len() == others.len()
-}
-
-/// Whether these packets and the others have the same one at a place.
-fn are_alike_at(packets: &SentPackets<'_>, others: &SentPackets<'_>, place: usize) -> bool {
-    match (packets.get(place), others.get(place)) {
-        (Some(packet), Some(other)) => packet.date == other.date && packet.bytes == other.bytes,
-        _ => false,
-    }
 }
 
 /// Whether all three are done.

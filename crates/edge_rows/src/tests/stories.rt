@@ -70,6 +70,68 @@ fn is_answered(world: &Small<'_>) -> bool {
         && runs_first(world, DEVICE)
 }
 
+/// When the packet of this number was sent, and which command is in it.
+fn commanded(world: &Small<'_>, number: usize) -> Option<(u32, u8)> {
+    let packet = world.packets(DEVICE)?.get(number.checked_sub(1)?)?;
+    Some((packet.date, *packet.bytes.get(7)?))
+}
+
+/// The agent's requests after a cancel, where ApplyComplete is never delivered: the packet's number, the tick, the command, and the
+/// completion code of the answer, which is the next packet. GetFirmwareParameters waits for tag 0. RequestUpdate is refused until
+/// the tag of ApplyComplete has rested, and from 47 on it waits for its own tag.
+static REQUESTS: [(usize, u32, u8, u8); 6] = [
+    (29, 41, 0x02, 0),
+    (33, 43, 0x10, 4),
+    (35, 44, 0x10, 4),
+    (37, 45, 0x10, 4),
+    (39, 46, 0x10, 4),
+    (41, 52, 0x10, 0),
+];
+
+/// Whether the requests and their answers are these, and the device has applied an image and runs its first one.
+fn is_requested(world: &Small<'_>) -> bool {
+    for (number, date, command, code) in &REQUESTS {
+        if commanded(world, *number) != Some((*date, *command))
+            || answered(world, number.saturating_add(1)) != Some((*date, *command, *code))
+        {
+            return false;
+        }
+    }
+    stands(world, DEVICE, SessionState::Pass, State::Learn, 42)
+        && tells(world, b"A")
+        && runs_first(world, DEVICE)
+}
+
+/// The operator cancels after a tick in which ApplyComplete, packet 24, is sent. It is never delivered: a link carries only the
+/// packets that are sent after `drive` begins. Whether the session has ended at 12.
+fn is_cancelled_undelivered(alloc: Global, world: &mut Small<'_>, links: &mut [BadLink]) -> bool {
+    goes(alloc, world, links, 10)
+        && step(world, &Step::Tick(Missed::new())).is_ok()
+        && commanded(world, 24) == Some((11, 0x18))
+        && stands(world, DEVICE, SessionState::Apply, State::Apply, 24)
+        && step(world, &Step::Cancel(DEVICE)).is_ok()
+        && goes(alloc, world, links, 1)
+        && stands(world, DEVICE, SessionState::Idle, State::Idle, 26)
+}
+
+/// Whether the next update makes those requests after a cancel, where ApplyComplete is never delivered.
+pub fn cancels_undelivered<'a>(
+    alloc: Global,
+    packages: &'a [Package<'a>],
+) -> Result<bool, AllocError> {
+    let mut world = started(alloc, packages)?;
+    let mut links = [BadLink::new(alloc, Trouble::Loses(0))];
+    let again = is_cancelled_undelivered(alloc, &mut world, &mut links)
+        && start(&mut world, DEVICE)
+        && goes(alloc, &mut world, &mut links, 40);
+    Ok(again && is_requested(&world))
+}
+
+#[test]
+fn after_a_cancel_a_completion_is_never_delivered(rt: HostRuntime) {
+    assert!(rt; holds(rt.alloc(), Trial::CancelsUndelivered));
+}
+
 #[test]
 fn after_a_cancel_a_stale_completion_changes_nothing(rt: HostRuntime) {
     assert!(rt; holds(rt.alloc(), Trial::Cancels));

@@ -5,7 +5,8 @@ use crate::tests::hearing::are_heard;
 use crate::tests::packages::{file, package};
 use crate::tests::rough::{ends, loses_all};
 use crate::tests::runs::{self, echoes, fails_at_each, one_fails_alone, passes_ticks, updates};
-use crate::tests::stories::cancels;
+use crate::tests::silence::is_left_as_alone;
+use crate::tests::stories::{cancels, cancels_undelivered};
 use crate::tests::units::{self, goes_so};
 use fw_edge::Roughness;
 use std::alloc::Global;
@@ -23,6 +24,8 @@ pub enum Trial<'a> {
     EndsRoughly(Roughness),
     LosesAll,
     Cancels,
+    CancelsUndelivered,
+    IsLeftAsAlone,
     AreHeard,
 }
 
@@ -46,6 +49,8 @@ pub fn holds(alloc: Global, trial: Trial<'_>) -> bool {
         Trial::EndsRoughly(asked) => ends(alloc, &packages, asked),
         Trial::LosesAll => loses_all(alloc, &packages),
         Trial::Cancels => cancels(alloc, &packages),
+        Trial::CancelsUndelivered => cancels_undelivered(alloc, &packages),
+        Trial::IsLeftAsAlone => is_left_as_alone(alloc, &packages),
         Trial::AreHeard => are_heard(alloc, &packages),
     };
     held.unwrap_or(false)

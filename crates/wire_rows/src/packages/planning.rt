@@ -81,7 +81,7 @@ fn fault_of(file: &[u8]) -> Option<PlanFault> {
 }
 
 /// Nine components without images and texts.
-static NINE: [&[u8]; 9] = [
+pub static NINE: [&[u8]; 9] = [
     &[
         10, 0, 1, 0, 0, 0, 0, 0, 0, 0, 0, 0, 0, 0, 0, 0, 0, 0, 0, 0, 1, 0,
     ],

@@ -1,7 +1,7 @@
 //! The worked package, read.
 
 use super::drafts::{sum_by_bits, worked, worked_rest};
-use fw_package::{Component, Package, Record};
+use fw_package::{Component, Package, Record, crc32};
 
 /// What the header says of a component, in the order of its fields, with its image's length.
 fn fields(component: &Component<'_>) -> [usize; 7] {
@@ -63,6 +63,14 @@ fn is_read(file: &[u8]) -> bool {
 #[test]
 fn reads_the_worked_package(rt: HostRuntime) {
     assert!(rt; is_read(worked().as_slice()));
-    // the checksum's known check value
-    assert!(rt; sum_by_bits(b"123456789") == 0xCBF4_3926);
+}
+
+/// The check value of CRC-32.
+const CHECK: u32 = 0xCBF4_3926;
+
+#[test]
+fn computes_the_check_value(rt: HostRuntime) {
+    assert!(rt; crc32(b"123456789") == CHECK);
+    // the tests' own checksum, by which they sign packages
+    assert!(rt; sum_by_bits(b"123456789") == CHECK);
 }

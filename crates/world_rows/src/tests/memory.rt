@@ -69,7 +69,7 @@ fn told(world: &Small<'_>) -> bool {
 
 /// Whether the device runs the image after 12 ticks and 27 packets, of which those of the first 3 ticks are dead, and all is
 /// recorded.
-fn is_done(world: &Small<'_>) -> bool {
+pub fn is_done(world: &Small<'_>) -> bool {
     world.now() == 12
         && stands(world, DEVICE, SessionState::Done, State::Activate, 27)
         && is_updated(world, DEVICE)
@@ -87,7 +87,10 @@ fn is_failed(world: &Small<'_>) -> bool {
 }
 
 /// The worked world, asked for once more where memory for it is refused.
-fn asked_twice<'a>(alloc: Global, packages: &'a [Package<'a>]) -> Result<Small<'a>, AllocError> {
+pub fn asked_twice<'a>(
+    alloc: Global,
+    packages: &'a [Package<'a>],
+) -> Result<Small<'a>, AllocError> {
     match world(alloc, Unit::U64, packages, 1, 1) {
         Ok(made) => Ok(made),
         Err(_) => world(alloc, Unit::U64, packages, 1, 1),

@@ -1,8 +1,9 @@
 //! What is seen of a world.
 
 use crate::tests::packages::is_image;
-use crate::tests::setup::{KEY, Small};
+use crate::tests::setup::{DEVICE, KEY, Small};
 use fd_core::{Bank, State};
+use fw_world::{Entry, Event, Image};
 use ua_core::SessionState;
 
 /// Whether the same packets were sent between the agent and a device in two worlds, each at the same tick.
@@ -38,13 +39,91 @@ pub fn stands(
     }
 }
 
+/// The image that a device runs.
+fn image_of<'w>(world: &'w Small<'_>, device: u8) -> &'w [u8] {
+    let Some(node) = world.device(device) else {
+        return &[];
+    };
+    match node.device().bank().active(KEY) {
+        Some((_, image)) => image,
+        None => &[],
+    }
+}
+
 /// Whether a device runs the worked image.
 pub fn is_updated(world: &Small<'_>, device: u8) -> bool {
-    match world.device(device) {
-        Some(node) => match node.device().bank().active(KEY) {
-            Some((_, image)) => is_image(image),
-            None => false,
-        },
-        None => false,
+    is_image(image_of(world, device))
+}
+
+/// Whether a device runs the image AA, with which it came.
+pub fn runs_first(world: &Small<'_>, device: u8) -> bool {
+    image_of(world, device) == [0xAA].as_slice()
+}
+
+/// Whether the worked device and its session are in the same state in two worlds, and the device runs the same image.
+fn nodes_alike(one: &Small<'_>, other: &Small<'_>) -> bool {
+    let (Some(node), Some(session)) = (one.device(DEVICE), one.agent().session(DEVICE)) else {
+        return false;
+    };
+    let Some(packets) = one.packets(DEVICE) else {
+        return false;
+    };
+    stands(
+        other,
+        DEVICE,
+        session.state(),
+        node.device().state(),
+        packets.len(),
+    ) && image_of(one, DEVICE) == image_of(other, DEVICE)
+}
+
+/// Whether the event logs of two worlds have the same records.
+fn logs_alike(one: &Small<'_>, other: &Small<'_>) -> bool {
+    let (log, others) = (one.agent().log(), other.agent().log());
+    for place in 0..log.len() {
+        if log.record_at(place) != others.record_at(place) {
+            return false;
+        }
     }
+    log.len() == others.len()
+}
+
+/// Whether two images are the same.
+fn images_alike(one: &Image<'_>, other: &Image<'_>) -> bool {
+    one.key == other.key && one.bytes.as_slice() == other.bytes.as_slice()
+}
+
+/// Whether two entries of a history are the same.
+fn entries_alike(one: &Entry<'_>, other: &Entry<'_>) -> bool {
+    one.device == other.device
+        && match (&one.event, &other.event) {
+            (Event::Applied(one), Event::Applied(other)) => images_alike(one, other),
+            (Event::Activated(one), Event::Activated(other)) => images_alike(one, other),
+            (Event::Recorded(one), Event::Recorded(other)) => {
+                (one.package, one.component) == (other.package, other.component)
+            }
+            _ => false,
+        }
+}
+
+/// Whether the histories of two worlds have the same entries.
+fn histories_alike(one: &Small<'_>, other: &Small<'_>) -> bool {
+    let (history, others) = (one.history(), other.history());
+    for (entry, another) in history.iter().zip(others) {
+        if !entries_alike(entry, another) {
+            return false;
+        }
+    }
+    history.len() == others.len()
+}
+
+/// Whether two worlds of the worked device show the same: the time, the nodes, the packets, the event log, its last answer and the
+/// history.
+pub fn are_alike(one: &Small<'_>, other: &Small<'_>) -> bool {
+    one.now() == other.now()
+        && nodes_alike(one, other)
+        && sent_alike(one, other, DEVICE)
+        && logs_alike(one, other)
+        && one.answer() == other.answer()
+        && histories_alike(one, other)
 }
