@@ -1,4 +1,5 @@
 pub mod Answering
+pub mod BankCalls
 pub mod Components
 mod MemBanks
 mod Parameters

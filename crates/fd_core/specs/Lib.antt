@@ -1,4 +1,5 @@
 pub mod Areas
+pub mod BankCalls
 pub mod Banks
 pub mod Codes
 pub mod Commands

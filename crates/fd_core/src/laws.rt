@@ -1,6 +1,7 @@
 //! What holds of every bank and every device, whatever is called.
 
 ghost use Rattle.std.specs.Prelude.{◌≡◌, List, map};
+ghost use Rattle.fd_core.specs.BankCalls.{AnswersDependOnCalls, CommandsDependOnCalls, VerdictsDependOnCalls};
 ghost use Rattle.fd_core.specs.Images.{ImageOf, RowOf, dropped, key_of, sealed, switched};
 ghost use Rattle.fd_core.specs.Components.{AnswersKeepComponents, CommandsKeepComponents, RestartsKeepComponents, TimeOutsKeepComponents, VerdictsKeepComponents};
 ghost use Rattle.fd_core.specs.Laws.{RefusalsActivateNothing, RefusalsKeepTheDevice, RefusalsStirNothing};
@@ -29,4 +30,12 @@ pub fn refusals_change_nothing()
     ensures kept { RefusalsKeepTheDevice }
     ensures activated { RefusalsActivateNothing }
     ensures idle { RefusalsStirNothing }
+{}
+
+/// What a device does depends on whether its bank works exactly where it calls the bank: at a command, at an answer, and
+/// at a verdict. Elsewhere it is the same for a bank that fails and for one that works.
+pub fn bank_calls_decide()
+    ensures commands { CommandsDependOnCalls }
+    ensures answers { AnswersDependOnCalls }
+    ensures verdicts { VerdictsDependOnCalls }
 {}

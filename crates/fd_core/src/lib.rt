@@ -15,7 +15,9 @@ pub use device::{Device, stamp_restriction};
 pub use failing::FailBank;
 pub use fwup_wire::Key;
 pub use labels::{Label, MAX_TEXT};
-pub use laws::{components_stay, devices_keep_components, refusals_change_nothing};
+pub use laws::{
+    bank_calls_decide, components_stay, devices_keep_components, refusals_change_nothing,
+};
 pub use memory::MemBank;
 pub use parts::{Component, MAX_COMPONENTS, MAX_IMAGE};
 pub use states::{NotNow, Progress, Reason, State, Verdict};

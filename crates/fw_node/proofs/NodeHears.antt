@@ -1,4 +1,4 @@
--- What a packet is for a half that hears, by what it brings.
+-- What a packet is for a half that hears, and whether it has its bank called, by what it brings.
 use Rattle.std.proofs.Common.{◌≡◌, ◌∙◌, ◌==◌, ℕ, Bool, true, false, List, Option, Result, Ok, Err, refl, sym, ap}
 use Rattle.mctp_reasm.specs.Held.{Held}
 use Rattle.mctp_reasm.specs.Pieces.{MessageOf}
@@ -8,6 +8,7 @@ use Rattle.fwup_wire.specs.Values.{CommandOf}
 use Rattle.mctp_reasm.specs.Inboxes.{packet_for}
 use Rattle.pldm_exch.specs.Ends.{AnsweringOf, taker_of}
 use Rattle.pldm_exch.specs.Sides.{AskerRow, TakerRow, answering_row, asking_after, asking_row, taker_packet, taker_row}
+use Rattle.fw_node.specs.BankCalls.{incoming_calls_bank, packet_calls_bank}
 use Rattle.fw_node.specs.BothEnds.{EndsOf}
 use Rattle.fw_node.specs.Halves.{CoreOf, HalfOf, IncomingOf, answering_after, half_brings, half_hears, half_hears_by, incoming, read_by, takes_if, takes_read}
 use Rattle.mctp_wire.specs.declared.unit.Unit.{«Unit»}
@@ -65,3 +66,42 @@ hears_brings core works c e new bytes i unit own peer brings asking answering =
     ∙ ap (λ x. half_brings core works (half_of 0 c (record { asking = x; answering = answering_after arow e.answering trow })) (incoming arow trow)) (sym asking)
     ∙ ap (λ y. half_brings core works (half_of 0 c (record { asking = new.asking; answering = y })) (incoming arow trow)) (sym answering)
     ∙ ap (half_brings core works (half_of 0 c new)) (sym brings)
+
+-- Whether the bank is called doesn't depend on what the ends hold of packets.
+rows_call : {C : Type 0} (core : CoreOf C) (deaf : ℕ) (c : C) (e : EndsOf) (asker : AskerRow) (taker : TakerRow)
+    → incoming_calls_bank core (half_of deaf c e) (incoming asker taker) ≡ incoming_calls_bank core (half_of deaf c (ends_after e asker taker)) (incoming asker taker)
+rows_call core deaf c e (AskerRow.Learns replies caller heard) taker = refl
+rows_call core deaf c e (AskerRow.Ignores replies) (TakerRow.Silent requests) = refl
+rows_call core deaf c e (AskerRow.Ignores replies) (TakerRow.Repeats requests answer) = refl
+rows_call core deaf c e (AskerRow.Ignores replies) (TakerRow.TakesUp requests m head body) = refl
+rows_call core deaf c e (AskerRow.Ignores replies) (TakerRow.Strays requests m) = refl
+
+calling_brings : {C : Type 0} (core : CoreOf C) (c : C) (e : EndsOf) (bytes : List ℕ) → e.answering.unit ≡ e.asking.unit → e.answering.own ≡ e.asking.own → e.answering.peer ≡ e.asking.peer
+    → packet_calls_bank core (half_of 0 c e) bytes
+    ≡ incoming_calls_bank core (half_of 0 c (ends_after e (asking_row e.asking bytes) (answering_row e.answering bytes))) (incoming (asking_row e.asking bytes) (answering_row e.answering bytes))
+calling_brings core c e bytes unit own peer =
+    ap (λ row. incoming_calls_bank core (half_of 0 c e) (incoming (asking_row e.asking bytes) row)) (taker_is e.asking.unit e.asking.own e.asking.peer e.answering bytes unit own peer)
+    ∙ rows_call core 0 c e (asking_row e.asking bytes) (answering_row e.answering bytes)
+
+-- nor on what was answered
+caller_alone : {C : Type 0} (core : CoreOf C) (c : C) (e : EndsOf) (answering : AnsweringOf) (i : IncomingOf)
+    → incoming_calls_bank core (half_of 0 c (record e { answering = answering })) i ≡ incoming_calls_bank core (half_of 0 c e) i
+caller_alone core c e answering IncomingOf.Nothing = refl
+caller_alone core c e answering (IncomingOf.Learnt heard) = refl
+caller_alone core c e answering (IncomingOf.Again answer) = refl
+caller_alone core c e answering (IncomingOf.New r) = refl
+caller_alone core c e answering (IncomingOf.Strays m) = refl
+
+-- the same, by what its ends say
+pub calls_brings : {C : Type 0} (core : CoreOf C) (c : C) (e new : EndsOf) (bytes : List ℕ) (i : IncomingOf)
+    → e.answering.unit ≡ e.asking.unit → e.answering.own ≡ e.asking.own → e.answering.peer ≡ e.asking.peer
+    → i ≡ incoming (asking_row e.asking bytes) (answering_row e.answering bytes)
+    → new.asking ≡ asking_after e.asking (asking_row e.asking bytes)
+    → packet_calls_bank core (half_of 0 c e) bytes ≡ incoming_calls_bank core (half_of 0 c new) i
+calls_brings core c e new bytes i unit own peer brings asking =
+    let arow = asking_row e.asking bytes in
+    let trow = answering_row e.answering bytes in
+    calling_brings core c e bytes unit own peer
+    ∙ ap (λ x. incoming_calls_bank core (half_of 0 c (record { asking = x; answering = answering_after arow e.answering trow })) (incoming arow trow)) (sym asking)
+    ∙ caller_alone core c new (answering_after arow e.answering trow) (incoming arow trow)
+    ∙ ap (incoming_calls_bank core (half_of 0 c new)) (sym brings)

@@ -15,8 +15,9 @@ use Rattle.pldm_exch.specs.Sides.{AskerRow, TakerRow, asker_packet, taker_packet
 use Rattle.fw_package.specs.Package.{PackageText}
 use Rattle.ua_core.specs.Session.{TimedOf}
 use Rattle.fw_node.specs.Agents.{AgentOf, agent_hears, agent_unmoved, any_packet, half_at, half_heard, hears_at, place_heard}
+use Rattle.fw_node.specs.BankCalls.{incoming_calls_bank, packet_calls_bank}
 use Rattle.fw_node.specs.Cores.{device_core, session_core}
-use Rattle.fw_node.specs.Halves.{CoreOf, HalfHeard, HalfOf, half_hears, half_hears_by, half_takes}
+use Rattle.fw_node.specs.Halves.{CoreOf, HalfHeard, HalfOf, half_hears, half_hears_by, half_takes, incoming}
 use Rattle.fw_node.specs.Nodes.{DeviceNodeOf, device_hears, finished}
 
 -- both read alike at each unit
@@ -36,6 +37,16 @@ half_reads core works h r =
 
 pub half_alike : {C : Type 0} (core : CoreOf C) (works : Bool) (h : HalfOf C) (a b : List ℕ) → ReadAlike a b → half_hears core works h a ≡ half_hears core works h b
 half_alike core works h a b alike = ap (half_reads core works h) (alike h.unit)
+
+-- whether it has its bank called, likewise
+abbrev calls_read : {C : Type 0} → CoreOf C → HalfOf C → Result (Head × List ℕ) WireFault → Bool
+calls_read core h r =
+    incoming_calls_bank core h (incoming
+    (if h.asker.deaf == 0 then asker_packet h.unit h.asker (for_end h.own h.peer false r) else AskerRow.Ignores h.asker.replies)
+    (if h.taker.deaf == 0 then taker_packet h.unit h.taker (for_end h.own h.peer true r) else TakerRow.Silent h.taker.requests))
+
+pub calls_alike : {C : Type 0} (core : CoreOf C) (h : HalfOf C) (a b : List ℕ) → ReadAlike a b → packet_calls_bank core h a ≡ packet_calls_bank core h b
+calls_alike core h a b alike = ap (calls_read core h) (alike h.unit)
 
 -- bytes that are no packet change nothing
 asker_unread : (b : Bool) (replies : List (Option Held)) → (if b then AskerRow.Ignores replies else AskerRow.Ignores replies) ≡ AskerRow.Ignores replies

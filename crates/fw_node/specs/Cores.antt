@@ -1,10 +1,11 @@
 -- The two kinds of core: the agent's session with a device, which is lent the package of its number, and a device.
-use Rattle.std.specs.Prelude.{ℕ, not, List, Option, Some, None, Result, Ok, Err}
+use Rattle.std.specs.Prelude.{ℕ, false, not, List, Option, Some, None, Result, Ok, Err}
 use Rattle.mctp_wire.specs.declared.unit.Unit.TheVariants.{U64}
 use Rattle.fwup_wire.specs.Commands.{is_asked_of_agent}
 use Rattle.fwup_wire.specs.Values.{AnswerOf}
 use Rattle.fwup_wire.specs.declared.answer.Malformed.{Malformed}
 use Rattle.fw_package.specs.Package.{PackageText}
+use Rattle.fd_core.specs.BankCalls.{answer_calls_bank, command_calls_bank}
 use Rattle.fd_core.specs.Commands.{device_take, idle_after}
 use Rattle.fd_core.specs.States.{DeviceOf, DeviceState}
 use Rattle.fd_core.specs.Steps.{device_restart, device_tick}
@@ -45,6 +46,8 @@ device_core = record {
     device = device_learn d.device (answer_or a) works;
     idle = idle_learnt d.idle d.device (answer_or a) works;
   };
+  take_calls_bank = λ d c quiet. command_calls_bank d.device c quiet;
+  learn_calls_bank = λ d a. answer_calls_bank d.device (answer_or a);
   silent = λ d. d;
   ticked = λ d. record { device = (device_tick d.device d.idle).0; idle = (device_tick d.device d.idle).1 };
   restarted = λ d. record { device = device_restart d.device; idle = 0 };
@@ -71,6 +74,8 @@ session_core packages = record {
     session = agent_learn (package_of packages s.session) s.session a;
     idle = learn_idle (package_of packages s.session) s.session s.idle a;
   };
+  take_calls_bank = λ s c quiet. false;
+  learn_calls_bank = λ s a. false;
   silent = λ s. record { session = agent_silent s.session; idle = 0 };
   ticked = idle_ticked;
   restarted = λ s. record { session = agent_restart s.session; idle = 0 };

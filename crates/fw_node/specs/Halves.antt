@@ -24,13 +24,16 @@ pub record TakenBy (C : Type 0) : Type 0 where
 
 -- What a core does: the transmission unit that its answers fit; the command that it wishes to ask; whether commands of a code are its to answer; what it makes of one,
 -- where a device is told whether it is quiet, and `works` says whether the one call of its bank succeeds; what it learns
--- from an answer, or from a malformed one; that its request was given up; its idle tick; and a restart.
+-- from an answer, or from a malformed one; whether a command and an answer call its bank; that its request was given up; its
+-- idle tick; and a restart.
 pub record CoreOf (C : Type 0) : Type 0 where
   pub unit : C → «Unit»
   pub wish : C → Option CommandOf
   pub serves : ℕ → Bool
   pub take : C → CommandOf → (quiet works : Bool) → TakenBy C
   pub learn : C → Result AnswerOf Malformed → (works : Bool) → C
+  pub take_calls_bank : C → CommandOf → (quiet : Bool) → Bool
+  pub learn_calls_bank : C → Result AnswerOf Malformed → Bool
   pub silent : C → C
   pub ticked : C → C
   pub restarted : C → C

@@ -1,5 +1,6 @@
 pub mod AgentViews
 pub mod Agents
+pub mod BankCalls
 pub mod BothEnds
 pub mod Brings
 pub mod Cores

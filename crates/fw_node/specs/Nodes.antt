@@ -17,10 +17,12 @@ use Rattle.pldm_exch.specs.Requests.{reply_message}
 use Rattle.fwup_wire.specs.Answers.{answer_bytes, answer_in}
 use Rattle.fwup_wire.specs.Commands.{command_code}
 use Rattle.fwup_wire.specs.Values.{AnswerOf, CommandOf}
+use Rattle.fd_core.specs.BankCalls.{verdict_calls_bank}
 use Rattle.fd_core.specs.Banks.{Rose}
 use Rattle.fd_core.specs.States.{DeviceOf}
 use Rattle.fd_core.specs.Steps.{device_verdict, verdict_after}
 use Rattle.fd_core.specs.declared.states.Verdict.{Verdict}
+use Rattle.fw_node.specs.BankCalls.{packet_calls_bank}
 use Rattle.fw_node.specs.BothEnds.{EndsOf, ends_new}
 use Rattle.fw_node.specs.Cores.{TimedDevice, device_core, timed}
 use Rattle.fw_node.specs.Packets.{all_packets}
@@ -107,8 +109,8 @@ abbrev pub new_device_node : Endpoint → (agent : ℕ) → DeviceOf → DeviceN
 new_device_node endpoint agent d =
     record { endpoint = endpoint; tid = 0; half = half_of 0 (timed d) (ends_new d.device.unit endpoint.eid agent); faults = d.faults }
 
--- What a packet makes of a device node, and what is sent: `works` says whether its bank's one call succeeded, and a call
--- fails only where its bank's count of failures tells so.
+-- What a packet makes of a device node, and what is sent: `works` says whether its bank's one call succeeded. A call fails only
+-- where the packet has the node call its bank, and only where the bank's count of failures tells so.
 pub record HearsIt (old : DeviceNodeOf) (bytes : List ℕ) (new : DeviceNodeOf) (sent : List (List ℕ)) : Type 0 where
   pub works : Bool
   pub half : new.half ≡ (device_hears works old bytes).half
@@ -116,11 +118,13 @@ pub record HearsIt (old : DeviceNodeOf) (bytes : List ℕ) (new : DeviceNodeOf) 
   pub packets : sent ≡ all_packets old.half.unit (device_hears works old bytes).sent
   pub worked : works ≡ true → new.faults ≡ old.faults
   pub failed : works ≡ false → Rose old.faults new.faults
+  pub called : works ≡ false → packet_calls_bank device_core old.half bytes ≡ true
 
--- What a verdict that counts makes of a device node.
+-- What a verdict that counts makes of a device node. Only ApplyOk calls the bank.
 pub record JudgesIt (old : DeviceNodeOf) (verdict : Verdict) (new : DeviceNodeOf) : Type 0 where
   pub works : Bool
   pub counts : is_some (device_verdict old.half.core.device verdict works) ≡ true
   pub half : new.half ≡ device_judges works old verdict
   pub worked : works ≡ true → new.faults ≡ old.faults
   pub failed : works ≡ false → Rose old.faults new.faults
+  pub called : works ≡ false → verdict_calls_bank old.half.core.device verdict ≡ true

@@ -22,7 +22,8 @@ use ua_core::{Lent, Session, SessionState};
 /// A core: it wishes commands, answers others, and learns from answers. Its calls are given what it reads meanwhile: the
 /// agent's packages, or nothing.
 ///
-/// A call of its bank may fail, if it has one; `take` and `learn` tell whether it worked.
+/// A call of its bank may fail, if it has one; `take` and `learn` tell whether it worked, and say that it didn't only where
+/// they call it.
 pub(crate) trait Core<'p> {
     /// What its calls are given.
     type Given: Copy;
@@ -53,13 +54,15 @@ pub(crate) trait Core<'p> {
         ensures core { seen self.new ≡ ((does given).take (seen self.old) (command_of command.now) quiet result.1).core }
         ensures reply { result.0.items ≡ answer_bytes ((does given).take (seen self.old) (command_of command.now) quiet result.1).answer }
         ensures worked { result.1 ≡ true → faults self.new ≡ faults self.old }
-        ensures failed { result.1 ≡ false → Rose (faults self.old) (faults self.new) };
+        ensures failed { result.1 ≡ false → Rose (faults self.old) (faults self.new) }
+        ensures called { result.1 ≡ false → (does given).take_calls_bank (seen self.old) (command_of command.now) quiet ≡ true };
 
     /// Learns the answer to the command that was wished. Whether its bank worked.
     fn learn(&mut self, given: Self::Given, answer: Result<&Answer<'_>, Malformed>) -> bool
         ensures core { seen self.new ≡ (does given).learn (seen self.old) (result_map_both (λ a. answer_of a.now) (λ e. e) answer.entry) result }
         ensures worked { result ≡ true → faults self.new ≡ faults self.old }
-        ensures failed { result ≡ false → Rose (faults self.old) (faults self.new) };
+        ensures failed { result ≡ false → Rose (faults self.old) (faults self.new) }
+        ensures called { result ≡ false → (does given).learn_calls_bank (seen self.old) (result_map_both (λ a. answer_of a.now) (λ e. e) answer.entry) ≡ true };
 
     /// Its request was given up.
     fn silent(&mut self, given: Self::Given)
@@ -169,13 +172,14 @@ impl<'p, B: Bank> Core<'p> for Device<B> {
         !is_asked_of_agent(command)
     }
 
+    #[tactic(auto, using(fd_core::proofs::BankCalls::bank_calls))]
     fn take(&mut self, _: (), command: &Command<'_>, quiet: bool) -> (Reply, bool) {
         let reply = self.take(command, quiet);
         let works = reply.first() != Some(&ERROR);
         (reply, works)
     }
 
-    #[tactic(auto, using(crate::proofs::Working::working))]
+    #[tactic(auto, using(crate::proofs::Working::working, fd_core::proofs::BankCalls::bank_calls))]
     fn learn(&mut self, _: (), answer: Result<&Answer<'_>, Malformed>) -> bool {
         let had_failed = has_failed(self);
         self.learn(answer);

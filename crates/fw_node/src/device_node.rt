@@ -2,8 +2,10 @@
 
 ghost use Rattle.std.specs.Prelude.{◌≡◌, ◌==◌, [], Bool, IfNone, IfSome, None, OnErr, OnOk, false, is_some, not, true};
 ghost use Rattle.mctp_wire.specs.Packet.{IsRead, spelling};
+ghost use Rattle.fd_core.specs.BankCalls.{verdict_calls_bank};
 ghost use Rattle.fd_core.specs.Banks.{Rose};
 ghost use Rattle.fd_core.specs.Steps.{device_verdict, verdict_after};
+ghost use Rattle.fw_node.specs.BankCalls.{packet_calls_bank};
 ghost use Rattle.fw_node.specs.Cores.{device_core, timed};
 ghost use Rattle.fw_node.specs.Halves.{half_ticks};
 ghost use Rattle.fw_node.specs.Nodes.{DeviceNodeOf, HearsIt, JudgesIt, device_hears, device_restarts, half_of, new_device_node};
@@ -149,12 +151,13 @@ impl<B: Bank> DeviceNode<B> {
     }
 
     /// The device has a verdict. None where it doesn't count; else whether its bank worked.
-    #[tactic(auto, using(crate::proofs::Working::judging))]
+    #[tactic(auto, using(crate::proofs::Working::judging, fd_core::proofs::BankCalls::bank_calls))]
     fn judge(&mut self, verdict: Verdict) -> Option<bool>
         ensures counts { IfSome result (λ works. is_some (device_verdict self.old.half.core.device verdict works) ≡ true) }
         ensures half { IfSome result (λ works. self.new ≡ record self.new { half = record self.old.half { core = record { device = verdict_after self.old.half.core.device verdict works; idle = 0 } } }) }
         ensures worked { IfSome result (λ works. works ≡ true → self.new.faults ≡ self.old.faults) }
         ensures failed { IfSome result (λ works. works ≡ false → Rose self.old.faults self.new.faults) }
+        ensures called { IfSome result (λ works. works ≡ false → verdict_calls_bank self.old.half.core.device verdict ≡ true) }
         ensures refused { IfNone result ((works : Bool) → device_verdict self.old.half.core.device verdict works ≡ None) }
         ensures kept { result ≡ None → self.new ≡ self.old }
         ensures tid { self.new.tid ≡ self.old.tid }
@@ -183,6 +186,7 @@ impl<B: Bank> DeviceNode<B> {
         ensures packets { outbox.new ≡ all_packets self.old.half.unit (device_hears result self.old bytes.now).sent }
         ensures worked { result ≡ true → self.new.faults ≡ self.old.faults }
         ensures failed { result ≡ false → Rose self.old.faults self.new.faults }
+        ensures called { result ≡ false → packet_calls_bank device_core self.old.half bytes.now ≡ true }
         ensures endpoint { self.new.endpoint ≡ self.old.endpoint }
     {
         let Ok(packet) = mctp_wire::decode(self.unit(), bytes) else {
@@ -200,6 +204,7 @@ impl<B: Bank> DeviceNode<B> {
         ensures packets { outbox.new ≡ all_packets self.old.half.unit (device_hears result self.old (spelling packet.now)).sent }
         ensures worked { result ≡ true → self.new.faults ≡ self.old.faults }
         ensures failed { result ≡ false → Rose self.old.faults self.new.faults }
+        ensures called { result ≡ false → packet_calls_bank device_core self.old.half (spelling packet.now) ≡ true }
         ensures endpoint { self.new.endpoint ≡ self.old.endpoint }
     {
         if self.deaf > 0 {
