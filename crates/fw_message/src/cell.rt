@@ -98,7 +98,7 @@ impl<'a> Held<'a> {
         ensures { Some self.new ≡ closed_unless (option_map command_of wish.now) (Some self.old) }
     {
         self.live = match wish {
-            Some(wish) => self.live && &self.command == wish,
+            Some(wish) => self.live && self.command.is_same(wish),
             None => false,
         };
     }

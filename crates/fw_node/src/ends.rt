@@ -108,7 +108,7 @@ impl Ends {
         let (Ok(asked), Some(wish)) = (fwup_wire::read(command, body), wish) else {
             return false;
         };
-        &asked == wish
+        asked.is_same(wish)
     }
 
     /// Whether a request may begin.

@@ -3,6 +3,7 @@
 ghost use Rattle.std.specs.Prelude.{IsTrue, ◌↔◌, ◌≡◌};
 ghost use Rattle.fwup_wire.specs.Lent.{command_of};
 ghost use Rattle.fwup_wire.specs.Commands.{IsWritable, command_code, is_asked_of_agent};
+ghost use Rattle.fwup_wire.specs.Same.{same_command};
 
 use crate::code::command;
 use crate::values::{Key, Text, TransferFlag, Version};
@@ -115,6 +116,14 @@ pub enum Command<'a> {
 }
 
 impl Command<'_> {
+    /// Whether two commands are equal, with all their fields. It is `==` with a clause in the words of the definitions.
+    #[tactic(auto, unfolding(crate::specs::Same::same_command))]
+    pub fn is_same(&self, other: &Command<'_>) -> bool
+        ensures { result ≡ same_command (command_of self.now) (command_of other.now) }
+    {
+        self == other
+    }
+
     /// The command's byte in a message's head.
     pub fn code(&self) -> u8
         ensures { result ≡ command_code (command_of self.now) }
