@@ -1,4 +1,4 @@
--- What layers above rely on: callers and answerers over any number of calls and CallTickOf.
+-- What layers above rely on: callers and answerers over any number of calls and ticks.
 use Rattle.std.specs.Prelude.{◌≡◌, ◌<◌, ◌≤◌, ℕ, zero, suc, ◌+◌, ◌-◌, ◌==◌, ◌&&◌, Bool, true, false, nat_le, if◌then◌else◌, List, [], ◌∷◌, length, Option, Some, None}
 use Rattle.mctp_reasm.specs.Pieces.{MessageOf}
 use Rattle.pldm_exch.specs.Caller.{CallTickOf, CallerState, IsCaller, Open, abandoned, answer_heard, begun, caller_tick, fresh, may_begin, next_tag, rest_at, sends_at}
@@ -113,7 +113,7 @@ EightRequestsRest =
     (own peer : ℕ) (xs : List Exchange) → length xs ≡ 8 → AreAnswered (fresh own peer) xs
     → (each_tick (fresh own peer) xs).rests ≡ 33 ∷ 34 ∷ 35 ∷ 36 ∷ 37 ∷ 38 ∷ 39 ∷ 40 ∷ []
 
--- What is true of no kept answers stays true: eight places, answers of their tags, none older than 24 CallTickOf.
+-- What is true of no kept answers stays true: eight places, answers of their tags, none older than 24 ticks.
 pub record AnswersStayLawful : Type 0 where
   pub first : AreKept none_kept
   pub keep : (kept : List (Option Kept)) (m : MessageOf) → AreKept kept → AreKept (kept_with kept m)
