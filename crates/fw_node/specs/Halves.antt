@@ -204,7 +204,7 @@ half_hears core works h bytes = half_hears_by core works h (asker_row h.unit h.o
 abbrev pub recast : {C : Type 0} → CoreOf C → HalfOf C → C → HalfOf C
 recast core h c = settled core (record h { core = c })
 
--- A node starts anew, and is deaf for 40 CallTickOf.
+-- A node starts anew, and is deaf for 40 ticks.
 abbrev pub half_restarts : {C : Type 0} → CoreOf C → HalfOf C → HalfOf C
 half_restarts core h =
     record h { core = core.restarted h.core; asker = asker_new h.own h.peer 40; taker = taker_new 40 }
