@@ -1,7 +1,7 @@
 //! The worked update by its schedule's text, and what is reported of it.
 
 use fd_core::MemBank;
-use fw_package::Package;
+use fw_package::{Package, PackageFault};
 use fw_script::{read_config, read_schedule, report};
 use fw_setup::opening_world;
 use fw_world::{Step, StepFault, World, replay};
@@ -74,6 +74,11 @@ fn file(alloc: Global) -> Result<Vec<u8>, AllocError> {
     Ok(out)
 }
 
+/// `Package::read`: the proofs of the tests need nothing of its contract.
+fn package(bytes: &[u8]) -> Result<Package<'_>, PackageFault> {
+    Package::read(bytes)
+}
+
 /// The world of the configuration.
 fn opened<'a>(
     alloc: Global,
@@ -102,11 +107,16 @@ fn takes(world: &mut World<'_, MemBank>, steps: &[Step]) -> bool {
     }
 }
 
-/// Whether a report is this text, or is refused memory and then is this text.
+/// `report`: the proofs of the tests need nothing of its contract.
+fn report_of(alloc: Global, world: &World<'_, MemBank>) -> Result<Vec<u8>, AllocError> {
+    report(alloc, world)
+}
+
+/// Whether the report is this text; it is asked for again where memory is refused.
 fn is_reported(alloc: Global, world: &World<'_, MemBank>, text: &[u8]) -> bool {
-    let told = match report(alloc, world) {
+    let told = match report_of(alloc, world) {
         Ok(told) => Ok(told),
-        Err(_) => report(alloc, world),
+        Err(_) => report_of(alloc, world),
     };
     match told {
         Ok(told) => told.as_slice() == text,
@@ -130,7 +140,7 @@ fn goes(
 #[test]
 fn the_worked_update_is_reported(rt: HostRuntime) -> Result<(), Fail> {
     let bytes = file(rt.alloc())?;
-    let packages = [Package::read(&bytes)?];
+    let packages = [package(&bytes)?];
     let steps = read_schedule(rt.alloc(), SCHEDULE)?;
     let mut world = opened(rt.alloc(), &packages)?;
     assert!(rt; goes(rt.alloc(), &mut world, steps.get(..4), FIRST));
@@ -145,7 +155,7 @@ fn refused_memory_writes_no_report(rt: HostRuntime) -> Result<(), Fail> {
         Ok(bytes) => bytes,
         Err(_) => file(rt.alloc())?,
     };
-    let packages = [Package::read(&bytes)?];
+    let packages = [package(&bytes)?];
     let steps = match read_schedule(rt.alloc(), SCHEDULE) {
         Ok(steps) => steps,
         Err(_) => read_schedule(rt.alloc(), SCHEDULE)?,
