@@ -152,7 +152,7 @@ applied_here : (es : List EntryOf) (active : List ℕ) (applied : Option ImageOf
     → WasApplied es (record { key = boot; active = image active; applied = applied }) → All (WasApplied es) (bank active applied)
 applied_here es active applied h = All-cons (WasApplied es) (record { key = boot; active = image active; applied = applied }) [] h (All-nil _)
 
-accepts : TiedAccepts
+pub accepts : TiedAccepts
 accepts =
     record {
       at_first = record { active = refl; applied = applied_here [] old_boot None _; records = refl };
@@ -166,7 +166,7 @@ abbrev first_bytes : List Put → List ℕ
 first_bytes [] = []
 first_bytes (p ∷ ps) = p.bytes
 
-wrong_bytes : put boot old_boot ∷ [] ≡ put boot new_boot ∷ [] → ⊥
+pub wrong_bytes : put boot old_boot ∷ [] ≡ put boot new_boot ∷ [] → ⊥
 wrong_bytes e = let bytes : old_boot ≡ new_boot = ap first_bytes e in absurd (cc)
 
 old_runs : is_tied (bank old_boot None) (recorded 1 0 ∷ []) worked → ⊥
@@ -178,7 +178,7 @@ runs_too_soon h = wrong_bytes (sym h.active)
 not_since : {p : Put} → Contains [] p → ⊥
 not_since (k, lt, e) = absurd (omega (arith, lt))
 
-applied_before : is_tied (bank new_boot (Some (image new_boot))) (recorded 1 0 ∷ []) worked → ⊥
+pub applied_before : is_tied (bank new_boot (Some (image new_boot))) (recorded 1 0 ∷ []) worked → ⊥
 applied_before h = not_since (All-head (WasApplied worked) (record { key = boot; active = image new_boot; applied = Some (image new_boot) }) [] h.applied)
 
 not_applied : Contains (put boot new_boot ∷ []) (put boot (7 ∷ [])) → ⊥

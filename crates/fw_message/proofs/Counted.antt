@@ -1,5 +1,5 @@
 -- Steps of a world that have names are a run of message steps.
-use Rattle.std.specs.Prelude.{ℕ, ◌≡◌, ◌<◌, ◌+◌, ◌==◌, Bool, true, false, if◌then◌else◌, is_some, get_or, set, List, [], ◌∷◌, length, map, Option, Some, None, IfSome}
+use Rattle.std.specs.Prelude.{ℕ, ◌≡◌, ◌<◌, ◌+◌, ◌==◌, ◌||◌, Bool, true, false, not, if◌then◌else◌, is_some, get_or, set, List, [], ◌∷◌, length, map, Option, Some, None, IfSome}
 use Rattle.std.specs.Option.{option_map}
 use Rattle.std.specs.List.{AllByRecursion}
 use Rattle.std.proofs.Common.{refl, sym, ap, subst, ◌∙◌, suc, zero, arith, inl, inr}
@@ -7,6 +7,7 @@ use Rattle.std.proofs.lemmas.Bool.{eq-eqb}
 use Rattle.std.proofs.lemmas.Bool.Decides.{eqb_tells}
 use Rattle.std.proofs.lemmas.List.{get_or-set_same, length-map, length-set}
 use Rattle.fd_core.specs.Banks.{Rose}
+use Rattle.fw_message.specs.BankCalls.{message_step_calls_bank}
 use Rattle.fw_message.specs.Names.{HasName, IsNamed}
 use Rattle.fw_message.specs.Pairs.{PairOf, StepOf, Stepped, pair_after}
 use Rattle.fw_message.specs.Replays.{CountedWorldOf, LeadsCounted, Run, place_at}
@@ -15,6 +16,7 @@ use Rattle.fw_message.specs.declared.side.Side.TheVariants as sides
 use Rattle.fw_message.specs.declared.side.Way.TheVariants as ways
 use Rattle.fw_message.specs.declared.step.MessageStep.{MessageStep}
 use Rattle.fw_message.specs.declared.step.MessageStep.TheVariants as steps
+use Rattle.fw_message.proofs.BankCalls.{called_if_fails, works_if_uncalled}
 use Rattle.fw_message.proofs.Moments.{Later, later_step}
 use Rattle.fw_message.proofs.Places.{IsAt, is_at}
 
@@ -43,6 +45,10 @@ works_of (WorldStepOf.OfPair device (StepOf.TakeDown quiet works)) = works
 works_of (WorldStepOf.OfPair device (StepOf.LearnUp works)) = works
 works_of (WorldStepOf.OfPair device (StepOf.Judge verdict works)) = works
 works_of s = true
+
+-- whether the call of a bank works, as the named step says it: it does where no bank is called
+abbrev works_in : WorldOf → WorldStepOf → Bool
+works_in w s = works_of s || not (message_step_calls_bank w (name_of w.agent s))
 
 pair_named : (agent device : ℕ) (s : StepOf) → HasName s → (device == agent) ≡ false
     → named_step agent (works_of (WorldStepOf.OfPair device s)) (name_of agent (WorldStepOf.OfPair device s)) ≡ WorldStepOf.OfPair device s
@@ -156,24 +162,25 @@ may_on w v fs gs k kept later same = record {
 }
 
 leads_so : (w v : WorldOf) (fs : List ℕ) (s : WorldStepOf) → MayCount w fs → IsNamed s → world_after w s ≡ Some v
-    → LeadsCounted (record { world = w; faults = fs }) (name_of w.agent s) (record { world = v; faults = counts_after (works_of s) fs (place_at w.nodes (device_of (name_of w.agent s))) })
+    → LeadsCounted (record { world = w; faults = fs }) (name_of w.agent s) (record { world = v; faults = counts_after (works_in w s) fs (place_at w.nodes (device_of (name_of w.agent s))) })
 leads_so w v fs s k named e =
     let place = place_at w.nodes (device_of (name_of w.agent s)) in
     record {
-      works = works_of s;
-      after = ap (world_after w) (named_so w v s named k.none e) ∙ e;
-      worked = λ t. counts_worked (works_of s) fs place t;
-      failed = λ f. counts_failed (works_of s) fs place (place_by w.nodes fs (device_of (name_of w.agent s)) place refl k.counts) f;
+      works = works_in w s;
+      after = works_if_uncalled w v (name_of w.agent s) (works_of s) (ap (world_after w) (named_so w v s named k.none e) ∙ e);
+      worked = λ t. counts_worked (works_in w s) fs place t;
+      called = λ f. called_if_fails (works_of s) (message_step_calls_bank w (name_of w.agent s)) f;
+      failed = λ f. counts_failed (works_in w s) fs place (place_by w.nodes fs (device_of (name_of w.agent s)) place refl k.counts) f;
     }
 
 counted_by : (w v : WorldOf) (fs : List ℕ) (s : WorldStepOf) (ss : List WorldStepOf) (o : Option WorldOf) → MayCount w fs → IsNamed s → world_after w s ≡ o → world_along o ss ≡ Some v
     → ((mid : WorldOf) (gs : List ℕ) → MayCount mid gs → world_along (Some mid) ss ≡ Some v → Counted (record { world = mid; faults = gs }) v) → Counted (record { world = w; faults = fs }) v
 counted_by w v fs s ss None k named is e rest = absurd (cc)
 counted_by w v fs s ss (Some mid) k named is e rest =
-    let gs = counts_after (works_of s) fs (place_at w.nodes (device_of (name_of w.agent s))) in
+    let gs = counts_after (works_in w s) fs (place_at w.nodes (device_of (name_of w.agent s))) in
     let kept : Kept w mid = subst (λ x. IfSome x (Kept w)) is (kept_step w s) in
     let later : Later w mid = subst (λ x. IfSome x (Later w)) is (later_step w s) in
-    let r = rest mid gs (may_on w mid fs gs k kept later (counts_length (works_of s) fs (place_at w.nodes (device_of (name_of w.agent s))))) e in
+    let r = rest mid gs (may_on w mid fs gs k kept later (counts_length (works_in w s) fs (place_at w.nodes (device_of (name_of w.agent s))))) e in
     record {
       names = name_of w.agent s ∷ r.names;
       faults = r.faults;

@@ -7,6 +7,7 @@
 -- - `Moments`: any two moments of a run: the history only grows, the devices stay, and what runs and is recorded goes on by
 --   what happened.
 -- - `Cases`: the histories by hand, judged.
+-- - `WorldCases`: the worlds by hand, judged.
 --
 -- STEPS of one device, and of the world.
 -- - `Allowing`: a step that is allowed still is with its closing, and adds the same.
@@ -14,6 +15,7 @@
 -- - `Stepping`: a step of a world, by the device that takes it.
 -- - `Finding`: the device that is found at a place.
 -- - `Apart`: no device has the agent's identifier, whatever happens.
+-- - `BankCalls`: where a step has no bank called, nothing depends on whether a call works.
 -- - `Counted`: steps of a world that have names are a run of message steps.
 -- - `Openings`: how a world begins: without devices, and with one more that starts then.
 --
@@ -35,7 +37,8 @@ mod Activating
 mod Allowing
 pub mod Apart
 pub mod Applied
-mod Cases
+mod BankCalls
+pub mod Cases
 mod Closings
 mod Completing
 pub mod Counted
@@ -51,4 +54,5 @@ mod Running
 pub mod Safety
 pub mod Sealing
 mod Stepping
+mod WorldCases
 pub mod Working

@@ -5,6 +5,7 @@ use Rattle.std.proofs.lemmas.List.{map-set}
 use Rattle.fw_package.specs.Package.{PackageText}
 use Rattle.fw_message.specs.Nodes.{CountedOf}
 use Rattle.fd_core.specs.Banks.{Rose}
+use Rattle.fw_message.specs.BankCalls.{pair_step_calls_bank, message_step_calls_bank}
 use Rattle.fw_message.specs.Pairs.{pair_after}
 use Rattle.fw_message.specs.Replays.{BankFailed, HasNode, Refuses, counted_restarted, place_at}
 use Rattle.fw_message.specs.Worlds.{IsRefusal, NodeOf, NotedOf, WorldOf, agent_restarted, device_of, named_step, node_at, noted_on, pair_step, refusal_of, restarts_agent, world_after}
@@ -96,3 +97,10 @@ faults_restarted packages (p ∷ pairs) = ap (λ fs. p.faults ∷ fs) (faults_re
 pub bank_failed : (w : WorldOf) (new : WorldOf) (pairs : List CountedOf) (p after : CountedOf) (place eid : ℕ) → place_at w.nodes eid ≡ Some place → slice_get pairs place ≡ Some p → Rose p.faults after.faults
     → BankFailed (record { world = w; faults = map (λ q. q.faults) pairs }) (record { world = new; faults = map (λ q. q.faults) (set pairs place after) }) eid
 bank_failed w new pairs p after place eid at found rose = rw at (rw (faults_at pairs p place found, faults_put pairs p after place found) (rose, map-set (λ q. q.faults) pairs place after))
+
+-- the bank of the device at a place was called
+pub bank_called : (w : WorldOf) (pairs : List CountedOf) (p : CountedOf) (place : ℕ) (s : MessageStep)
+    → w.nodes ≡ map node_in pairs → place_at w.nodes (device_of s) ≡ Some place → slice_get pairs place ≡ Some p
+    → pair_step_calls_bank p.node.pair (pair_step true s) ≡ true → message_step_calls_bank w s ≡ true
+bank_called w pairs p place s nodes at found called =
+    rw (at_node w.nodes (device_of s) place p.node (is_at w.nodes (device_of s) place at) (rw nodes (get_map pairs place p found))) called

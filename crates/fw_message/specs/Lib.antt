@@ -1,3 +1,4 @@
+pub mod BankCalls
 pub mod Cases
 pub mod Cells
 pub mod Entries
@@ -9,5 +10,6 @@ pub mod Nodes
 pub mod Pairs
 pub mod Replays
 pub mod RunLaws
+pub mod WorldCases
 pub mod WorldLaws
 pub mod Worlds

@@ -3,6 +3,7 @@ use Rattle.std.specs.Prelude.{ℕ, ◌≡◌, ◌==◌, ◌+◌, ◌||◌, is_so
 use Rattle.fw_package.specs.Package.{PackageText}
 use Rattle.fw_message.specs.Nodes.{CountedOf}
 use Rattle.fd_core.specs.Banks.{Rose}
+use Rattle.fw_message.specs.BankCalls.{message_step_calls_bank}
 use Rattle.fw_message.specs.Worlds.{NodeOf, WorldOf, agent_restarted, device_of, named_step, needs_memory, node_at, refusal_of, restarts_agent, stepped_at, world_after}
 use Rattle.fw_message.specs.declared.step.MessageStep.{MessageStep}
 use Rattle.fw_message.specs.declared.step.MessageStepFault.{MessageStepFault}
@@ -30,13 +31,14 @@ abbrev pub BankFailed : CountedWorldOf → CountedWorldOf → ℕ → Type 0
 BankFailed w v eid = IfSome (place_at w.world.nodes eid)
     (λ place. Rose (get_or w.faults place 0) (get_or v.faults place 0) × (v.faults ≡ set w.faults place (get_or v.faults place 0)))
 
--- A step leads from one world to another. Its call of a bank fails only where the bank's count of failures tells so; all other
--- counts stay, and where it works all do.
+-- A step leads from one world to another. Its call of a bank fails only where the step has its device call the bank, and only
+-- where the bank's count of failures tells so. All other counts stay; where the call works, or there is none, all do.
 pub record LeadsCounted (w : CountedWorldOf) (s : MessageStep) (v : CountedWorldOf) : Type 0 where
   pub works : Bool
   pub after : world_after w.world (named_step w.world.agent works s) ≡ Some v.world
   pub worked : works ≡ true → v.faults ≡ w.faults
   pub failed : works ≡ false → BankFailed w v (device_of s)
+  pub called : works ≡ false → message_step_calls_bank w.world s ≡ true
 
 -- each step leads on from where the one before it led
 abbrev pub Run : CountedWorldOf → List MessageStep → CountedWorldOf → Type 0

@@ -3,6 +3,7 @@
 ghost use Rattle.fw_message.specs.Cases.{HistoriesAreJudged};
 ghost use Rattle.fw_message.specs.Laws.{MessagesAreSafe};
 ghost use Rattle.fw_message.specs.RunLaws.{RunsGrow, RunsJoin, RunsStayTied};
+ghost use Rattle.fw_message.specs.WorldCases.{MessageWorldsAreJudged};
 ghost use Rattle.fw_message.specs.WorldLaws.{WorldsAreSafe, WorldsStaySafe};
 
 /// Every run of whole messages between an agent and a device keeps the history of the device safe and tied: what the device
@@ -41,4 +42,10 @@ pub fn runs_stay_tied()
 /// they are to refuse is refused.
 pub fn histories_are_judged()
     ensures { HistoriesAreJudged }
+{}
+
+/// The definitions of two tied moments, of what needs memory and of a step that calls a bank, tried by hand: they hold of the worked
+/// update, and not of what differs from it in one thing.
+pub fn message_worlds_are_judged()
+    ensures { MessageWorldsAreJudged }
 {}

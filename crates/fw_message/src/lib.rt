@@ -17,7 +17,10 @@ mod verdicts;
 pub use cell::Held;
 pub use entry::{Entry, Event, Image};
 pub use images::applied_images;
-pub use laws::{histories_are_judged, messages_are_safe, runs_stay_tied, worlds_are_safe};
+pub use laws::{
+    histories_are_judged, message_worlds_are_judged, messages_are_safe, runs_stay_tied,
+    worlds_are_safe,
+};
 pub use messages::MessageWorld;
 pub use replay::message_replay;
 pub use side::{Side, Way};

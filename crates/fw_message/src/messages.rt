@@ -1,6 +1,7 @@
 //! The world over whole messages: one cell a way, no tags and no time.
 
 ghost use Rattle.std.specs.Prelude.{[], ◌≡◌, ◌≢◌, ◌<◌, ◌++◌, ◌∷◌, Err, IfErr, IfOk, IfSome, None, OnErr, OnOk, Ok, Some, false, length, map, option_map, true};
+ghost use Rattle.fw_message.specs.BankCalls.{message_step_calls_bank};
 ghost use Rattle.fw_message.specs.Entries.{entry_of};
 ghost use Rattle.fw_message.specs.Nodes.{cell_in};
 ghost use Rattle.fd_core.specs.Components.{HasComponents};
@@ -142,6 +143,7 @@ impl<'a, B: Bank + Drop> MessageWorld<'a, B> {
         ensures step { IfOk result (λ works. world_after self.old.world (named_step self.old.world.agent works step) ≡ Some self.new.world) }
         ensures worked { result ≡ Ok true → self.new.faults ≡ self.old.faults }
         ensures failed { result ≡ Ok false → BankFailed self.old self.new (device_of step) }
+        ensures called { result ≡ Ok false → message_step_calls_bank self.old.world step ≡ true }
         ensures refused { IfErr result (λ e. Refuses self.old.world step e) }
         ensures same { OnErr result (self.new ≡ self.old) }
     {

@@ -2,6 +2,7 @@
 
 ghost use Rattle.std.specs.Prelude.{◌≡◌, Bool, IfErr, IfOk, None, OnErr, OnOk, Ok, Some, false, true};
 ghost use Rattle.fd_core.specs.Banks.{Rose};
+ghost use Rattle.fw_message.specs.BankCalls.{pair_step_calls_bank};
 ghost use Rattle.fw_message.specs.Pairs.{StepOf, adds, quietly, step_of};
 
 use crate::pair::Pair;
@@ -23,6 +24,7 @@ impl<'a, B: Bank> Pair<'a, B> {
         ensures same { OnErr result (self.new ≡ self.old) }
         ensures worked { result ≡ Ok true → self.new.faults ≡ self.old.faults }
         ensures failed { result ≡ Ok false → Rose self.old.faults self.new.faults }
+        ensures called { result ≡ Ok false → pair_step_calls_bank self.old.node.pair (StepOf.TakeDown quiet true) ≡ true }
         ensures eid { self.new.node.eid ≡ self.old.node.eid }
     {
         match self.take_down(packages, quiet) {
@@ -60,6 +62,7 @@ impl<'a, B: Bank> Pair<'a, B> {
         ensures same { OnErr result (self.new ≡ self.old) }
         ensures worked { result ≡ Ok true → self.new.faults ≡ self.old.faults }
         ensures failed { result ≡ Ok false → Rose self.old.faults self.new.faults }
+        ensures called { result ≡ Ok false → pair_step_calls_bank self.old.node.pair (StepOf.Judge verdict true) ≡ true }
         ensures eid { self.new.node.eid ≡ self.old.node.eid }
     {
         match self.judge(packages, verdict) {

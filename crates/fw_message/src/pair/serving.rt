@@ -5,6 +5,7 @@ ghost use Rattle.fd_core.specs.Images.{applied_of, row_of};
 ghost use Rattle.fd_core.specs.States.{staged_of};
 ghost use Rattle.fd_core.specs.Steps.{applied_by};
 ghost use Rattle.fd_core.specs.Wishes.{has_failed};
+ghost use Rattle.fw_message.specs.BankCalls.{pair_step_calls_bank};
 ghost use Rattle.fw_message.specs.Entries.{put_of};
 ghost use Rattle.fw_message.specs.History.{EntryOf};
 ghost use Rattle.fw_message.specs.Nodes.{is_activation, room_of, to_activate};
@@ -47,7 +48,7 @@ impl<'a, B: Bank> Pair<'a, B> {
 
     /// The device takes what the agent asked, and answers it. None where nothing waits to be taken, or where the device
     /// would be told that it is quiet while its own cell isn't empty; else whether its bank worked.
-    #[tactic(auto, unfolding(crate::specs::Pairs::down_taken), using(fd_core::proofs::Components::take_components))]
+    #[tactic(auto, unfolding(crate::specs::Pairs::down_taken), using(fd_core::proofs::Components::take_components, fd_core::proofs::BankCalls::bank_calls))]
     pub fn take_down(&mut self, packages: &'a [Package<'a>], quiet: bool) -> Option<bool>
         ensures step { IfSome result (λ works. step_of packages.now self.old.node.pair (StepOf.TakeDown quiet works) ≡ Some (record {
           after = self.new.node.pair;
@@ -57,6 +58,7 @@ impl<'a, B: Bank> Pair<'a, B> {
         ensures same { result ≡ None → self.new ≡ self.old }
         ensures worked { result ≡ Some true → self.new.faults ≡ self.old.faults }
         ensures failed { result ≡ Some false → Rose self.old.faults self.new.faults }
+        ensures called { result ≡ Some false → pair_step_calls_bank self.old.node.pair (StepOf.TakeDown quiet true) ≡ true }
         ensures eid { self.new.node.eid ≡ self.old.node.eid }
     {
         let Some(held) = &mut self.down else {
@@ -107,7 +109,7 @@ impl<'a, B: Bank> Pair<'a, B> {
     }
 
     /// A verdict on the image that the device has written. None where it doesn't count; else whether its bank worked.
-    #[tactic(auto, using(fd_core::proofs::Components::judge_components, crate::proofs::Working::judges_alike))]
+    #[tactic(auto, using(fd_core::proofs::Components::judge_components, crate::proofs::Working::judges_alike, fd_core::proofs::BankCalls::bank_calls))]
     pub fn judge(&mut self, packages: &'a [Package<'a>], verdict: Verdict) -> Option<bool>
         ensures step { IfSome result (λ works. step_of packages.now self.old.node.pair (StepOf.Judge verdict works) ≡ Some (record {
           after = self.new.node.pair;
@@ -117,6 +119,7 @@ impl<'a, B: Bank> Pair<'a, B> {
         ensures same { result ≡ None → self.new ≡ self.old }
         ensures worked { result ≡ Some true → self.new.faults ≡ self.old.faults }
         ensures failed { result ≡ Some false → Rose self.old.faults self.new.faults }
+        ensures called { result ≡ Some false → pair_step_calls_bank self.old.node.pair (StepOf.Judge verdict true) ≡ true }
         ensures eid { self.new.node.eid ≡ self.old.node.eid }
     {
         let Ok(()) = self.device.verdict(verdict) else {
@@ -143,6 +146,7 @@ impl<'a, B: Bank> Pair<'a, B> {
         ensures same { result ≡ None → self.new ≡ self.old }
         ensures worked { IfSome result (λ r. r.0 ≡ true → self.new.faults ≡ self.old.faults) }
         ensures failed { IfSome result (λ r. r.0 ≡ false → Rose self.old.faults self.new.faults) }
+        ensures called { IfSome result (λ r. r.0 ≡ false → pair_step_calls_bank self.old.node.pair (StepOf.Judge verdict true) ≡ true) }
         ensures eid { self.new.node.eid ≡ self.old.node.eid }
     {
         let staged = self.device.staged();
@@ -179,13 +183,14 @@ impl<'a, B: Bank> Pair<'a, B> {
     }
 
     /// The device learns the answer that it waits for. None where there is none; else whether its bank worked.
-    #[tactic(auto, using(fd_core::proofs::Components::learn_components, crate::proofs::Working::learns_failed))]
+    #[tactic(auto, using(fd_core::proofs::Components::learn_components, crate::proofs::Working::learns_failed, fd_core::proofs::BankCalls::bank_calls))]
     pub fn learn_up(&mut self, packages: &'a [Package<'a>]) -> Option<bool>
         ensures step { IfSome result (λ works. step_of packages.now self.old.node.pair (StepOf.LearnUp works) ≡ Some (quietly self.new.node.pair)) }
         ensures none { IfNone result ((works : Bool) → step_of packages.now self.old.node.pair (StepOf.LearnUp works) ≡ None) }
         ensures same { result ≡ None → self.new ≡ self.old }
         ensures worked { result ≡ Some true → self.new.faults ≡ self.old.faults }
         ensures failed { result ≡ Some false → Rose self.old.faults self.new.faults }
+        ensures called { result ≡ Some false → pair_step_calls_bank self.old.node.pair (StepOf.LearnUp true) ≡ true }
         ensures eid { self.new.node.eid ≡ self.old.node.eid }
     {
         let Some(held) = &self.up else {

@@ -11,7 +11,7 @@ returns-in-Err-clause-safe g c =
 pub loop-i-preserved : goal.loop-i-preserved
 loop-i-preserved g c =
     run_next c.args.world.now c.loop-i.world c.step.new.self c.args.steps.now c.loop-i.i _ c.loop-i-test.true c.loop-i.invariant
-    (record { works = c.in-Ok.field-0; after = c.in-Ok.ensures.step; worked = λ e. c.in-Ok.ensures.worked (ap Ok e); failed = λ e. c.in-Ok.ensures.failed (ap Ok e) })
+    (record { works = c.in-Ok.field-0; after = c.in-Ok.ensures.step; worked = λ e. c.in-Ok.ensures.worked (ap Ok e); failed = λ e. c.in-Ok.ensures.failed (ap Ok e); called = λ e. c.in-Ok.ensures.called (ap Ok e) })
 
 pub returns-clause-safe : goal.returns-clause-safe
 returns-clause-safe g c =

@@ -7,7 +7,7 @@ use Rattle.fw_message.specs.Replays.{counted_restarted, place_at}
 use Rattle.fw_message.specs.Worlds.{WorldOf, device_of, restarts_agent}
 use Rattle.fw_message.proofs.Apart.{absent_put, absent_restarted}
 use Rattle.fw_message.proofs.Places.{not_at}
-use Rattle.fw_message.proofs.Stepping.{agent_restarts, bank_failed, device_refuses, device_steps, faults_restarted, faults_same}
+use Rattle.fw_message.proofs.Stepping.{agent_restarts, bank_called, bank_failed, device_refuses, device_steps, faults_restarted, faults_same}
 use Rattle.fw_message.proofs.messages.MessageWorld.step.Goals as goal
 
 pub returns-then-restarts-clause-step : goal.returns-then-restarts-clause-step
@@ -53,6 +53,15 @@ returns-clause-failed g c =
     let found : slice_get c.self.inside.pairs.items c.in-Some.place ≡ Some c.index_mut-pair.result.now =
     slice_get_read c.self.inside.pairs.items (length c.self.inside.pairs.items) c.in-Some.place c.index_mut-pair.result.now refl lt c.index_mut-pair.ensures.value in
     λ e. rw (sym c.self.view_is) (bank_failed w later c.self.inside.pairs.items c.index_mut-pair.result.now c.step.new.self c.in-Some.place (device_of c.args.step) at found (c.in-Ok.ensures.failed e))
+
+pub returns-clause-called : goal.returns-clause-called
+returns-clause-called g c =
+    let w : WorldOf = record { agent = c.self.inside.agent; packages = c.self.inside.packages.now; nodes = map (λ p. p.node) c.self.inside.pairs.items; history = map entry_of c.self.inside.history.items } in
+    let at : place_at w.nodes (device_of c.args.step) ≡ Some c.in-Some.place = search rules in
+    let lt : c.in-Some.place < length c.self.inside.pairs.items = search rules in
+    let found : slice_get c.self.inside.pairs.items c.in-Some.place ≡ Some c.index_mut-pair.result.now =
+    slice_get_read c.self.inside.pairs.items (length c.self.inside.pairs.items) c.in-Some.place c.index_mut-pair.result.now refl lt c.index_mut-pair.ensures.value in
+    λ e. rw (sym c.self.view_is) (bank_called w c.self.inside.pairs.items c.index_mut-pair.result.now c.in-Some.place c.args.step refl at found (c.in-Ok.ensures.called e))
 
 pub returns-then-restarts-clause-worked : goal.returns-then-restarts-clause-worked
 returns-then-restarts-clause-worked g c =

@@ -1,0 +1,121 @@
+-- Worlds by hand, on which the definitions of two tied moments, of what needs memory and of a step that calls a bank are tried.
+use Rattle.std.specs.Prelude.{ℕ, ◌≡◌, ◌∷◌, [], Bool, List, None, Option, Some, false, map, take, true}
+use Rattle.fwup_wire.specs.Values.{AnswerOf, CommandOf}
+use Rattle.fd_core.specs.Images.{RowOf}
+use Rattle.fd_core.specs.States.{DeviceState, Phase, UpdateOf, WorkOf}
+use Rattle.fd_core.specs.declared.states.Progress.TheVariants as progress
+use Rattle.fd_core.specs.declared.states.Verdict.TheVariants as verdicts
+use Rattle.ua_core.specs.declared.planned.Recorded.{Recorded}
+use Rattle.fw_message.specs.BankCalls.{message_step_calls_bank}
+use Rattle.fw_message.specs.Cases.{activates, bank, boot, image, new_boot, old_boot, packages, recorded, records, worked}
+use Rattle.fw_message.specs.History.{EntryOf}
+use Rattle.fw_message.specs.Pairs.{PairOf, Stepped, quietly}
+use Rattle.fw_message.specs.RunLaws.{IsTiedBetween}
+use Rattle.fw_message.specs.Worlds.{NodeOf, NotedOf, WorldOf, needs_memory, noted_of}
+use Rattle.fw_message.specs.declared.side.Way.TheVariants as ways
+use Rattle.fw_message.specs.declared.step.MessageStep.{MessageStep}
+use Rattle.fw_message.specs.declared.step.MessageStep.TheVariants as steps
+
+-- TWO MOMENTS
+
+-- any pair, with these images in the bank and these records
+abbrev pub pair_with : PairOf → List RowOf → List Recorded → PairOf
+pair_with m rows made = record m { device = record m.device { rows = rows }; session = record m.session { records = made } }
+
+-- the device 9, of an agent 8
+abbrev pub board_node : PairOf → List RowOf → List Recorded → NodeOf
+board_node m rows made = record { eid = 9; pair = pair_with m rows made }
+
+abbrev pub world_with : List NodeOf → List NotedOf → WorldOf
+world_with nodes history = record { agent = 8; packages = packages; nodes = nodes; history = history }
+
+abbrev pub world_of : PairOf → List RowOf → List Recorded → List NotedOf → WorldOf
+world_of m rows made history = world_with (board_node m rows made ∷ []) history
+
+-- the worlds of the worked update: before it, before its activation, and after it
+abbrev pub before_update : PairOf → WorldOf
+before_update m = world_of m (bank old_boot None) [] []
+
+abbrev pub before_activation : PairOf → WorldOf
+before_activation m =
+    world_of m (bank old_boot (Some (image new_boot))) (recorded 1 0 ∷ []) (map (noted_of 9) (take 2 worked))
+
+abbrev pub after_update : PairOf → WorldOf
+after_update m = world_of m (bank new_boot None) (recorded 1 0 ∷ []) (map (noted_of 9) worked)
+
+-- any two of these are tied, in order, and each with itself
+pub record TiedMoments : Type 0 where
+  pub whole : (m : PairOf) → IsTiedBetween (before_update m) (after_update m)
+  pub first : (m : PairOf) → IsTiedBetween (before_update m) (before_activation m)
+  pub rest : (m : PairOf) → IsTiedBetween (before_activation m) (after_update m)
+  pub same : (m : PairOf) → IsTiedBetween (after_update m) (after_update m)
+
+-- What isn't tied: the old image that still runs, an image that runs and wasn't activated since, a record that is missing, one
+-- that wasn't made since, an activation of another device, and a device that is gone.
+pub record UntiedMoments : Type 0 where
+  pub old_runs : (m : PairOf) → IsTiedBetween (before_update m) (world_of m (bank old_boot None) (recorded 1 0 ∷ []) (map (noted_of 9) worked)) → ⊥
+  pub runs_too_soon : (m : PairOf) → IsTiedBetween (before_update m) (world_of m (bank new_boot None) (recorded 1 0 ∷ []) (map (noted_of 9) (take 2 worked))) → ⊥
+  pub not_there : (m : PairOf) → IsTiedBetween (before_update m) (world_of m (bank new_boot None) [] (map (noted_of 9) worked)) → ⊥
+  pub not_made : (m : PairOf) → IsTiedBetween (after_update m) (world_of m (bank new_boot None) (recorded 1 0 ∷ recorded 1 0 ∷ []) (map (noted_of 9) worked)) → ⊥
+  pub of_another : (m : PairOf) → IsTiedBetween (before_update m) (world_of m (bank new_boot None) [] (noted_of 10 (activates boot new_boot) ∷ [])) → ⊥
+  pub gone : (m : PairOf) → IsTiedBetween (before_update m) (world_with [] []) → ⊥
+
+-- WHAT NEEDS MEMORY
+
+-- a step that adds this to the history
+abbrev pub adding : PairOf → List EntryOf → Option Stepped
+adding m es = Some (record { after = m; noted = es })
+
+pub record NeedsMemory : Type 0 where
+  pub start : needs_memory (steps.Start 9 1) None ≡ true
+  pub activation : (m : PairOf) → needs_memory (steps.Take 9 ways.Down true) (adding m (activates boot new_boot ∷ [])) ≡ true
+  pub recording : (m : PairOf) → needs_memory (steps.Take 9 ways.Up false) (adding m (records 1 0 ∷ [])) ≡ true
+
+pub record NeedsNoMemory : Type 0 where
+  pub take : (m : PairOf) → needs_memory (steps.Take 9 ways.Down true) (Some (quietly m)) ≡ false
+  pub untaken : needs_memory (steps.Take 9 ways.Down true) None ≡ false
+  pub cancel : (m : PairOf) → needs_memory (steps.Cancel 9) (Some (quietly m)) ≡ false
+
+-- WHICH STEP CALLS A BANK
+
+-- a world whose device is in this state, with this in its bank, and what the agent asked of it
+abbrev pub world_in : PairOf → Phase → List RowOf → CommandOf → WorldOf
+world_in m phase rows command =
+    world_with (record {
+      eid = 9;
+      pair = record m {
+        device = record m.device { phase = phase; rows = rows; components = record { key = boot; index = 0 } ∷ [] };
+        down = Some (record { command = command; reply = None; live = true });
+      };
+    } ∷ []) []
+
+abbrev pub update : UpdateOf
+update = record { transfer_size = 32; components = 1; table = record { key = boot; code = 0 } ∷ [] }
+
+abbrev pub work : WorkOf
+work = record { key = boot; size = 3; label = record { stamp = 2; text_type = 1; text = [] }; force = false }
+
+-- ActivateFirmware where all is applied, and ApplyOk for an image that is written
+pub record CallsBank : Type 0 where
+  pub activation : (m : PairOf) → message_step_calls_bank (world_in m (Phase.Ready update) (bank old_boot (Some (image new_boot))) (CommandOf.ActivateFirmware true)) (steps.Take 9 ways.Down true) ≡ true
+  pub application : (m : PairOf) → message_step_calls_bank (world_in m (Phase.Apply update work progress.InProgress) (bank old_boot None) CommandOf.GetStatus) (steps.Verdict 9 verdicts.ApplyOk) ≡ true
+
+-- ActivateFirmware where nothing is applied; another command; another verdict, or ApplyOk where the image is applied already;
+-- and what another node has, or no Take is of.
+pub record CallsNoBank : Type 0 where
+  pub lacking : (m : PairOf) → message_step_calls_bank (world_in m (Phase.Ready update) (bank old_boot None) (CommandOf.ActivateFirmware true)) (steps.Take 9 ways.Down true) ≡ false
+  pub idle : (m : PairOf) → message_step_calls_bank (world_in m Phase.Idle (bank old_boot (Some (image new_boot))) (CommandOf.ActivateFirmware true)) (steps.Take 9 ways.Down true) ≡ false
+  pub status : (m : PairOf) → message_step_calls_bank (world_in m (Phase.Ready update) (bank old_boot (Some (image new_boot))) CommandOf.GetStatus) (steps.Take 9 ways.Down true) ≡ false
+  pub failing : (m : PairOf) → message_step_calls_bank (world_in m (Phase.Apply update work progress.InProgress) (bank old_boot None) CommandOf.GetStatus) (steps.Verdict 9 verdicts.ApplyFail) ≡ false
+  pub applied : (m : PairOf) → message_step_calls_bank (world_in m (Phase.Apply update work progress.Succeeded) (bank old_boot None) CommandOf.GetStatus) (steps.Verdict 9 verdicts.ApplyOk) ≡ false
+  pub elsewhere : (m : PairOf) → message_step_calls_bank (world_in m (Phase.Apply update work progress.InProgress) (bank old_boot None) CommandOf.GetStatus) (steps.Verdict 10 verdicts.ApplyOk) ≡ false
+  pub asking : (m : PairOf) → message_step_calls_bank (world_in m (Phase.Ready update) (bank old_boot (Some (image new_boot))) (CommandOf.ActivateFirmware true)) (steps.Ask 9 ways.Down) ≡ false
+
+-- The definitions hold where they are to hold, and nowhere near.
+pub record MessageWorldsAreJudged : Type 0 where
+  pub tied : TiedMoments
+  pub untied : UntiedMoments
+  pub needing : NeedsMemory
+  pub unneeding : NeedsNoMemory
+  pub calling : CallsBank
+  pub uncalling : CallsNoBank
