@@ -65,10 +65,6 @@ commands_depend v c quiet = refl
 abbrev PiecesDiffer : DeviceState → UpdateOf → WorkOf → LearnRow → LearnRow → Type 0
 PiecesDiffer v u w failing working = DifferIf (puts_piece working) (download_by v u w failing) (download_by v u w working)
 
--- a piece that is put leaves no failure
-put_works : (have size : ℕ) → is_failure (download_progress have size) ≡ false
-put_works have size = either (λ p. is_failure p ≡ false) (nat_lt have size) progress.InProgress progress.Succeeded refl refl
-
 piece_differs : (v : DeviceState) (u : UpdateOf) (w : WorkOf) (bytes : List ℕ) → PiecesDiffer v u w LearnRow.PutFails (LearnRow.PutPiece bytes)
 piece_differs v u w bytes e = absurd (
     let stirred : (download_by v u w LearnRow.PutFails).stirs ≡ (download_by v u w (LearnRow.PutPiece bytes)).stirs = ap (λ l. l.stirs) e in cc)

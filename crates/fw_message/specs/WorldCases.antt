@@ -53,11 +53,17 @@ pub record TiedMoments : Type 0 where
 -- What isn't tied: the old image that still runs, an image that runs and wasn't activated since, a record that is missing, one
 -- that wasn't made since, an activation of another device, and a device that is gone.
 pub record UntiedMoments : Type 0 where
-  pub old_runs : (m : PairOf) → IsTiedBetween (before_update m) (world_of m (bank old_boot None) (recorded 1 0 ∷ []) (map (noted_of 9) worked)) → ⊥
-  pub runs_too_soon : (m : PairOf) → IsTiedBetween (before_update m) (world_of m (bank new_boot None) (recorded 1 0 ∷ []) (map (noted_of 9) (take 2 worked))) → ⊥
-  pub not_there : (m : PairOf) → IsTiedBetween (before_update m) (world_of m (bank new_boot None) [] (map (noted_of 9) worked)) → ⊥
-  pub not_made : (m : PairOf) → IsTiedBetween (after_update m) (world_of m (bank new_boot None) (recorded 1 0 ∷ recorded 1 0 ∷ []) (map (noted_of 9) worked)) → ⊥
-  pub of_another : (m : PairOf) → IsTiedBetween (before_update m) (world_of m (bank new_boot None) [] (noted_of 10 (activates boot new_boot) ∷ [])) → ⊥
+  pub old_runs : (m : PairOf) →
+      IsTiedBetween (before_update m) (world_of m (bank old_boot None) (recorded 1 0 ∷ []) (map (noted_of 9) worked)) → ⊥
+  pub runs_too_soon : (m : PairOf) →
+      IsTiedBetween (before_update m) (world_of m (bank new_boot None) (recorded 1 0 ∷ []) (map (noted_of 9) (take 2 worked))) → ⊥
+  pub not_there : (m : PairOf) →
+      IsTiedBetween (before_update m) (world_of m (bank new_boot None) [] (map (noted_of 9) worked)) → ⊥
+  pub not_made : (m : PairOf) →
+      IsTiedBetween (after_update m)
+      (world_of m (bank new_boot None) (recorded 1 0 ∷ recorded 1 0 ∷ []) (map (noted_of 9) worked)) → ⊥
+  pub of_another : (m : PairOf) →
+      IsTiedBetween (before_update m) (world_of m (bank new_boot None) [] (noted_of 10 (activates boot new_boot) ∷ [])) → ⊥
   pub gone : (m : PairOf) → IsTiedBetween (before_update m) (world_with [] []) → ⊥
 
 -- WHAT NEEDS MEMORY
@@ -68,7 +74,8 @@ adding m es = Some (record { after = m; noted = es })
 
 pub record NeedsMemory : Type 0 where
   pub start : needs_memory (steps.Start 9 1) None ≡ true
-  pub activation : (m : PairOf) → needs_memory (steps.Take 9 ways.Down true) (adding m (activates boot new_boot ∷ [])) ≡ true
+  pub activation : (m : PairOf) →
+      needs_memory (steps.Take 9 ways.Down true) (adding m (activates boot new_boot ∷ [])) ≡ true
   pub recording : (m : PairOf) → needs_memory (steps.Take 9 ways.Up false) (adding m (records 1 0 ∷ [])) ≡ true
 
 pub record NeedsNoMemory : Type 0 where
@@ -95,21 +102,43 @@ update = record { transfer_size = 32; components = 1; table = record { key = boo
 abbrev pub work : WorkOf
 work = record { key = boot; size = 3; label = record { stamp = 2; text_type = 1; text = [] }; force = false }
 
+-- a bank that has the image applied
+abbrev pub all_applied : List RowOf
+all_applied = bank old_boot (Some (image new_boot))
+
 -- ActivateFirmware where all is applied, and ApplyOk for an image that is written
 pub record CallsBank : Type 0 where
-  pub activation : (m : PairOf) → message_step_calls_bank (world_in m (Phase.Ready update) (bank old_boot (Some (image new_boot))) (CommandOf.ActivateFirmware true)) (steps.Take 9 ways.Down true) ≡ true
-  pub application : (m : PairOf) → message_step_calls_bank (world_in m (Phase.Apply update work progress.InProgress) (bank old_boot None) CommandOf.GetStatus) (steps.Verdict 9 verdicts.ApplyOk) ≡ true
+  pub activation : (m : PairOf) →
+      message_step_calls_bank (world_in m (Phase.Ready update) all_applied (CommandOf.ActivateFirmware true))
+      (steps.Take 9 ways.Down true) ≡ true
+  pub application : (m : PairOf) →
+      message_step_calls_bank (world_in m (Phase.Apply update work progress.InProgress) (bank old_boot None) CommandOf.GetStatus)
+      (steps.Verdict 9 verdicts.ApplyOk) ≡ true
 
 -- ActivateFirmware where nothing is applied; another command; another verdict, or ApplyOk where the image is applied already;
 -- and what another node has, or no Take is of.
 pub record CallsNoBank : Type 0 where
-  pub lacking : (m : PairOf) → message_step_calls_bank (world_in m (Phase.Ready update) (bank old_boot None) (CommandOf.ActivateFirmware true)) (steps.Take 9 ways.Down true) ≡ false
-  pub idle : (m : PairOf) → message_step_calls_bank (world_in m Phase.Idle (bank old_boot (Some (image new_boot))) (CommandOf.ActivateFirmware true)) (steps.Take 9 ways.Down true) ≡ false
-  pub status : (m : PairOf) → message_step_calls_bank (world_in m (Phase.Ready update) (bank old_boot (Some (image new_boot))) CommandOf.GetStatus) (steps.Take 9 ways.Down true) ≡ false
-  pub failing : (m : PairOf) → message_step_calls_bank (world_in m (Phase.Apply update work progress.InProgress) (bank old_boot None) CommandOf.GetStatus) (steps.Verdict 9 verdicts.ApplyFail) ≡ false
-  pub applied : (m : PairOf) → message_step_calls_bank (world_in m (Phase.Apply update work progress.Succeeded) (bank old_boot None) CommandOf.GetStatus) (steps.Verdict 9 verdicts.ApplyOk) ≡ false
-  pub elsewhere : (m : PairOf) → message_step_calls_bank (world_in m (Phase.Apply update work progress.InProgress) (bank old_boot None) CommandOf.GetStatus) (steps.Verdict 10 verdicts.ApplyOk) ≡ false
-  pub asking : (m : PairOf) → message_step_calls_bank (world_in m (Phase.Ready update) (bank old_boot (Some (image new_boot))) (CommandOf.ActivateFirmware true)) (steps.Ask 9 ways.Down) ≡ false
+  pub lacking : (m : PairOf) →
+      message_step_calls_bank (world_in m (Phase.Ready update) (bank old_boot None) (CommandOf.ActivateFirmware true))
+      (steps.Take 9 ways.Down true) ≡ false
+  pub idle : (m : PairOf) →
+      message_step_calls_bank (world_in m Phase.Idle all_applied (CommandOf.ActivateFirmware true))
+      (steps.Take 9 ways.Down true) ≡ false
+  pub status : (m : PairOf) →
+      message_step_calls_bank (world_in m (Phase.Ready update) all_applied CommandOf.GetStatus)
+      (steps.Take 9 ways.Down true) ≡ false
+  pub failing : (m : PairOf) →
+      message_step_calls_bank (world_in m (Phase.Apply update work progress.InProgress) (bank old_boot None) CommandOf.GetStatus)
+      (steps.Verdict 9 verdicts.ApplyFail) ≡ false
+  pub applied : (m : PairOf) →
+      message_step_calls_bank (world_in m (Phase.Apply update work progress.Succeeded) (bank old_boot None) CommandOf.GetStatus)
+      (steps.Verdict 9 verdicts.ApplyOk) ≡ false
+  pub elsewhere : (m : PairOf) →
+      message_step_calls_bank (world_in m (Phase.Apply update work progress.InProgress) (bank old_boot None) CommandOf.GetStatus)
+      (steps.Verdict 10 verdicts.ApplyOk) ≡ false
+  pub asking : (m : PairOf) →
+      message_step_calls_bank (world_in m (Phase.Ready update) all_applied (CommandOf.ActivateFirmware true))
+      (steps.Ask 9 ways.Down) ≡ false
 
 -- The definitions hold where they are to hold, and nowhere near.
 pub record MessageWorldsAreJudged : Type 0 where

@@ -44,8 +44,8 @@ pub fn histories_are_judged()
     ensures { HistoriesAreJudged }
 {}
 
-/// The definitions of two tied moments, of what needs memory and of a step that calls a bank, tried by hand: they hold of the worked
-/// update, and not of what differs from it in one thing.
+/// The definitions of two tied moments, of what needs memory and of a step that calls a bank, tried by hand: they hold of the
+/// worked update, and not of what differs from it in one thing.
 pub fn message_worlds_are_judged()
     ensures { MessageWorldsAreJudged }
 {}

@@ -22,4 +22,5 @@ incoming_calls_bank core h i = false
 -- the bytes of a packet; a half that is deaf hears none
 abbrev pub packet_calls_bank : {C : Type 0} → CoreOf C → HalfOf C → List ℕ → Bool
 packet_calls_bank core h bytes =
-    incoming_calls_bank core h (incoming (asker_row h.unit h.own h.peer h.asker bytes) (taker_row h.unit h.own h.peer h.taker bytes))
+    incoming_calls_bank core h
+    (incoming (asker_row h.unit h.own h.peer h.asker bytes) (taker_row h.unit h.own h.peer h.taker bytes))

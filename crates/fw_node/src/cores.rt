@@ -62,7 +62,8 @@ pub(crate) trait Core<'p> {
         ensures core { seen self.new ≡ (does given).learn (seen self.old) (result_map_both (λ a. answer_of a.now) (λ e. e) answer.entry) result }
         ensures worked { result ≡ true → faults self.new ≡ faults self.old }
         ensures failed { result ≡ false → Rose (faults self.old) (faults self.new) }
-        ensures called { result ≡ false → (does given).learn_calls_bank (seen self.old) (result_map_both (λ a. answer_of a.now) (λ e. e) answer.entry) ≡ true };
+        ensures called { result ≡ false
+            → (does given).learn_calls_bank (seen self.old) (result_map_both (λ a. answer_of a.now) (λ e. e) answer.entry) ≡ true };
 
     /// Its request was given up.
     fn silent(&mut self, given: Self::Given)

@@ -95,7 +95,8 @@ impl<'p, C: Core<'p>> Half<C> {
         ensures packets { outbox.new ≡ all_packets self.old.ends.asking.unit (finished role identity.old.endpoint identity.old.tid (half_hears (C.does given) result (half_of 0 (C.seen self.old.core) self.old.ends) (spelling packet.now))).sent }
         ensures worked { result ≡ true → C.faults self.new.core ≡ C.faults self.old.core }
         ensures failed { result ≡ false → Rose (C.faults self.old.core) (C.faults self.new.core) }
-        ensures called { result ≡ false → packet_calls_bank (C.does given) (half_of 0 (C.seen self.old.core) self.old.ends) (spelling packet.now) ≡ true }
+        ensures called { result ≡ false
+            → packet_calls_bank (C.does given) (half_of 0 (C.seen self.old.core) self.old.ends) (spelling packet.now) ≡ true }
         ensures endpoint { identity.new.endpoint ≡ identity.old.endpoint }
         ensures own { self.new.ends.asking.own ≡ self.old.ends.asking.own }
         ensures unit { self.new.ends.asking.unit ≡ self.old.ends.asking.unit }
@@ -123,7 +124,8 @@ impl<'p, C: Core<'p>> Half<C> {
     fn incoming(&mut self, packet: &Packet<'_>, message: &mut Message) -> Incoming
         requires read { IsRead packet.now }
         ensures brings { (given : C.Given) (works : Bool) → half_hears (C.does given) works (half_of 0 (C.seen self.old.core) self.old.ends) (spelling packet.now) ≡ half_brings (C.does given) works (half_of 0 (C.seen self.new.core) self.new.ends) (incoming_of result message.new) }
-        ensures calls { (given : C.Given) → packet_calls_bank (C.does given) (half_of 0 (C.seen self.old.core) self.old.ends) (spelling packet.now) ≡ incoming_calls_bank (C.does given) (half_of 0 (C.seen self.new.core) self.new.ends) (incoming_of result message.new) }
+        ensures calls { (given : C.Given) → packet_calls_bank (C.does given) (half_of 0 (C.seen self.old.core) self.old.ends) (spelling packet.now)
+            ≡ incoming_calls_bank (C.does given) (half_of 0 (C.seen self.new.core) self.new.ends) (incoming_of result message.new) }
         ensures head { HasHead result }
         ensures core { self.new.core ≡ self.old.core }
         ensures own { self.new.ends.asking.own ≡ self.old.ends.asking.own }
@@ -137,7 +139,8 @@ impl<'p, C: Core<'p>> Half<C> {
         ensures half { half_of 0 (C.seen self.new.core) self.new.ends ≡ recast (C.does given) (half_of 0 (C.seen self.old.core) self.old.ends) ((C.does given).learn (C.seen self.old.core) (answer_read command reply.now) result) }
         ensures worked { result ≡ true → C.faults self.new.core ≡ C.faults self.old.core }
         ensures failed { result ≡ false → Rose (C.faults self.old.core) (C.faults self.new.core) }
-        ensures called { result ≡ false → (C.does given).learn_calls_bank (C.seen self.old.core) (answer_read command reply.now) ≡ true }
+        ensures called { result ≡ false
+            → (C.does given).learn_calls_bank (C.seen self.old.core) (answer_read command reply.now) ≡ true }
         ensures own { self.new.ends.asking.own ≡ self.old.ends.asking.own }
         ensures unit { self.new.ends.asking.unit ≡ self.old.ends.asking.unit }
     {
@@ -152,7 +155,8 @@ impl<'p, C: Core<'p>> Half<C> {
         ensures ends { self.new.ends ≡ self.old.ends }
         ensures worked { result ≡ true → C.faults self.new.core ≡ C.faults self.old.core }
         ensures failed { result ≡ false → Rose (C.faults self.old.core) (C.faults self.new.core) }
-        ensures called { result ≡ false → (C.does given).learn_calls_bank (C.seen self.old.core) (answer_read command reply.now) ≡ true }
+        ensures called { result ≡ false
+            → (C.does given).learn_calls_bank (C.seen self.old.core) (answer_read command reply.now) ≡ true }
     {
         match fwup_wire::read_answer(command, reply) {
             Ok(answer) => self.core.learn(given, Ok(&answer)),
@@ -176,7 +180,8 @@ impl<'p, C: Core<'p>> Half<C> {
         ensures packets { outbox.new ≡ all_packets self.old.ends.asking.unit (finished role identity.old.endpoint identity.old.tid (half_brings (C.does given) result (half_of 0 (C.seen self.old.core) self.old.ends) (IncomingOf.New request.now))).sent }
         ensures worked { result ≡ true → C.faults self.new.core ≡ C.faults self.old.core }
         ensures failed { result ≡ false → Rose (C.faults self.old.core) (C.faults self.new.core) }
-        ensures called { result ≡ false → incoming_calls_bank (C.does given) (half_of 0 (C.seen self.old.core) self.old.ends) (IncomingOf.New request.now) ≡ true }
+        ensures called { result ≡ false
+            → incoming_calls_bank (C.does given) (half_of 0 (C.seen self.old.core) self.old.ends) (IncomingOf.New request.now) ≡ true }
         ensures endpoint { identity.new.endpoint ≡ identity.old.endpoint }
         ensures own { self.new.ends.asking.own ≡ self.old.ends.asking.own }
         ensures unit { self.new.ends.asking.unit ≡ self.old.ends.asking.unit }
@@ -207,7 +212,8 @@ impl<'p, C: Core<'p>> Half<C> {
         ensures packets { outbox.new ≡ all_packets self.old.ends.asking.unit (reply_message request.now.message request.now.head (reply_read (C.does given) (is_quiet self.old.ends.asking.caller) result (C.seen self.old.core) (read_by (C.does given) request.now.head.command request.now.body)).reply ∷ []) }
         ensures worked { result ≡ true → C.faults self.new.core ≡ C.faults self.old.core }
         ensures failed { result ≡ false → Rose (C.faults self.old.core) (C.faults self.new.core) }
-        ensures called { result ≡ false → read_calls_bank (C.does given) (is_quiet self.old.ends.asking.caller) (C.seen self.old.core) (read_by (C.does given) request.now.head.command request.now.body) ≡ true }
+        ensures called { result ≡ false → read_calls_bank (C.does given) (is_quiet self.old.ends.asking.caller) (C.seen self.old.core)
+            (read_by (C.does given) request.now.head.command request.now.body) ≡ true }
         ensures own { self.new.ends.asking.own ≡ self.old.ends.asking.own }
         ensures unit { self.new.ends.asking.unit ≡ self.old.ends.asking.unit }
     {
@@ -225,7 +231,8 @@ impl<'p, C: Core<'p>> Half<C> {
         ensures reply { result.0.items ≡ (reply_read (C.does given) (is_quiet self.old.ends.asking.caller) result.1 (C.seen self.old.core) (read_by (C.does given) request.now.head.command request.now.body)).reply }
         ensures worked { result.1 ≡ true → C.faults self.new.core ≡ C.faults self.old.core }
         ensures failed { result.1 ≡ false → Rose (C.faults self.old.core) (C.faults self.new.core) }
-        ensures called { result.1 ≡ false → read_calls_bank (C.does given) (is_quiet self.old.ends.asking.caller) (C.seen self.old.core) (read_by (C.does given) request.now.head.command request.now.body) ≡ true }
+        ensures called { result.1 ≡ false → read_calls_bank (C.does given) (is_quiet self.old.ends.asking.caller) (C.seen self.old.core)
+            (read_by (C.does given) request.now.head.command request.now.body) ≡ true }
     {
         let command = request.head().command;
         if !self.core.serves(given, command) {

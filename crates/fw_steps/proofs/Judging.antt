@@ -117,6 +117,7 @@ judged_here old new since packets verdict k tid endpoint = record {
   packets = refl;
   worked = k.worked;
   failed = k.failed;
+  called = k.called;
 }
 
 -- where it counts it isn't refused

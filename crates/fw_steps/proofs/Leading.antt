@@ -1,5 +1,5 @@
 -- Each step of the world's code leads on as its definition says.
-use Rattle.std.proofs.Common.{◌≡◌, ◌∙◌, ◌++◌, ◌==◌, ◌<◌, ◌≤◌, ℕ, zero, suc, [], ◌∷◌, Bool, true, false, is_some, length, List, map, nat_le, nat_lt, slice_get, slice_set, Option, Some, None, ap, arith, inl, inr, refl, subst, sym}
+use Rattle.std.proofs.Common.{◌≡◌, ◌∙◌, ◌++◌, ◌==◌, ◌&&◌, not, ◌<◌, ◌≤◌, ℕ, zero, suc, [], ◌∷◌, Bool, true, false, is_some, length, List, map, nat_le, nat_lt, slice_get, slice_set, Option, Some, None, ap, arith, inl, inr, refl, subst, sym}
 use Rattle.std.proofs.lemmas.Bool.{le-leb, lt-ltb}
 use Rattle.std.proofs.lemmas.Bool.Decides.{eqb_tells}
 use Rattle.std.specs.Option.{option_map}
@@ -13,8 +13,11 @@ use Rattle.ua_core.specs.Session.{SessionOf}
 use Rattle.fw_message.specs.History.{EntryOf}
 use Rattle.fw_message.specs.Worlds.{NotedOf, noted_of}
 use Rattle.fw_node.specs.Agents.{AgentOf, activates, agent_becomes, agent_restarts, cancels, ready_for, starts}
+use Rattle.fw_node.specs.BankCalls.{packet_calls_bank}
+use Rattle.fw_node.specs.Cores.{device_core}
 use Rattle.fw_node.specs.Nodes.{device_hears, device_judges}
 use Rattle.fw_node.specs.Packets.{all_packets}
+use Rattle.fw_steps.specs.BankCalls.{delivery_calls_bank, judgement_calls_bank, receipt_calls_bank, step_calls_bank}
 use Rattle.fw_steps.specs.Deliveries.{ComesTo, IsJudged}
 use Rattle.fw_steps.specs.Headline.{Leads, faults_before, faults_of, has_session, is_package, may_step, ready_fault, start_fault, tick_fault, world_after}
 use Rattle.fw_steps.specs.Worlds.{SiteOf, WorldOf, activated_at, activates_on, asks_log, at_agent, at_device, calls, comes, delivers, judges, node_becomes, packets_of, place_of, sent_now, site_at, site_for, site_restarts, ticks}
@@ -30,7 +33,7 @@ differs a b e = elim (eqb_tells a b) [ inl same ↦ absurd (e same.1) | inr othe
 
 -- a step that calls no bank
 leads : (w v : WorldOf) (s : Step) → may_step w s ≡ None → v ≡ world_after true (faults_before w s) w s → Leads w s v
-leads w v s may after = record { may = may; works = true; faults = faults_before w s; after = after; worked = λ e. refl; failed = λ e. absurd (cc) }
+leads w v s may after = record { may = may; works = true; faults = faults_before w s; after = after; worked = λ e. refl; failed = λ e. absurd (cc); called = λ e. absurd (cc) }
 
 pub tick_goes : {known soon may : Bool} → known ≡ true → soon ≡ true → may ≡ true → tick_fault known soon may ≡ None
 tick_goes e f g = rw (e, f, g) refl
@@ -126,6 +129,19 @@ comes_there w v node bytes k =
     ∙ sym (ap (at_device h.works k.heard.became.node.faults w bytes (place_of w.sites node)) (site_there w node k.place k.heard.site k.at k.heard.there)
     ∙ ap (λ p. at_device h.works k.heard.became.node.faults w bytes p (Some k.heard.site)) k.at)
 
+-- whether it has a bank called
+calls_there : (w : WorldOf) (node : ℕ) (p : Option Sent) (bytes : List ℕ) → option_map (λ s. s.bytes) p ≡ Some bytes
+    → delivery_calls_bank w node p ≡ (not (node == w.agent.endpoint.eid) && receipt_calls_bank bytes (site_for w.sites node))
+calls_there w node None bytes e = absurd (cc)
+calls_there w node (Some p) bytes e = let same : p.bytes ≡ bytes = cc in ap (λ bs. not (node == w.agent.endpoint.eid) && receipt_calls_bank bs (site_for w.sites node)) same
+
+device_calls : (w : WorldOf) (device number node : ℕ) (bytes : List ℕ) (x : SiteOf) → option_map (λ s. s.bytes) (numbered (packets_of w device) number) ≡ Some bytes
+    → (node == w.agent.endpoint.eid) ≡ false → site_for w.sites node ≡ Some x → packet_calls_bank device_core x.node.half bytes ≡ true
+    → step_calls_bank w (steps.Deliver device number node) ≡ true
+device_calls w device number node bytes x there is site called =
+    calls_there w node (numbered (packets_of w device) number) bytes there ∙ ap (λ b. not b && receipt_calls_bank bytes (site_for w.sites node)) is
+    ∙ ap (receipt_calls_bank bytes) site ∙ called
+
 pub device_leads : (w v : WorldOf) (device number node : ℕ) (bytes : List ℕ) → may_step w (steps.Deliver device number node) ≡ None
     → option_map (λ s. s.bytes) (numbered (packets_of w device) number) ≡ Some bytes → (node == w.agent.endpoint.eid) ≡ false → ComesTo w node bytes v
     → Leads w (steps.Deliver device number node) v
@@ -139,6 +155,7 @@ device_leads w v device number node bytes may there is k =
           ∙ sym (it_comes k.heard.heard.heard.works k.heard.became.node.faults w node (numbered (packets_of w device) number) bytes there ∙ rw is refl);
       worked = λ e. k.heard.heard.heard.worked e ∙ sym (ap faults_of site);
       failed = λ e. subst (λ n. Rose n k.heard.became.node.faults) (sym (ap faults_of site)) (k.heard.heard.heard.failed e);
+      called = λ e. device_calls w device number node bytes k.heard.site there is site (k.heard.heard.heard.called e);
     }
 
 -- a verdict
@@ -167,4 +184,5 @@ verdict_leads w v device verdict may k =
       after = judged_there w v device verdict k;
       worked = λ e. k.judged.judged.judged.worked e ∙ sym (ap faults_of site);
       failed = λ e. subst (λ n. Rose n k.judged.became.node.faults) (sym (ap faults_of site)) (k.judged.judged.judged.failed e);
+      called = λ e. ap (judgement_calls_bank verdict) site ∙ k.judged.judged.judged.called e;
     }

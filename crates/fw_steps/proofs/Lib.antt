@@ -9,6 +9,7 @@
 -- - `DevicesAreIsolated`: why what is between the agent and a device depends on no other device.
 -- - `Reaching`: worlds that steps led to: where a step leads from there, and what is promised of them.
 -- - `Cases`: which differences worlds that agree in a device can't have.
+-- - `StepCases`, `WorldCases`, `CallCases`: steps, worlds, and what calls a bank, judged by hand.
 --
 -- SEPARATE PROCESSES, each with a node of its own.
 -- - `NodesAlone`: why each node of a run is as its own calls leave it.
@@ -42,6 +43,7 @@
 mod Absences
 mod Activating
 mod Aging
+mod CallCases
 mod Cases
 mod Components
 mod DevicesAreIsolated
@@ -64,7 +66,9 @@ mod Rooms
 pub mod Running
 mod ReadingBack
 mod Spans
+mod StepCases
 mod Ticking
 mod TracesAreCut
 mod TracesArePlays
 mod TracesAreSafe
+mod WorldCases

@@ -25,9 +25,10 @@
 -- 8. `Worlds`: `WorldOf`, a world; `SiteOf`, a device's node with its packets; `place_of`, `site_for`, `packets_of`, `eids_of`
 --    and `pair_for`, what a world has of a device; `counts`, whether a node counts a tick. And what each kind of step makes of
 --    a world: `delivers`, `ticks`, `calls`, `activates_on`, `judges`, `restarts`, `asks_log`.
--- 9. `Moments`: `IsGrown` and `IsTiedBetween`, what two moments have to do with each other.
--- 10. `Messages`: `IsRunOfMessages`, the same devices, sessions and history without packets, tags and time.
--- 11. `Widths`: `HasDeviceWidths` and `HavePackageWidths`, what a device and the packages are made of fits the fields of messages.
+-- 9. `BankCalls`: `step_calls_bank`, whether a step has a device call its bank; `fd_core`, `BankCalls`, says where a device does.
+-- 10. `Moments`: `IsGrown` and `IsTiedBetween`, what two moments have to do with each other.
+-- 11. `Messages`: `IsRunOfMessages`, the same devices, sessions and history without packets, tags and time.
+-- 12. `Widths`: `HasDeviceWidths` and `HavePackageWidths`, what a device and the packages are made of fits the fields of messages.
 use Rattle.std.specs.Prelude.{ℕ, ◌≡◌, ◌≢◌, ◌≤◌, ◌-◌, ◌^◌, ◌==◌, ◌&&◌, ◌||◌, ◌∷◌, ◌++◌, [], Bool, true, false, if◌then◌else◌, nat_lt, nat_le, IfSome, IsSomeAnd, is_some, List, length, map, Option, Some, None}
 use Rattle.std.specs.List.{All, AllByRecursion, list_all}
 use Rattle.mctp_ctl.specs.declared.answers.Endpoint.{Endpoint}
@@ -46,6 +47,7 @@ use Rattle.fw_message.specs.Pairs.{PairOf, PairRun}
 use Rattle.fw_message.specs.WorldLaws.{history_of}
 use Rattle.fw_node.specs.Agents.{cancels, free_for, half_for, new_agent, ready_for, starts}
 use Rattle.fw_node.specs.Nodes.{DeviceNodeOf, new_device_node}
+use Rattle.fw_steps.specs.BankCalls.{step_calls_bank}
 use Rattle.fw_steps.specs.Messages.{IsRunOfMessages}
 use Rattle.fw_steps.specs.Moments.{IsGrown, IsTiedBetween}
 use Rattle.fw_steps.specs.Widths.{HasDeviceWidths, HavePackageWidths}
@@ -221,8 +223,8 @@ faults_before w s = faults_of (site_for w.sites (node_of s))
 
 -- A RUN
 
--- A step leads from one world to another: it may be taken, and a call of a bank fails only where that bank's count of failures
--- tells so.
+-- A step leads from one world to another: it may be taken, and a call of a bank fails only where the step has a device call its
+-- bank, and only where that bank's count of failures tells so.
 pub record Leads (w : WorldOf) (s : Step) (v : WorldOf) : Type 0 where
   pub may : may_step w s ≡ None
   pub works : Bool
@@ -230,6 +232,7 @@ pub record Leads (w : WorldOf) (s : Step) (v : WorldOf) : Type 0 where
   pub after : v ≡ world_after works faults w s
   pub worked : works ≡ true → faults ≡ faults_before w s
   pub failed : works ≡ false → Rose (faults_before w s) faults
+  pub called : works ≡ false → step_calls_bank w s ≡ true
 
 -- each step leads on from where the one before it led
 abbrev pub Run : WorldOf → List Step → WorldOf → Type 0

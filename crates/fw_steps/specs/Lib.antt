@@ -1,7 +1,10 @@
 pub mod Absences
 pub mod Alone
+pub mod BankCalls
+pub mod CallCases
 pub mod Cases
 pub mod Clocks
+pub mod Counts
 pub mod Dead
 pub mod Deliveries
 pub mod Faults
@@ -19,6 +22,8 @@ pub mod Packets
 pub mod Plays
 pub mod Replays
 pub mod Sites
+pub mod StepCases
 pub mod Widths
 pub mod Traces
+pub mod WorldCases
 pub mod Worlds

@@ -9,6 +9,7 @@ use Rattle.arrayvec.specs.declared.array_vec.ArrayVec.{ArrayVec}
 use Rattle.exch_lane.specs.Lanes.{Sent}
 use Rattle.exch_lane.specs.Steps.{sent_at}
 use Rattle.fw_package.specs.Package.{PackageText}
+use Rattle.fd_core.specs.BankCalls.{verdict_calls_bank}
 use Rattle.fd_core.specs.Banks.{Rose}
 use Rattle.fd_core.specs.Steps.{device_verdict}
 use Rattle.fd_core.specs.declared.states.Verdict.{Verdict}
@@ -17,6 +18,8 @@ use Rattle.fw_message.specs.Worlds.{NotedOf}
 use Rattle.fw_message.specs.Laws.{IsSafeAndTied}
 use Rattle.fw_message.specs.WorldLaws.{history_of}
 use Rattle.fw_node.specs.Agents.{AgentOf, agent_hears, any_packet, free_for, half_for, ready_for}
+use Rattle.fw_node.specs.BankCalls.{packet_calls_bank}
+use Rattle.fw_node.specs.Cores.{device_core}
 use Rattle.fw_node.specs.Nodes.{DeviceNodeOf}
 use Rattle.fw_steps.specs.Alone.{AgentCall, AreRunCalls, DeviceCall, agent_after_calls, agent_step_packets, device_after_calls, device_step_packets, device_call_entries, is_for, pair_of_nodes}
 use Rattle.fw_steps.specs.Headline.{IsOpeningWorld, Run, is_device, is_package, pair_run, ready_fault, start_fault}
@@ -153,14 +156,19 @@ AgentMayCall packages n (AgentCall.Cancels now device) = is_some (half_for n dev
 AgentMayCall packages n (AgentCall.Activates now device) = (is_some (half_for n device) ≡ true) × (ready_fault (ready_for n device) ≡ None)
 AgentMayCall packages n call = Unit {0}
 
--- A call of a bank that works leaves its count of failures as it is. One that fails raises it.
-pub record CallsBank (before : ℕ) (works : Bool) (faults : ℕ) : Type 0 where
+-- A call of a bank that works leaves its count of failures as it is. One that fails raises it, and only a call of the node that
+-- calls the bank has one that fails.
+pub record CallsBank (calls : Bool) (before : ℕ) (works : Bool) (faults : ℕ) : Type 0 where
   pub worked : works ≡ true → faults ≡ before
   pub failed : works ≡ false → Rose before faults
+  pub called : works ≡ false → calls ≡ true
 
 abbrev pub DeviceMayCall : DeviceNodeOf → DeviceCall → Type 0
-DeviceMayCall n (DeviceCall.Receives works faults bytes) = CallsBank n.faults works faults
-DeviceMayCall n (DeviceCall.Judges works faults verdict) = CallsBank n.faults works faults × (is_some (device_verdict n.half.core.device verdict works) ≡ true)
+DeviceMayCall n (DeviceCall.Receives works faults bytes) =
+    CallsBank (packet_calls_bank device_core n.half bytes) n.faults works faults
+DeviceMayCall n (DeviceCall.Judges works faults verdict) =
+    CallsBank (verdict_calls_bank n.half.core.device verdict) n.faults works faults
+    × (is_some (device_verdict n.half.core.device verdict works) ≡ true)
 DeviceMayCall n call = Unit {0}
 
 -- A packet is received after its peer sent it with this stamp, and no later than 8 units after the

@@ -1,5 +1,6 @@
 -- A device's node in the world, as the code has it.
 use Rattle.std.specs.Prelude.{ℕ, ◌≡◌, ◌≤◌, ◌<◌, ◌⊎◌, ◌++◌, [], ◌∷◌, Bool, false, true, IfSome, is_some, List, length, map, slice_get, slice_set, Option, Some, None}
+use Rattle.fd_core.specs.BankCalls.{verdict_calls_bank}
 use Rattle.fd_core.specs.Banks.{Rose}
 use Rattle.fd_core.specs.States.{DeviceState, Phase}
 use Rattle.fd_core.specs.Images.{Put, RowOf, applied_of, puts, row_of}
@@ -8,6 +9,8 @@ use Rattle.fd_core.specs.Steps.{applied_by, device_verdict}
 use Rattle.fd_core.specs.declared.states.Verdict.{Verdict}
 use Rattle.fw_message.specs.History.{EntryOf}
 use Rattle.fw_message.specs.Worlds.{NotedOf, noted_of}
+use Rattle.fw_node.specs.BankCalls.{packet_calls_bank}
+use Rattle.fw_node.specs.Cores.{device_core}
 use Rattle.fw_node.specs.Nodes.{device_hears, device_judges}
 use Rattle.fw_node.specs.Packets.{all_packets}
 use Rattle.fw_steps.specs.Worlds.{SiteOf, activated_at, node_becomes, sent_now}
@@ -17,8 +20,8 @@ pub record RoomyOf : Type 0 where
   pub site : SiteOf
   pub room : ℕ
 
--- What a packet makes of a device's node and its packets: `works` says whether its bank's one call succeeded, and a call fails
--- only where its bank's count of failures tells so.
+-- What a packet makes of a device's node and its packets: `works` says whether its bank's one call succeeded. A call fails only
+-- where the packet has the node call its bank, and only where the bank's count of failures tells so.
 pub record Hears (now : ℕ) (old : SiteOf) (bytes : List ℕ) (new : SiteOf) : Type 0 where
   pub works : Bool
   pub node : new.node ≡ node_becomes old.node new.node.faults (device_hears works old.node bytes).tid (device_hears works old.node bytes).half
@@ -26,6 +29,7 @@ pub record Hears (now : ℕ) (old : SiteOf) (bytes : List ℕ) (new : SiteOf) : 
   pub packets : new.packets ≡ old.packets ++ sent_now now (all_packets old.node.half.unit (device_hears works old.node bytes).sent)
   pub worked : works ≡ true → new.node.faults ≡ old.node.faults
   pub failed : works ≡ false → Rose old.node.faults new.node.faults
+  pub called : works ≡ false → packet_calls_bank device_core old.node.half bytes ≡ true
 
 -- and of the history: what is activated is noted
 pub record HearsNoting (now : ℕ) (old : SiteOf) (bytes : List ℕ) (new : SiteOf) (before after : List NotedOf) : Type 0 where
@@ -41,6 +45,7 @@ pub record Judges (old : SiteOf) (verdict : Verdict) (new : SiteOf) : Type 0 whe
   pub packets : new.packets ≡ old.packets
   pub worked : works ≡ true → new.node.faults ≡ old.node.faults
   pub failed : works ≡ false → Rose old.node.faults new.node.faults
+  pub called : works ≡ false → verdict_calls_bank old.node.half.core.device verdict ≡ true
 
 -- and of the history: what is applied is noted
 pub record JudgesNoting (old : SiteOf) (verdict : Verdict) (new : SiteOf) (before after : List NotedOf) : Type 0 where

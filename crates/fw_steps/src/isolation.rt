@@ -1,6 +1,7 @@
 //! What is between the agent and a device depends on no other device.
 
 ghost use Rattle.fw_steps.specs.Cases.{AgreementSeesThePair};
+ghost use Rattle.fw_steps.specs.Counts.{CountsNeedCalls};
 ghost use Rattle.fw_steps.specs.Isolation.{DevicesAreIsolated};
 
 use crate::links::{links_are_lanes, links_are_messages};
@@ -20,3 +21,12 @@ pub fn devices_are_isolated()
 pub fn agreement_sees_the_pair()
     ensures law { AgreementSeesThePair }
 {}
+
+/// A count of failures changes only where a bank is called: each step that has no device call its bank leaves the count of each.
+pub fn counts_need_calls()
+    ensures law { CountsNeedCalls }
+{
+    exch_lane::lane_is_a_cell();
+    links_are_lanes();
+    links_are_messages();
+}

@@ -16,6 +16,7 @@ mod sites;
 mod state;
 mod step;
 mod ticks;
+mod trials;
 mod world;
 
 pub use fw_message::{
@@ -23,7 +24,7 @@ pub use fw_message::{
     message_replay, messages_are_safe, runs_stay_tied, worlds_are_safe,
 };
 pub use headline::{clocks_keep_time, moments_are_tied, packets_are_messages, packets_are_safe};
-pub use isolation::{agreement_sees_the_pair, devices_are_isolated};
+pub use isolation::{agreement_sees_the_pair, counts_need_calls, devices_are_isolated};
 pub use links::{links_are_lanes, links_are_messages, messages_round_trip};
 pub use packets::{SentPacket, SentPackets};
 pub use processes::{
@@ -31,4 +32,5 @@ pub use processes::{
     processes_are_safe, traces_are_cut, traces_are_plays, traces_are_safe,
 };
 pub use step::{LogRequest, Missed, Refusal, Step, StepFault};
+pub use trials::{bank_calls_are_judged, steps_are_judged, worlds_are_judged};
 pub use world::World;

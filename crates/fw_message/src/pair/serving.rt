@@ -146,7 +146,8 @@ impl<'a, B: Bank> Pair<'a, B> {
         ensures same { result ≡ None → self.new ≡ self.old }
         ensures worked { IfSome result (λ r. r.0 ≡ true → self.new.faults ≡ self.old.faults) }
         ensures failed { IfSome result (λ r. r.0 ≡ false → Rose self.old.faults self.new.faults) }
-        ensures called { IfSome result (λ r. r.0 ≡ false → pair_step_calls_bank self.old.node.pair (StepOf.Judge verdict true) ≡ true) }
+        ensures called { IfSome result (λ r. r.0 ≡ false
+            → pair_step_calls_bank self.old.node.pair (StepOf.Judge verdict true) ≡ true) }
         ensures eid { self.new.node.eid ≡ self.old.node.eid }
     {
         let staged = self.device.staged();

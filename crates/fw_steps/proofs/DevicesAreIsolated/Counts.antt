@@ -7,6 +7,7 @@ use Rattle.fw_package.specs.Package.{PackageText}
 use Rattle.fd_core.specs.Banks.{Rose}
 use Rattle.fd_core.specs.declared.states.Verdict.{Verdict}
 use Rattle.fw_message.specs.declared.side.Side.TheVariants as sides
+use Rattle.fw_steps.specs.BankCalls.{step_calls_bank}
 use Rattle.fw_steps.specs.Headline.{Leads, faults_before, world_after}
 use Rattle.fw_steps.specs.Isolation.{faults_at}
 use Rattle.fw_steps.specs.Links.{LinkOf, LinkStep, LinkStepped, delivers_on}
@@ -88,3 +89,22 @@ goes_or_fails w v s eid p k h f i =
     subst (λ u. GoesWell w u s eid p ⊎ Rose (faults_at w eid) (faults_at u eid)) (sym h.after)
     (goes_by (calls_bank w.agent.endpoint.eid s eid) h.works w (world_after h.works h.faults w s) s h.faults eid p refl
     (seen_after h.works h.faults w s eid p k h.may f i) (count_after h.works h.faults w s eid p k h.may f i) h.worked h.failed)
+
+-- a call that works, or none
+stays_by : (called works : Bool) (w u : WorldOf) (s : Step) (faults eid : ℕ) → calls_bank w.agent.endpoint.eid s eid ≡ called
+    → faults_at u eid ≡ count_if called faults (faults_at w eid) → (works ≡ true → faults ≡ faults_before w s) → works ≡ true → faults_at u eid ≡ faults_at w eid
+stays_by false works w u s faults eid e count worked well = count
+stays_by true works w u s faults eid e count worked well = count ∙ worked well ∙ called_count w s eid e
+
+-- a step works where it has no bank called
+works_by : (works called : Bool) → (works ≡ false → called ≡ true) → called ≡ false → works ≡ true
+works_by true called h e = refl
+works_by false called h e = absurd (let f = h refl in cc)
+
+-- Where no bank is called, the count stays.
+pub count_stays : (w v : WorldOf) (s : Step) (eid : ℕ) (p : SeenOf) → AreLinked w → (h : Leads w s v) → Follows h.works s w (world_after h.works h.faults w s) → IsSeen w eid p
+    → step_calls_bank w s ≡ false → faults_at v eid ≡ faults_at w eid
+count_stays w v s eid p k h f i none =
+    ap (λ u. faults_at u eid) h.after
+    ∙ stays_by (calls_bank w.agent.endpoint.eid s eid) h.works w (world_after h.works h.faults w s) s h.faults eid refl (count_after h.works h.faults w s eid p k h.may f i)
+    h.worked (works_by h.works (step_calls_bank w s) h.called none)

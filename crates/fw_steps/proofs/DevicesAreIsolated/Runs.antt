@@ -2,6 +2,7 @@
 -- device, so that two runs with the same lead to the same.
 use Rattle.std.proofs.Common.{◌≡◌, ◌≢◌, ◌⊎◌, ◌∙◌, ◌≤◌, ◌<◌, ◌-◌, ◌^◌, ◌==◌, ◌&&◌, ◌||◌, ◌+◌, ℕ, Bool, true, false, cond, List, [], ◌∷◌, map, Option, Some, None, inl, inr, refl, sym, ap, subst, arith}
 use Rattle.std.specs.List.{filter}
+use Rattle.std.specs.Prelude.{IfSome}
 use Rattle.std.proofs.lemmas.Bool.{cases_lt}
 use Rattle.exch_lane.specs.Laws.{LaneIsACell}
 use Rattle.fw_package.specs.Package.{PackageText}
@@ -10,15 +11,17 @@ use Rattle.ua_core.specs.Session.{TimedOf}
 use Rattle.fw_message.specs.WorldLaws.{history_of}
 use Rattle.fw_node.specs.Agents.{half_for}
 use Rattle.fw_node.specs.Halves.{HalfOf}
+use Rattle.fw_steps.specs.BankCalls.{step_calls_bank}
+use Rattle.fw_steps.specs.Counts.{CountsNeedCalls}
 use Rattle.fw_steps.specs.Headline.{IsReached, Leads, Run}
-use Rattle.fw_steps.specs.Isolation.{AgreeIn, ConcernOf, DevicesAreIsolated, IsUnfailed, SharedOf, concern_of, concerns, faults_at, shared_by, shared_with, steps_of}
+use Rattle.fw_steps.specs.Isolation.{AgreeIn, ConcernOf, DevicesAreIsolated, IsUnfailed, SharedOf, concern_of, concerns, faults_at, shared_by, shared_with, steps_of, uncounted}
 use Rattle.fw_steps.specs.LinksAreMessages.{LinksAreMessages}
 use Rattle.fw_steps.specs.LinksAreLanes.{LinksAreLanes}
 use Rattle.fw_steps.specs.Links.{LinkOf, LinkStep}
-use Rattle.fw_steps.specs.Worlds.{SiteOf, WorldOf, site_for}
+use Rattle.fw_steps.specs.Worlds.{SiteOf, WorldOf, pair_with, site_for}
 use Rattle.fw_steps.specs.declared.step.Step.{Step}
 use Rattle.fw_steps.specs.declared.step.Step.TheVariants as steps
-use Rattle.fw_steps.proofs.DevicesAreIsolated.Counts.{GoesWell, goes_or_fails}
+use Rattle.fw_steps.proofs.DevicesAreIsolated.Counts.{GoesWell, count_stays, goes_or_fails}
 use Rattle.fw_steps.proofs.DevicesAreIsolated.Seen.{IsSeen, SeenOf, seen_after, seen_then}
 use Rattle.fw_steps.proofs.LinksAreLanes.Delivered.{IsLinkOf}
 use Rattle.fw_steps.proofs.LinksAreLanes.Linked.{linked_world}
@@ -343,3 +346,19 @@ devices_isolated law lanes messages = λ device w v first second ss ts reached_w
       shared = two_share law lanes messages reached_w.opening reached_v.opening w v first second ss ts device (shared_with w device)
           (stands_there law lanes messages w reached_w) (stands_there law lanes messages v reached_v) run_w run_v agree same fine_w fine_v refl;
     }
+
+-- COUNTS
+
+-- a device that is there is seen
+count_by : LaneIsACell → (opening w v : WorldOf) (s : Step) (eid : ℕ) (o : Option (HalfOf TimedOf)) (x : Option SiteOf) → Stand opening w → Leads w s v → step_calls_bank w s ≡ false
+    → half_for w.agent eid ≡ o → site_for w.sites eid ≡ x → IfSome (pair_with o x) (λ m. faults_at v eid ≡ faults_at w eid)
+count_by law opening w v s eid None x k h none half site = tt
+count_by law opening w v s eid (Some one) None k h none half site = tt
+count_by law opening w v s eid (Some one) (Some x) k h none half site =
+    let q : SharedOf = record { node = uncounted x.node; half = one; deaf = w.agent.deaf; agent_since_miss = w.since_miss; device_since_miss = x.since_miss; packets = x.packets; history = history_of eid w.history } in
+    count_stays w v s eid (seen_of q) (linked_world w (known_links opening w k)) h (world_follows law opening w v s k h) (sees w eid (Some one) (Some x) q half site refl) none
+
+-- A count of failures changes only where a bank is called.
+pub counts_need_calls : LaneIsACell → LinksAreLanes → LinksAreMessages → CountsNeedCalls
+counts_need_calls law lanes messages w v s reached h none device =
+    count_by law reached.opening w v s device (half_for w.agent device) (site_for w.sites device) (stands_there law lanes messages w reached) h none refl refl

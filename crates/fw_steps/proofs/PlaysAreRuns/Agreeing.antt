@@ -12,6 +12,7 @@ use Rattle.fw_node.specs.Agents.{AgentOf}
 use Rattle.fw_node.specs.Nodes.{DeviceNodeOf}
 use Rattle.fw_steps.specs.Alone.{AgentCall, DeviceCall, agent_after_calls, agent_step_calls, agent_step_packets, device_after_calls, device_step_calls, site_step_packets, is_for, pair_step_packets, step_date, device_step_packets}
 use Rattle.fw_steps.specs.Headline.{faults_before, may_step, world_after}
+use Rattle.fw_steps.specs.BankCalls.{step_calls_bank}
 use Rattle.fw_steps.specs.Plays.{AgentProcess, CallsBank, DeviceProcess, PlayStep, agent_calls_of, agent_process_after_step, agent_process_after, agent_process_after_steps, device_calls_of, device_process_after_step, device_process_after, device_process_after_steps, pair_step_entries, unit_after_step}
 use Rattle.fw_steps.specs.Worlds.{SiteOf, WorldOf, eids_of, packets_of, sent_now, site_for}
 use Rattle.fw_steps.specs.declared.step.Step.{Step}
@@ -63,7 +64,7 @@ pub record Agrees (opening : WorldOf) (before : List PlayStep) (w : WorldOf) : T
 -- notes what they note.
 pub record IsStepOf (w : WorldOf) (works : Bool) (faults : ℕ) (h : PlayStep) (s : Step) : Type 0 where
   pub may : may_step w s ≡ None
-  pub bank : CallsBank (faults_before w s) works faults
+  pub bank : CallsBank (step_calls_bank w s) (faults_before w s) works faults
   pub unit : now_then w.now s ≡ unit_after_step w.now h
   pub dated : step_date w.now s ≡ unit_after_step w.now h
   pub agent : agent_step_calls w s ≡ agent_calls_of w.now h

@@ -1,5 +1,5 @@
 -- Which steps may follow in a play, in the words of a world that agrees with it (`may_at`).
-use Rattle.std.proofs.Common.{◌≡◌, ◌∙◌, ◌+◌, ◌-◌, ◌^◌, ◌==◌, ◌<◌, ◌≤◌, ℕ, true, List, [], ◌∷◌, map, Option, Some, None, refl, sym, ap, subst}
+use Rattle.std.proofs.Common.{◌≡◌, Bool, ◌∙◌, ◌+◌, ◌-◌, ◌^◌, ◌==◌, ◌<◌, ◌≤◌, ℕ, true, List, [], ◌∷◌, map, Option, Some, None, refl, sym, ap, subst}
 use Rattle.std.specs.List.{AllByRecursion, Contains, list_all}
 use Rattle.std.proofs.lemmas.Bool.{lt-ltb}
 use Rattle.exch_lane.specs.Lanes.{Sent, numbered}
@@ -97,8 +97,8 @@ may_at opening w before h opens a may =
     }
 
 -- No bank is called.
-pub no_bank : (faults : ℕ) → CallsBank faults true faults
-no_bank faults = record { worked = λ e. refl; failed = λ e. absurd (cc) }
+pub no_bank : (calls : Bool) (faults : ℕ) → CallsBank calls faults true faults
+no_bank calls faults = record { worked = λ e. refl; failed = λ e. absurd (cc); called = λ e. absurd (cc) }
 
 -- Every node may count a tick.
 all_beat : (xs : List SiteOf) → list_all (may_site_beat []) xs ≡ true

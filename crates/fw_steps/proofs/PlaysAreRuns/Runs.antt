@@ -49,7 +49,7 @@ runs_on opening w before (h ∷ hs) opens a may =
     let k = has_step w h (may_at opening w before h opens a may.0) in
     let v = world_after k.works k.faults w k.step in
     let rest = runs_on opening v (before ++ h ∷ []) hs opens (steps_on opening w k.works k.faults before h k.step a k.is) may.1 in
-    let leads : Leads w k.step v = record { may = k.is.may; works = k.works; faults = k.faults; after = refl; worked = k.is.bank.worked; failed = k.is.bank.failed } in
+    let leads : Leads w k.step v = record { may = k.is.may; works = k.works; faults = k.faults; after = refl; worked = k.is.bank.worked; failed = k.is.bank.failed; called = k.is.bank.called } in
     record {
       steps = k.step ∷ rest.steps;
       world = rest.world;

@@ -9,7 +9,10 @@ use Rattle.fd_core.specs.States.{DeviceState, Phase}
 use Rattle.fd_core.specs.Steps.{verdict_at}
 use Rattle.fw_message.specs.History.{EntryOf}
 use Rattle.fw_message.specs.WorldLaws.{history_of}
+use Rattle.fw_node.specs.BankCalls.{packet_calls_bank}
+use Rattle.fw_node.specs.Cores.{device_core}
 use Rattle.fw_steps.specs.Alone.{DeviceCall, agent_step_calls, device_step_calls, step_date}
+use Rattle.fw_steps.specs.BankCalls.{judgement_calls_bank, step_calls_bank}
 use Rattle.fw_steps.specs.Headline.{faults_before, faults_of, may_step, verdict_fault}
 use Rattle.fw_steps.specs.Plays.{CallsBank, DeviceMayCall, PlayStep, agent_calls_of, device_calls_of, pair_step_entries, unit_after_step}
 use Rattle.fw_steps.specs.Worlds.{SiteOf, WorldOf, full_tick, site_for}
@@ -44,7 +47,7 @@ quiet_step w h s quiet may unit dated agent device none = record {
   step = s;
   is = record {
     may = may;
-    bank = no_bank (faults_before w s);
+    bank = no_bank (step_calls_bank w s) (faults_before w s);
     unit = unit;
     dated = dated;
     agent = agent;
@@ -66,7 +69,7 @@ has_step w (PlayStep.AgentReceives device stamp bytes) k =
       step = s;
       is = record {
         may = may_come w device c.number w.agent.endpoint.eid (sent_at stamp bytes) (ap is_some c.there) (rw own refl) c.at c.soon;
-        bank = no_bank (faults_before w s);
+        bank = no_bank (step_calls_bank w s) (faults_before w s);
         unit = refl;
         dated = refl;
         agent = rw (own, c.at) refl;
@@ -78,6 +81,7 @@ has_step w (PlayStep.DeviceReceives device works faults stamp bytes) k =
     let c = k.carried in
     let other = device_differs w device c.site k.apart c.there in
     let s = steps.Deliver device c.number device in
+    let calls : step_calls_bank w s ≡ packet_calls_bank device_core c.site.node.half bytes = rw (c.at, other, c.there) refl in
     let done = (subst (λ (b : Bool). AllByRecursion (DeviceMayCall c.site.node) (if b then DeviceCall.Receives works faults bytes ∷ [] else [])) (equals device device refl) (k.devices device c.site c.there)).0 in
     record {
       works = works;
@@ -85,7 +89,8 @@ has_step w (PlayStep.DeviceReceives device works faults stamp bytes) k =
       step = s;
       is = record {
         may = may_come w device c.number device (sent_at stamp bytes) (ap is_some c.there) (rw (other, ap is_some c.there) refl) c.at c.soon;
-        bank = subst (λ (o : Option SiteOf). CallsBank (faults_of o) works faults) (sym c.there) done;
+        bank = subst (λ (b : Bool). CallsBank b (faults_before w s) works faults) (sym calls)
+            (subst (λ (o : Option SiteOf). CallsBank (packet_calls_bank device_core c.site.node.half bytes) (faults_of o) works faults) (sym c.there) done);
         unit = refl;
         dated = refl;
         agent = rw other refl;
@@ -114,7 +119,7 @@ has_step w (PlayStep.Judges device works faults verdict) k =
       step = s;
       is = record {
         may = subst (λ (o : Option SiteOf). verdict_fault verdict o ≡ None) (sym x.is) (rw (sym (counts_too x.one.node.half.core.device x.one.node.half.core.device.phase verdict works) ∙ done.1) refl);
-        bank = subst (λ (o : Option SiteOf). CallsBank (faults_of o) works faults) (sym x.is) done.0;
+        bank = subst (λ (o : Option SiteOf). CallsBank (judgement_calls_bank verdict o) (faults_of o) works faults) (sym x.is) done.0;
         unit = refl;
         dated = refl;
         agent = refl;

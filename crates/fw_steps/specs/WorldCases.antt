@@ -1,0 +1,150 @@
+-- Worlds by hand, on which three definitions are tried: two tied moments, the same world over whole messages, and a bank that
+-- didn't fail.
+use Rattle.std.specs.Prelude.{ℕ, ◌-◌, ◌^◌, ◌∷◌, [], List, None, Some, map, take}
+use Rattle.fd_core.specs.Images.{RowOf}
+use Rattle.fd_core.specs.States.{Phase}
+use Rattle.ua_core.specs.Session.{TimedOf}
+use Rattle.ua_core.specs.declared.planned.Recorded.{Recorded}
+use Rattle.fw_message.specs.Cases.{activates, bank, boot, image, new_boot, old_boot, packages, recorded, worked}
+use Rattle.fw_message.specs.Worlds.{NodeOf, NotedOf, WorldOf as MessageWorldOf, noted_of}
+use Rattle.fw_node.specs.Halves.{HalfOf}
+use Rattle.fw_steps.specs.Isolation.{IsUnfailed}
+use Rattle.fw_steps.specs.Messages.{IsSameWorld}
+use Rattle.fw_steps.specs.Moments.{IsTiedBetween}
+use Rattle.fw_steps.specs.StepCases.{with_agent}
+use Rattle.fw_steps.specs.Worlds.{SiteOf, WorldOf}
+
+-- any parts of a world
+pub record PartsOf : Type 0 where
+  pub world : WorldOf
+  pub site : SiteOf
+  pub half : HalfOf TimedOf
+
+-- a device's node with this identifier, whose bank has these images and failed so often
+abbrev pub site_with : SiteOf → (eid faults : ℕ) → List RowOf → SiteOf
+site_with x eid faults rows =
+    record x {
+      node = record x.node {
+        endpoint = record x.node.endpoint { eid = eid };
+        half = record x.node.half {
+          core = record x.node.half.core { device = record x.node.half.core.device { rows = rows; phase = Phase.Idle } };
+        };
+        faults = faults;
+      };
+    }
+
+-- the agent's half for a device, whose session has these records
+abbrev pub half_with : HalfOf TimedOf → (peer : ℕ) → List Recorded → HalfOf TimedOf
+half_with h peer made = record h { peer = peer; core = record h.core { session = record h.core.session { records = made } } }
+
+-- a world of the agent 8, with these nodes and this history
+abbrev pub world_with : PartsOf → List (HalfOf TimedOf) → List SiteOf → List NotedOf → WorldOf
+world_with p halves sites history =
+    record (with_agent p.world 8) {
+      packages = packages;
+      agent = record (with_agent p.world 8).agent { halves = halves };
+      sites = sites;
+      history = history;
+    }
+
+-- with the device 9 alone
+abbrev pub world_of : PartsOf → List RowOf → List Recorded → List NotedOf → WorldOf
+world_of p rows made history = world_with p (half_with p.half 9 made ∷ []) (site_with p.site 9 0 rows ∷ []) history
+
+-- TWO MOMENTS
+
+-- the worlds of the worked update: before it, before its activation, and after it
+abbrev pub before_update : PartsOf → WorldOf
+before_update p = world_of p (bank old_boot None) [] []
+
+abbrev pub before_activation : PartsOf → WorldOf
+before_activation p = world_of p (bank old_boot (Some (image new_boot))) (recorded 1 0 ∷ []) (map (noted_of 9) (take 2 worked))
+
+abbrev pub after_update : PartsOf → WorldOf
+after_update p = world_of p (bank new_boot None) (recorded 1 0 ∷ []) (map (noted_of 9) worked)
+
+-- any two of these are tied, in order, and each with itself
+pub record TiedMoments : Type 0 where
+  pub whole : (p : PartsOf) → IsTiedBetween (before_update p) (after_update p)
+  pub first : (p : PartsOf) → IsTiedBetween (before_update p) (before_activation p)
+  pub rest : (p : PartsOf) → IsTiedBetween (before_activation p) (after_update p)
+  pub same : (p : PartsOf) → IsTiedBetween (after_update p) (after_update p)
+
+-- What isn't tied: the old image that still runs, an image that runs and wasn't activated since, an applied image of before the
+-- activation, a record that is missing, one that wasn't made since, an activation of another device, and a device that is gone.
+pub record UntiedMoments : Type 0 where
+  pub old_runs : (p : PartsOf) →
+      IsTiedBetween (before_update p) (world_of p (bank old_boot None) (recorded 1 0 ∷ []) (map (noted_of 9) worked)) → ⊥
+  pub runs_too_soon : (p : PartsOf) →
+      IsTiedBetween (before_update p) (world_of p (bank new_boot None) (recorded 1 0 ∷ []) (map (noted_of 9) (take 2 worked))) → ⊥
+  pub applied_before : (p : PartsOf) →
+      IsTiedBetween (before_update p)
+      (world_of p (bank new_boot (Some (image new_boot))) (recorded 1 0 ∷ []) (map (noted_of 9) worked)) → ⊥
+  pub not_there : (p : PartsOf) →
+      IsTiedBetween (before_update p) (world_of p (bank new_boot None) [] (map (noted_of 9) worked)) → ⊥
+  pub not_made : (p : PartsOf) →
+      IsTiedBetween (after_update p)
+      (world_of p (bank new_boot None) (recorded 1 0 ∷ recorded 1 0 ∷ []) (map (noted_of 9) worked)) → ⊥
+  pub of_another : (p : PartsOf) →
+      IsTiedBetween (before_update p) (world_of p (bank new_boot None) [] (noted_of 10 (activates boot new_boot) ∷ [])) → ⊥
+  pub gone : (p : PartsOf) → IsTiedBetween (before_update p) (world_with p [] [] []) → ⊥
+
+-- THE SAME WORLD OVER WHOLE MESSAGES
+
+-- the device of a world by hand, and the agent's session for it, in a world of messages
+abbrev pub message_node : PartsOf → (eid : ℕ) → List RowOf → List Recorded → NodeOf
+message_node p eid rows made =
+    record {
+      eid = eid;
+      pair = record {
+        device = (site_with p.site 9 0 rows).node.half.core.device;
+        session = (half_with p.half 9 made).core.session;
+        down = None;
+        up = None;
+      };
+    }
+
+abbrev pub messages_of : (agent : ℕ) → List NodeOf → List NotedOf → MessageWorldOf
+messages_of agent nodes history = record { agent = agent; packages = packages; nodes = nodes; history = history }
+
+abbrev pub message_world : PartsOf → MessageWorldOf
+message_world p = messages_of 8 (message_node p 9 (bank new_boot None) (recorded 1 0 ∷ []) ∷ []) (map (noted_of 9) worked)
+
+-- the same world, and one that differs from it in its packages, its agent, an identifier, a device, a session, the history, or the
+-- number of its devices
+pub record SameWorlds : Type 0 where
+  pub same : (p : PartsOf) → IsSameWorld (after_update p) (message_world p)
+  pub packages : (p : PartsOf) → IsSameWorld (after_update p) (record (message_world p) { packages = [] }) → ⊥
+  pub agent : (p : PartsOf) → IsSameWorld (after_update p) (record (message_world p) { agent = 9 }) → ⊥
+  pub eid : (p : PartsOf) →
+      IsSameWorld (after_update p)
+      (record (message_world p) { nodes = message_node p 10 (bank new_boot None) (recorded 1 0 ∷ []) ∷ [] }) → ⊥
+  pub device : (p : PartsOf) →
+      IsSameWorld (after_update p)
+      (record (message_world p) { nodes = message_node p 9 (bank old_boot None) (recorded 1 0 ∷ []) ∷ [] }) → ⊥
+  pub session : (p : PartsOf) →
+      IsSameWorld (after_update p) (record (message_world p) { nodes = message_node p 9 (bank new_boot None) [] ∷ [] }) → ⊥
+  pub history : (p : PartsOf) →
+      IsSameWorld (after_update p) (record (message_world p) { history = map (noted_of 9) (take 2 worked) }) → ⊥
+  pub none : (p : PartsOf) → IsSameWorld (after_update p) (record (message_world p) { nodes = [] }) → ⊥
+
+-- A BANK THAT DIDN'T FAIL
+
+-- the devices 9 and 10, whose banks failed so often
+abbrev pub banks_failed : PartsOf → (first second : ℕ) → WorldOf
+banks_failed p first second = world_with p [] (site_with p.site 9 first [] ∷ site_with p.site 10 second [] ∷ []) []
+
+-- The count of the device's own bank matters, and it may not be at its last value.
+pub record UnfailedBanks : Type 0 where
+  pub same : (p : PartsOf) → IsUnfailed 9 (banks_failed p 3 0) (banks_failed p 3 0)
+  pub other_rose : (p : PartsOf) → IsUnfailed 9 (banks_failed p 3 0) (banks_failed p 3 1)
+  pub rose : (p : PartsOf) → IsUnfailed 9 (banks_failed p 3 0) (banks_failed p 4 0) → ⊥
+  pub last : (p : PartsOf) → IsUnfailed 9 (banks_failed p (2 ^ 64 - 1) 0) (banks_failed p (2 ^ 64 - 1) 0) → ⊥
+  pub second_rose : (p : PartsOf) → IsUnfailed 10 (banks_failed p 3 0) (banks_failed p 3 1) → ⊥
+
+-- The definitions hold where they are to hold, and nowhere near.
+pub record WorldsAreJudged : Type 0 where
+  pub tied : TiedMoments
+  pub untied : UntiedMoments
+  pub messages : SameWorlds
+  pub banks : UnfailedBanks
