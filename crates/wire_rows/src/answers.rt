@@ -217,6 +217,58 @@ fn reads_answers_and_writes_them_back(rt: HostRuntime) {
     }
 }
 
+/// The one descriptor above with another last byte.
+const OTHER_DESCRIPTOR: [u8; 12] = [0, 6, 0, 0, 0, 1, 0, 0, 2, 0, 0x34, 0x13];
+
+/// The one component above, whose text is `1.1`.
+const OTHER_COMPONENT: [u8; 53] = [
+    0, 0, 0, 0, 0, 1, 0, 0, 0, 0, 0, 0x0A, 0, 1, 0, 0, 1, 0, 0, 0, 1, 3, 0, 0, 0, 0, 0, 0, 0, 0, 0,
+    0, 0, 0, 0, 0, 0, 0, 0, 0, 0, 0, 0, 0, 2, 0, 0, 0, 0, 0, 0x31, 0x2E, 0x31,
+];
+
+/// Whether these bytes are answers, to a command each, that are equal.
+fn are_equal(one: (u8, &[u8]), other: (u8, &[u8])) -> bool {
+    match (read_answer(one.0, one.1), read_answer(other.0, other.1)) {
+        (Ok(one), Ok(other)) => one == other,
+        _ => false,
+    }
+}
+
+#[test]
+fn tells_answers_apart(rt: HostRuntime) {
+    for (place, one) in WHOLE.iter().enumerate() {
+        for (another, other) in WHOLE.iter().enumerate() {
+            assert!(rt;
+                are_equal(*one, *other) == (place == another),
+                "{place} {another}"
+            );
+        }
+    }
+    let (descriptors, components) = (
+        command::QUERY_DEVICE_IDENTIFIERS,
+        command::GET_FIRMWARE_PARAMETERS,
+    );
+    assert!(rt;
+        !are_equal(
+            (descriptors, &ONE_DESCRIPTOR),
+            (descriptors, &OTHER_DESCRIPTOR)
+        )
+    );
+    assert!(rt;
+        are_equal(
+            (descriptors, &OTHER_DESCRIPTOR),
+            (descriptors, &OTHER_DESCRIPTOR)
+        )
+    );
+    assert!(rt; !are_equal((components, &ONE_COMPONENT), (components, &OTHER_COMPONENT)));
+    assert!(rt;
+        are_equal(
+            (components, &OTHER_COMPONENT),
+            (components, &OTHER_COMPONENT)
+        )
+    );
+}
+
 /// Whether an answer is written as these bytes.
 fn is_written(answer: &Answer<'_>, bytes: &[u8]) -> bool {
     answer.is_writable() && write_answer(answer).as_slice() == bytes
