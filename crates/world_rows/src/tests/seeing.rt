@@ -3,6 +3,7 @@
 use crate::tests::packages::is_image;
 use crate::tests::setup::{DEVICE, KEY, Small};
 use fd_core::{Bank, State};
+use fw_world::{Entry, Event, Image};
 use ua_core::SessionState;
 
 /// Whether the same packets were sent between the agent and a device in two worlds, each at the same tick.
@@ -87,6 +88,35 @@ fn logs_alike(one: &Small<'_>, other: &Small<'_>) -> bool {
     log.len() == others.len()
 }
 
+/// Whether two images are the same.
+fn images_alike(one: &Image<'_>, other: &Image<'_>) -> bool {
+    one.key == other.key && one.bytes.as_slice() == other.bytes.as_slice()
+}
+
+/// Whether two entries of a history are the same.
+fn entries_alike(one: &Entry<'_>, other: &Entry<'_>) -> bool {
+    one.device == other.device
+        && match (&one.event, &other.event) {
+            (Event::Applied(one), Event::Applied(other)) => images_alike(one, other),
+            (Event::Activated(one), Event::Activated(other)) => images_alike(one, other),
+            (Event::Recorded(one), Event::Recorded(other)) => {
+                (one.package, one.component) == (other.package, other.component)
+            }
+            _ => false,
+        }
+}
+
+/// Whether the histories of two worlds have the same entries.
+fn histories_alike(one: &Small<'_>, other: &Small<'_>) -> bool {
+    let (history, others) = (one.history(), other.history());
+    for (entry, another) in history.iter().zip(others) {
+        if !entries_alike(entry, another) {
+            return false;
+        }
+    }
+    history.len() == others.len()
+}
+
 /// Whether two worlds of the worked device show the same: the time, the nodes, the packets, the event log, its last answer and the
 /// history.
 pub fn are_alike(one: &Small<'_>, other: &Small<'_>) -> bool {
@@ -95,5 +125,5 @@ pub fn are_alike(one: &Small<'_>, other: &Small<'_>) -> bool {
         && sent_alike(one, other, DEVICE)
         && logs_alike(one, other)
         && one.answer() == other.answer()
-        && one.history() == other.history()
+        && histories_alike(one, other)
 }
