@@ -90,6 +90,17 @@ fn opened<'a>(
     opening_world(alloc, config.unit, config.agent, config.devices, packages)
 }
 
+/// The same, asked for again where memory is refused.
+fn opened_twice<'a>(
+    alloc: Global,
+    packages: &'a [Package<'a>],
+) -> Result<World<'a, MemBank>, AllocError> {
+    match opened(alloc, packages) {
+        Ok(world) => Ok(world),
+        Err(_) => opened(alloc, packages),
+    }
+}
+
 /// `replay`: the proofs of the tests need nothing of its contract.
 fn replayed(world: &mut World<'_, MemBank>, steps: &[Step]) -> Result<(), (usize, StepFault)> {
     replay(world, steps)
@@ -160,10 +171,7 @@ fn refused_memory_writes_no_report(rt: HostRuntime) -> Result<(), Fail> {
         Ok(steps) => steps,
         Err(_) => read_schedule(rt.alloc(), SCHEDULE)?,
     };
-    let mut world = match opened(rt.alloc(), &packages) {
-        Ok(world) => world,
-        Err(_) => opened(rt.alloc(), &packages)?,
-    };
+    let mut world = opened_twice(rt.alloc(), &packages)?;
     let text = if takes(&mut world, &steps) {
         UPDATED
     } else {
